@@ -1,0 +1,11 @@
+pub mod ByteLaws
+pub mod All
+pub mod Sound
+pub mod Places
+pub mod Codec
+pub mod ModelLaws
+pub mod Checks
+pub mod Accept
+pub mod VerdictLaws
+pub mod Parts
+pub mod UsageLaws

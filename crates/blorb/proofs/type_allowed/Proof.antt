@@ -1,0 +1,42 @@
+use native.Mathlib.Omega.{arith}
+use mathlib.Core.Path.{_≡_, refl, sym, ap, _∙_}
+use Prim.Native.Nat.{ℕ}
+use Rattle.blorb.specs.Rules.{plain}
+use Rattle.blorb.specs.Usages.{chunkOf}
+use Rattle.blorb.proofs.UsageLaws.{plain-unknown, plain-known}
+use borrow.Author.Needs.{needs}
+use Rattle.blorb.proofs.type_allowed.Statement.{statement}
+use Rattle.blorb.proofs.type_allowed.Tie as tie
+use Rattle.blorb.proofs.type_allowed.Reads as reads
+use Rattle.blorb.proofs.type_allowed.Lts as lts
+use Rattle.blorb.proofs.Usage.allows.Reads as allows-reads
+use Rattle.blorb.proofs.Usage.of_code.Reads as of-code-reads
+
+-- src/lib.rt:158:28
+of-code-requires : tie.Need-of-code-requires
+of-code-requires c κs = search needs
+
+-- src/lib.rt:158:19
+enum-known-usage : tie.Need-enum-known-usage
+enum-known-usage c = search needs
+
+-- src/lib.rt:159:9
+enum-told : tie.Need-enum-told
+enum-told c = search needs
+
+-- src/lib.rt:159:9
+returns : tie.Need-returns
+returns c = sym (plain-unknown _ _ (sym (c .before .before .of-code .ensures) ∙ c .enum-told .given .1))
+
+-- src/lib.rt:161:5
+allows-requires : tie.Need-allows-requires
+allows-requires c κs = search needs
+
+-- src/lib.rt:155:1
+returns-2 : tie.Need-returns-2
+returns-2 c = c .allows .ensures ∙ plain-known _ _ _ (sym (c .before .before .before .before .of-code .ensures) ∙ c .before .before .usage .given .1)
+
+pub type-allowed-spec : {M : Type 1} → statement M
+type-allowed-spec =
+    tie.close
+    (tie.spec of-code-requires enum-known-usage enum-told returns allows-requires returns-2)

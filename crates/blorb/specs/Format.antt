@@ -1,0 +1,109 @@
+-- Chunks, index entries, and how they stand in a file's bytes (01, rules 1 to 3).
+use Prim.Native.Nat.{ℕ, zero, suc, _+_, _*_, _%_}
+use mathlib.Core.List.{List, [], _∷_, _++_}
+use mathlib.Core.Bool.{Bool, true, false, _||_, cond}
+use lib.ListN.{length, getD, take, drop, replicate}
+use lib.Dec.{eqb}
+use Rattle.blorb.specs.Bytes.{be32, rd32}
+
+-- four characters as the number that their bytes hold
+abbrev pub tag : ℕ → ℕ → ℕ → ℕ → ℕ
+tag a b c d = a * 16777216 + b * 65536 + c * 256 + d
+
+abbrev pub FORM : ℕ
+FORM = tag 70 79 82 77
+
+abbrev pub IFRS : ℕ
+IFRS = tag 73 70 82 83
+
+abbrev pub RIdx : ℕ
+RIdx = tag 82 73 100 120
+
+-- a chunk: its type and its data, without header and padding
+pub record Chunk : Type 0 where
+  pub type : ℕ
+  pub body : List ℕ
+
+-- an index entry as it stands in the file
+pub record Entry : Type 0 where
+  pub usage : ℕ
+  pub number : ℕ
+  pub start : ℕ
+
+-- an entry that names its chunk by its place among the chunks behind the index
+pub record Ref : Type 0 where
+  pub usage : ℕ
+  pub number : ℕ
+  pub chunk : ℕ
+
+-- the bytes of a chunk with m data bytes
+unfoldable pub sized : ℕ → ℕ
+sized m = 8 + (m + m % 2)
+
+unfoldable pub size : Chunk → ℕ
+unfolding sized
+size c = sized (length (c .body))
+
+unfoldable pub chunkBytes : Chunk → List ℕ
+chunkBytes c = be32 (c .type) ++ (be32 (length (c .body)) ++ (c .body ++ replicate (length (c .body) % 2) 0))
+
+unfoldable pub chunksBytes : List Chunk → List ℕ
+chunksBytes [] = []
+chunksBytes (c ∷ cs) = chunkBytes c ++ chunksBytes cs
+
+-- the bytes of all these chunks together
+unfoldable pub total : List Chunk → ℕ
+total [] = 0
+total (c ∷ cs) = size c + total cs
+
+-- a whole file
+unfoldable pub fileBytes : List Chunk → List ℕ
+fileBytes cs = be32 FORM ++ (be32 (4 + total cs) ++ (be32 IFRS ++ chunksBytes cs))
+
+-- reading: the chunk that s begins with, and all chunks in s (k bounds their number); faults are the verdict's business
+unfoldable pub chunkIn : List ℕ → Chunk
+chunkIn s = record { type = rd32 s; body = take (rd32 (drop 4 s)) (drop 8 s) }
+
+unfoldable pub chunksIn : ℕ → List ℕ → List Chunk
+chunksIn zero s = []
+chunksIn (suc k) [] = []
+chunksIn (suc k) (b ∷ s) = chunkIn (b ∷ s) ∷ chunksIn k (drop (sized (rd32 (drop 4 (b ∷ s)))) (b ∷ s))
+
+unfoldable pub chunksOf : List ℕ → List Chunk
+chunksOf f = chunksIn (length f) (drop 12 f)
+
+unfoldable pub entryIn : List ℕ → Entry
+entryIn s = record { usage = rd32 s; number = rd32 (drop 4 s); start = rd32 (drop 8 s) }
+
+-- n entries from the front of s
+unfoldable pub entriesIn : ℕ → List ℕ → List Entry
+entriesIn zero s = []
+entriesIn (suc n) s = entryIn s ∷ entriesIn n (drop 12 s)
+
+unfoldable pub entryBytes : Entry → List ℕ
+entryBytes e = be32 (e .usage) ++ (be32 (e .number) ++ be32 (e .start))
+
+unfoldable pub entriesBytes : List Entry → List ℕ
+entriesBytes [] = []
+entriesBytes (e ∷ es) = entryBytes e ++ entriesBytes es
+
+-- the index chunk that holds these entries
+unfoldable pub indexChunk : List Entry → Chunk
+indexChunk es = record { type = RIdx; body = be32 (length es) ++ entriesBytes es }
+
+-- the entries in an index chunk
+unfoldable pub entriesOf : Chunk → List Entry
+entriesOf c = entriesIn (rd32 (c .body)) (drop 4 (c .body))
+
+-- s is the first byte of one of the chunks, which stand from offset at on
+unfoldable pub isStart : ℕ → ℕ → List Chunk → Bool
+isStart s at [] = false
+isStart s at (c ∷ cs) = eqb s at || isStart s (at + size c) cs
+
+-- the chunk at s: its place in the list; the list's length where none is at s
+unfoldable pub placeOf : ℕ → ℕ → List Chunk → ℕ
+placeOf s at [] = 0
+placeOf s at (c ∷ cs) = cond (eqb s at) 0 (suc (placeOf s (at + size c) cs))
+
+unfoldable pub refOf : ℕ → List Chunk → Entry → Ref
+refOf at cs e = record { usage = e .usage; number = e .number; chunk = placeOf (e .start) at cs }

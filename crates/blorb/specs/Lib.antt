@@ -1,0 +1,9 @@
+pub mod Bytes
+pub mod Little
+pub mod Format
+pub mod Verdict
+pub mod Rules
+pub mod Model
+pub mod Queries
+pub mod Lookup
+pub mod Usages

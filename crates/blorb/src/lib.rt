@@ -1,0 +1,169 @@
+// The terms of the Blorb format that reader and editor share: a number in four bytes, the four usages, and rule 5.
+ghost use mathlib.Core.Path.{_≡_};
+ghost use Prim.Native.Nat.{_+_, _≤_, _<_, _^_};
+ghost use lib.ListN.{length, drop};
+ghost use Rattle.blorb.specs.Bytes.{rd32};
+ghost use Rattle.blorb.specs.Little.{Little, swapped};
+ghost use Rattle.blorb.specs.Format.{Chunk};
+ghost use Rattle.blorb.specs.Rules.{plain};
+ghost use Rattle.blorb.specs.declared.Usage.the-variants.{Snd};
+ghost use Rattle.blorb.specs.Usages.{codeOf, usageOf, pictType, sndType, dataType, execType, chunkOf};
+
+// An entry's usage, once read: one of four kinds.
+pub enum Usage {
+    Pict,
+    Snd,
+    Data,
+    Exec,
+}
+
+pub enum Known {
+    Is(Usage),
+    Unknown,
+}
+
+// An entry of the index, its usage one of four kinds.
+pub struct Entry {
+    pub usage: Usage,
+    pub number: u32,
+    pub start: u32,
+}
+
+fn wide(x: u8) -> u64
+    ensures { λ r. ⌜ (r ≡ x) × (r < 256) ⌝ }
+{
+    x as u64
+}
+
+// The four bytes at `at`, the first the lowest: one load on this processor.
+fn le32_at(s: &[u8], at: usize) -> u64
+    requires { ⌜ at + 4 ≤ length (now s) ⌝ }
+    ensures { λ r. ⌜ Little (now (s .entry)) at r ⌝ }
+{
+    wide(s[at]) + wide(s[at + 1]) * 256 + wide(s[at + 2]) * 65536 + wide(s[at + 3]) * 16777216
+}
+
+fn swap(v: u64) -> u64
+    requires { ⌜ v < 2 ^ 32 ⌝ }
+    ensures { λ r. ⌜ r ≡ swapped v ⌝ }
+{
+    v % 256 * 16777216 + v / 256 % 256 * 65536 + v / 65536 % 256 * 256 + v / 16777216
+}
+
+// The number at `at`, whose four bytes lie in the slice.
+pub fn be32_at(s: &[u8], at: usize) -> u64
+    requires { ⌜ at + 4 ≤ length (now s) ⌝ }
+    ensures { λ r. ⌜ (r ≡ rd32 (drop at (now (s .entry)))) × (r < 2 ^ 32) ⌝ }
+{
+    swap(le32_at(s, at))
+}
+
+fn pict_type(t: u64, m: u64) -> bool
+    ensures { λ r. ⌜ r ≡ pictType t m ⌝ }
+{
+    (t == 0x4a504547) | ((t == 0x504e4720) | ((t == 0x52656374) & (m == 8)))
+}
+
+fn snd_type(t: u64) -> bool
+    ensures { λ r. ⌜ r ≡ sndType t ⌝ }
+{
+    (t == 0x4f474756) | ((t == 0x4d4f4420) | (t == 0x534f4e47))
+}
+
+fn data_type(t: u64) -> bool
+    ensures { λ r. ⌜ r ≡ dataType t ⌝ }
+{
+    (t == 0x54455854) | (t == 0x42494e41)
+}
+
+fn exec_type(t: u64) -> bool
+    ensures { λ r. ⌜ r ≡ execType t ⌝ }
+{
+    (t == 0x5a434f44)
+        | ((t == 0x474c554c)
+            | ((t == 0x54414432)
+                | ((t == 0x54414433)
+                    | ((t == 0x4855474f)
+                        | ((t == 0x414c414e)
+                            | ((t == 0x41445249)
+                                | ((t == 0x4c455645)
+                                    | ((t == 0x41475420)
+                                        | ((t == 0x4d414753)
+                                            | ((t == 0x41445653) | (t == 0x45584543)))))))))))
+}
+
+// Rule 5 for a sound: a 'FORM' must hold 'AIFF'.
+fn sound_type(t: u64, d: &[u8]) -> bool
+    ensures { λ r. ⌜ r ≡ plain (codeOf Snd) (chunkOf t (now (d .entry))) ⌝ }
+{
+    if t != 0x464f524d {
+        return snd_type(t);
+    }
+    if d.len() < 4 {
+        return false;
+    }
+    be32_at(d, 0) == 0x41494646
+}
+
+impl Usage {
+    pub const PICT: u64 = 0x50696374;
+
+    pub const SND: u64 = 0x536e6420;
+
+    pub const DATA: u64 = 0x44617461;
+
+    pub const EXEC: u64 = 0x45786563;
+
+    // The usage that four bytes name, read as a number.
+    pub fn of_code(code: u64) -> Known
+        ensures { λ r. ⌜ r ≡ usageOf code ⌝ }
+    {
+        if code == Usage::PICT {
+            return Known::Is(Usage::Pict);
+        }
+        if code == Usage::SND {
+            return Known::Is(Usage::Snd);
+        }
+        if code == Usage::DATA {
+            return Known::Is(Usage::Data);
+        }
+        if code == Usage::EXEC {
+            return Known::Is(Usage::Exec);
+        }
+        Known::Unknown
+    }
+
+    // Its four bytes as a number.
+    pub fn code(self) -> u64
+        ensures { λ r. ⌜ r ≡ codeOf self ⌝ }
+    {
+        match self {
+            Usage::Pict => Usage::PICT,
+            Usage::Snd => Usage::SND,
+            Usage::Data => Usage::DATA,
+            Usage::Exec => Usage::EXEC,
+        }
+    }
+
+    // Rule 5: whether a chunk of this type and data may stand under this usage.
+    pub fn allows(self, kind: u64, d: &[u8]) -> bool
+        ensures { λ r. ⌜ r ≡ plain (codeOf self) (chunkOf kind (now (d .entry))) ⌝ }
+    {
+        match self {
+            Usage::Pict => pict_type(kind, d.len() as u64),
+            Usage::Snd => sound_type(kind, d),
+            Usage::Data => data_type(kind),
+            Usage::Exec => exec_type(kind),
+        }
+    }
+}
+
+// Rule 5 for a usage given by its four bytes: an unknown one allows nothing.
+pub fn type_allowed(code: u64, kind: u64, d: &[u8]) -> bool
+    ensures { λ r. ⌜ r ≡ plain code (chunkOf kind (now (d .entry))) ⌝ }
+{
+    let Known::Is(usage) = Usage::of_code(code) else {
+        return false;
+    };
+    usage.allows(kind, d)
+}

@@ -1,0 +1,183 @@
+-- What an accepted file's entries and lookups give.
+use mathlib.Core.Path.{_≡_, refl, sym, ap, _∙_}
+use Prim.Native.Nat.{ℕ, zero, suc, _+_, _*_, _-_, _%_, _≤_, _<_}
+use mathlib.Core.List.{List, [], _∷_, _++_, map}
+use mathlib.Core.Bool.{Bool, true, false, cond, _&&_, _||_, not}
+use native.Mathlib.Omega.{arith}
+use native.Mathlib.Nat.{not-suc-le-zero, le-of-suc-le-suc}
+use lib.ListN.{length, getD, take, drop}
+use lib.Seq.{drop-drop}
+use lib.Dec.{eqb, leb, ltb}
+use borrow.Author.Tests.{lt-ltb, le-ltb, ltb-true, ltb-false}
+use Rattle.blorb.specs.Bytes.{rd32}
+use Rattle.blorb.specs.Format.{Entry, Ref, refOf, Chunk, size, chunkIn, entryIn, entriesIn}
+use Rattle.blorb.specs.Verdict.{Verdict, accept, refuse, _then_, entriesFault, knownUsage}
+use Rattle.blorb.specs.Rules.{plainRules, plainVerdict, optional}
+use Rattle.reader.specs.Walk.{chunkAt, nextAt, skipAt, chunksFrom, walkFrom, firstFault}
+use Rattle.blorb.specs.Verdict.{headFault}
+use Rattle.blorb.proofs.Checks.{then-accept, check-accept}
+use Rattle.reader.proofs.ChunkLaws.{fine, Fine}
+use Rattle.blorb.proofs.UsageLaws.{known-not}
+use Rattle.reader.specs.Entries.{usageAt, numberAt, startAt, place, entriesFrom, earlier}
+use Rattle.blorb.specs.Usages.{usageOf}
+use Rattle.blorb.specs.declared.Usage.{Usage}
+use Rattle.blorb.specs.declared.Known.{Known}
+use Rattle.blorb.specs.declared.Known.the-variants.{Is, Unknown}
+use Rattle.reader.specs.declared.Reading.{Reading}
+use Rattle.reader.specs.declared.Reading.the-variants.{Accepted, Refused}
+use Rattle.reader.specs.declared.Asked.{Asked}
+use Rattle.reader.specs.declared.Asked.the-variants.{Given, Refused as Withheld}
+use Rattle.reader.specs.declared.entries.Hit.{Hit}
+use Rattle.reader.specs.declared.entries.Hit.the-variants.{At, Nothing}
+use Rattle.reader.specs.declared.Looked.{Looked}
+use Rattle.reader.specs.declared.Looked.the-variants.{Found, Refused as Missing}
+use Rattle.reader.specs.Reading.{indexOf, readBy, readOf, givenBy, noEntry, entryBy, askedBy, entryOf, hitIn, foundBy, lookedBy, lookupOf}
+use Rattle.reader.specs.Optional.{optionalFault, Judged}
+use Rattle.reader.proofs.Laws.{length-entriesIn, hit-begun}
+use Rattle.reader.proofs.ReadLaws.{whole, layout, first-long, is-judged, index-of, v3, v5}
+
+-- a file that the reader accepts, with count entries
+pub record Good (f : List ℕ) (count : ℕ) : Type 0 where
+  pub verdict : plainVerdict f ≡ accept
+  pub judged : Judged f count
+  pub index : indexOf f ≡ entriesIn count (drop 24 f)
+  pub many : length (indexOf f) ≡ count
+
+good : (f : List ℕ) → plainVerdict f ≡ accept → Good f (rd32 (drop 20 f))
+good f h =
+    let a1 = then-accept _ _ (sym (whole f) ∙ h) in
+    let a2 = then-accept _ _ (a1 .1) in
+    let a3 = then-accept _ _ (sym (layout f (a2 .0)) ∙ a2 .1) in
+    let a4 = then-accept _ _ (sym (v3 f (a1 .0) (a2 .0) (a3 .0) (skipAt f 12) refl) ∙ h) in
+    let a5 = then-accept _ _ (a4 .1) in
+    let count : ℕ = rd32 (drop 20 f) in
+    let a6 = then-accept _ _ (sym (v5 f (a1 .0) (a2 .0) (a3 .0) (skipAt f 12) refl (a4 .0) (a5 .0) count refl) ∙ h) in
+    let is : indexOf f ≡ entriesIn count (drop 24 f) = index-of f (a1 .0) (a2 .0) (a3 .0) (skipAt f 12) refl (a4 .0) (a5 .0) count refl (a6 .0) in
+    record {
+      verdict = h;
+      judged = is-judged f (a1 .0) (a2 .0) (a3 .0) (skipAt f 12) refl (a4 .0) (a5 .0) count refl (a6 .0);
+      index = is;
+      many = ap length is ∙ length-entriesIn count (drop 24 f);
+    }
+
+read-go : (v : Verdict) (l n a b : ℕ) → readBy v a b ≡ Accepted l n → (v ≡ accept) × (b ≡ n)
+read-go accept l n a b e = (refl, cc)
+read-go (refuse k p) l n a b e = let z : _≡_ {A = ℕ} 0 1 = cc in absurd (omega arith)
+
+read-no : (v : Verdict) (k p a b : ℕ) → readBy v a b ≡ Refused k p → v ≡ refuse k p
+read-no accept k p a b e = let z : _≡_ {A = ℕ} 0 1 = cc in absurd (omega arith)
+read-no (refuse x y) k p a b e = let q : x ≡ k = cc in let r : y ≡ p = cc in rw (q, r)
+
+module _ (f : List ℕ) where
+  pub accepted : (l n : ℕ) → readOf f ≡ Accepted l n → Good f n
+  unfolding readOf
+  accepted l n e =
+      let q = read-go (plainVerdict f) l n (length f) (length (indexOf f)) e in
+      let g = good f (q .0) in
+      let c : rd32 (drop 20 f) ≡ n = sym (g .many) ∙ q .1 in
+      rw c at g
+
+  pub refused-as : (k p : ℕ) → readOf f ≡ Refused k p → plainVerdict f ≡ refuse k p
+  unfolding readOf
+  refused-as k p e = read-no (plainVerdict f) k p (length f) (length (indexOf f)) e
+
+-- entry i of the list
+entry-getD : (f : List ℕ) (n i p : ℕ) (d : Entry) → i < n → getD (entriesIn n (drop p f)) i d ≡ entryIn (drop (p + 12 * i) f)
+unfolding entriesIn
+entry-getD f zero i p d h = absurd (not-suc-le-zero h)
+entry-getD f (suc n) zero p d h = let q : p ≡ p + 12 * 0 = omega arith in ap (λ (k : ℕ). entryIn (drop k f)) q
+entry-getD f (suc n) (suc i) p d h =
+    let q : p + 12 + 12 * i ≡ p + 12 * suc i = omega arith in
+    ap (λ (s : List ℕ). getD (entriesIn n s) i d) (drop-drop 12 p f) ∙ entry-getD f n i (p + 12) d (le-of-suc-le-suc h) ∙ ap (λ (k : ℕ). entryIn (drop k f)) q
+
+module _ (f : List ℕ) (i : ℕ) where
+  pub entry-no : (k p : ℕ) → plainVerdict f ≡ refuse k p → Withheld k p ≡ entryOf f i
+  unfolding entryOf
+  entry-no k p e = rw e
+
+  module _ (n : ℕ) (g : Good f n) where
+    pub entry-22 : n ≤ i → Withheld 22 0 ≡ entryOf f i
+    unfolding entryOf
+    entry-22 l = rw (g .verdict, g .many, le-ltb i n l)
+
+    pub entry-there : i < n → givenBy (usageOf (usageAt f (place i))) (numberAt f (place i)) (startAt f (place i)) (place i) ≡ entryOf f i
+    unfolding entryOf entryIn
+    entry-there l =
+        rw (g .verdict, g .many, lt-ltb i n l, g .index, entry-getD f n i 24 noEntry l, drop-drop 4 (place i) f, drop-drop 8 (place i) f)
+
+module _ (f : List ℕ) (u n : ℕ) where
+  pub look-no : (k p : ℕ) → plainVerdict f ≡ refuse k p → Missing k p ≡ lookupOf f u n
+  unfolding lookupOf
+  look-no k p e = rw e
+
+  module _ (count : ℕ) (g : Good f count) where
+    look-on : lookupOf f u n ≡ foundBy f (hitIn u n (entriesIn count (drop 24 f)))
+    unfolding lookupOf
+    look-on = rw (g .verdict, g .index)
+
+    pub look-22 : hitIn u n (entriesIn count (drop 24 f)) ≡ Nothing → Missing 22 0 ≡ lookupOf f u n
+    look-22 e = sym (look-on ∙ rw e)
+
+    pub look-found : (x t m : ℕ) → hitIn u n (entriesIn count (drop 24 f)) ≡ At x → t ≡ rd32 (drop x f) → m ≡ rd32 (drop (x + 4) f) → Found t (x + 8) m ≡ lookupOf f u n
+    unfolding chunkIn
+    look-found x t m e et em =
+        let b = hit-begun f count u n x (g .judged) e in
+        let l : length (chunkAt f x .body) ≡ m = fine f x (b .0) (b .1) .bodied ∙ sym em in
+        sym (look-on ∙ rw (e, l, ← et))
+
+-- the part that a lookup names lies in the file
+part-go : (f : List ℕ) (u n count t a m : ℕ) (g : Good f count) (x : Hit) → hitIn u n (entriesIn count (drop 24 f)) ≡ x → foundBy f x ≡ Found t a m → a + m ≤ length f
+part-go f u n count t a m g (At x) e q =
+    let b = hit-begun f count u n x (g .judged) e in
+    let i = fine f x (b .0) (b .1) in
+    let ea : x + 8 ≡ a = cc in
+    let em : length (chunkAt f x .body) ≡ m = cc in
+    omega (arith, i .inside, i .next, i .bodied)
+part-go f u n count t a m g Nothing e q = let z : _≡_ {A = ℕ} 0 1 = cc in absurd (omega arith)
+
+look-go : (f : List ℕ) (u n t a m : ℕ) (v : Verdict) → plainVerdict f ≡ v → lookedBy v (foundBy f (hitIn u n (indexOf f))) ≡ Found t a m → a + m ≤ length f
+look-go f u n t a m accept e q =
+    let g = good f e in
+    part-go f u n (rd32 (drop 20 f)) t a m g (hitIn u n (entriesIn (rd32 (drop 20 f)) (drop 24 f))) refl (rw (g .index) at q)
+look-go f u n t a m (refuse k p) e q = let z : _≡_ {A = ℕ} 0 1 = cc in absurd (omega arith)
+
+pub part-in : (f : List ℕ) (u n t a m : ℕ) → lookupOf f u n ≡ Found t a m → a + m ≤ length f
+unfolding lookupOf
+part-in f u n t a m q = look-go f u n t a m (plainVerdict f) refl q
+
+-- an entry by the numbers that the code has read
+module _ (f : List ℕ) (i n : ℕ) (g : Good f n) (l : i < n) (u : ℕ) (eu : u ≡ usageAt f (place i)) where
+  pub entry-unknown : usageOf u ≡ Unknown → Withheld 12 (place i) ≡ entryOf f i
+  entry-unknown e = rw (rw eu at e) at (entry-there f i n g l)
+
+  pub entry-known : (k : Usage) (a x : ℕ) → usageOf u ≡ Is k → a ≡ numberAt f (place i) → x ≡ startAt f (place i) → Given (record { usage = k; number = a; start = x }) ≡ entryOf f i
+  entry-known k a x e ea ex =
+      let q : usageOf (usageAt f (place i)) ≡ Is k = rw eu at e in
+      (λ j. Given (record { usage = k; number = ea j; start = ex j })) ∙ (rw q at (entry-there f i n g l))
+
+-- an accepted file's entries have a known usage: 12 is no answer of theirs
+known-at : (f : List ℕ) (base : ℕ) (es : List Entry) (earlier : List Ref) (p i : ℕ) (d : Entry)
+    → entriesFault plainRules base (chunksFrom f base) earlier p es ≡ accept → i < length es → knownUsage (getD es i d .usage) ≡ true
+unfolding entriesFault
+known-at f base [] earlier p i d h l = absurd (not-suc-le-zero l)
+known-at f base (e ∷ es) earlier p zero d h l = check-accept _ _ _ (then-accept _ _ h .0)
+known-at f base (e ∷ es) earlier p (suc i) d h l =
+    known-at f base es (earlier ++ (refOf base (chunksFrom f base) e ∷ [])) (p + 12) i d (then-accept _ _ (then-accept _ _ (then-accept _ _ h .1) .1) .1) (le-of-suc-le-suc l)
+
+not-unknown : (u : ℕ) (k : Known) → usageOf u ≡ k → knownUsage u ≡ true → (x : Usage) × (usageOf u ≡ Is x)
+not-unknown u (Is x) e h = (x, e)
+not-unknown u Unknown e h = let n : knownUsage u ≡ false = known-not u e in let z : _≡_ {A = ℕ} 0 1 = cc in absurd (omega arith)
+
+given-as : (f : List ℕ) (i : ℕ) → plainVerdict f ≡ accept → i < length (indexOf f) → (x : Usage) → usageOf (getD (indexOf f) i noEntry .usage) ≡ Is x
+    → entryOf f i ≡ Given (record { usage = x; number = getD (indexOf f) i noEntry .number; start = getD (indexOf f) i noEntry .start })
+unfolding entryOf
+given-as f i h l x e = rw (h, lt-ltb i (length (indexOf f)) l, e)
+
+pub entry-given : (f : List ℕ) (i : ℕ) → plainVerdict f ≡ accept → i < length (indexOf f)
+    → (x : Usage) × (entryOf f i ≡ Given (record { usage = x; number = getD (indexOf f) i noEntry .number; start = getD (indexOf f) i noEntry .start }))
+unfolding entriesFrom earlier
+entry-given f i h l =
+    let g = good f h in
+    let es : entriesFault plainRules (place (rd32 (drop 20 f))) (chunksFrom f (place (rd32 (drop 20 f)))) [] 24 (indexOf f) ≡ accept = rw (g .index) (g .judged .entries) in
+    let k = not-unknown (getD (indexOf f) i noEntry .usage) _ refl (known-at f (place (rd32 (drop 20 f))) (indexOf f) [] 24 i noEntry es l) in
+    (k .0, given-as f i h l (k .0) (k .1))

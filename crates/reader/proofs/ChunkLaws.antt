@@ -1,0 +1,383 @@
+-- Laws of verdicts and of what stands from an offset on.
+use mathlib.Core.Path.{_≡_, refl, sym, ap, _∙_}
+use Prim.Native.Nat.{ℕ, zero, suc, _+_, _*_, _-_, _%_, _≤_, _<_}
+use mathlib.Core.List.{List, [], _∷_, _++_}
+use mathlib.Core.Bool.{Bool, true, false, cond, _&&_, _||_, not}
+use native.Mathlib.Omega.{arith}
+use native.Mathlib.Nat.{not-suc-le-zero, add-zero}
+use lib.ListN.{length, getD, take, drop, length-take, length-drop, drop-of-length-le}
+use lib.Seq.{drop-drop, drop-cons, length-take-le, getD-drop, getD-take}
+use lib.Dec.{eqb, leb, ltb}
+use borrow.Author.Tests.{eq-eqb, ne-eqb, eqb-true, eqb-false, le-leb, lt-leb, leb-true, leb-false, lt-ltb, le-ltb, ltb-true, ltb-false}
+use Rattle.reader.specs.Plain.{ordinaryType, allPlain}
+use Rattle.blorb.specs.Rules.{RelN, Fspc}
+use Rattle.blorb.specs.Bytes.{rd32}
+use Rattle.blorb.specs.Format.{FORM, IFRS, RIdx, Chunk, Entry, sized, size, chunkIn, chunksIn, chunksOf, isStart, placeOf}
+use Rattle.blorb.specs.Verdict.{Rules, Verdict, accept, refuse, _then_, check, chunkFault, walkFault, noChunk, secondIndex, layoutFault, restFault, verdict}
+use Rattle.reader.specs.Walk.{chunkAt, nextAt, chunksFrom, walkFrom, skipAt, firstFault, Reached}
+use Rattle.blorb.specs.Verdict.{headFault}
+use Rattle.blorb.proofs.Checks.{then-accept, check-accept, pass, stop, holds-last, fails-last, accepts, refuses, and-both}
+
+-- the step of a walk
+shorter : (k n : ℕ) (s : List ℕ) → 0 < length s → length s ≤ suc k → length (drop (sized n) s) ≤ k
+unfolding sized
+shorter k n s z h = rw (length-drop (sized n) s) (omega arith)
+
+walk-same : (k j at : ℕ) (s : List ℕ) → length s ≤ k → length s ≤ j → walkFault k at s ≡ walkFault j at s
+unfolding walkFault
+walk-same zero zero at s h g = refl
+walk-same zero (suc j) at [] h g = refl
+walk-same zero (suc j) at (b ∷ s) h g = absurd (not-suc-le-zero h)
+walk-same (suc k) zero at [] h g = refl
+walk-same (suc k) zero at (b ∷ s) h g = absurd (not-suc-le-zero g)
+walk-same (suc k) (suc j) at [] h g = refl
+walk-same (suc k) (suc j) at (b ∷ s) h g =
+    ap (λ (v : Verdict). chunkFault at (b ∷ s) then v)
+    (walk-same k j (at + sized (rd32 (drop 4 (b ∷ s)))) (drop (sized (rd32 (drop 4 (b ∷ s)))) (b ∷ s))
+    (shorter k _ (b ∷ s) (omega arith) h) (shorter j _ (b ∷ s) (omega arith) g))
+
+walk-one : (k at : ℕ) (s : List ℕ) → 0 < length s
+    → walkFault (suc k) at s ≡ chunkFault at s then walkFault k (at + sized (rd32 (drop 4 s))) (drop (sized (rd32 (drop 4 s))) s)
+unfolding walkFault
+walk-one k at [] h = absurd (not-suc-le-zero h)
+walk-one k at (b ∷ s) h = refl
+
+chunks-same : (k j : ℕ) (s : List ℕ) → length s ≤ k → length s ≤ j → chunksIn k s ≡ chunksIn j s
+unfolding chunksIn
+chunks-same zero zero s h g = refl
+chunks-same zero (suc j) [] h g = refl
+chunks-same zero (suc j) (b ∷ s) h g = absurd (not-suc-le-zero h)
+chunks-same (suc k) zero [] h g = refl
+chunks-same (suc k) zero (b ∷ s) h g = absurd (not-suc-le-zero g)
+chunks-same (suc k) (suc j) [] h g = refl
+chunks-same (suc k) (suc j) (b ∷ s) h g =
+    ap (λ (l : List Chunk). chunkIn (b ∷ s) ∷ l)
+    (chunks-same k j (drop (sized (rd32 (drop 4 (b ∷ s)))) (b ∷ s)) (shorter k _ (b ∷ s) (omega arith) h) (shorter j _ (b ∷ s) (omega arith) g))
+
+chunks-one : (k : ℕ) (s : List ℕ) → 0 < length s → chunksIn (suc k) s ≡ chunkIn s ∷ chunksIn k (drop (sized (rd32 (drop 4 s))) s)
+unfolding chunksIn
+chunks-one k [] h = absurd (not-suc-le-zero h)
+chunks-one k (b ∷ s) h = refl
+
+chunks-none : (k : ℕ) → chunksIn k [] ≡ []
+unfolding chunksIn
+chunks-none zero = refl
+chunks-none (suc k) = refl
+
+walk-none : (k at : ℕ) → walkFault k at [] ≡ accept
+unfolding walkFault
+walk-none zero at = refl
+walk-none (suc k) at = refl
+
+module _ (f : List ℕ) (at : ℕ) where
+  dropped : length (drop at f) ≤ length f
+  dropped = rw (length-drop at f) (omega arith)
+
+  pub walk-end : length f ≤ at → walkFrom f at ≡ accept
+  unfolding walkFrom
+  walk-end h = rw (drop-of-length-le f h) (walk-none (length f) at)
+
+  pub chunks-end : length f ≤ at → chunksFrom f at ≡ []
+  unfolding chunksFrom
+  chunks-end h = rw (drop-of-length-le f h) (chunks-none (length f))
+
+  pub walk-on : at < length f
+      → walkFrom f at ≡ chunkFault at (drop at f) then walkFrom f (at + sized (rd32 (drop 4 (drop at f))))
+  unfolding walkFrom
+  walk-on h =
+      let n : ℕ = sized (rd32 (drop 4 (drop at f))) in
+      let z : 0 < length (drop at f) = rw (length-drop at f) (omega arith) in
+      let l : length (drop at f) ≤ suc (length f) = omega (arith, dropped) in
+      walk-same (length f) (suc (length f)) at (drop at f) dropped l ∙ walk-one (length f) at (drop at f) z
+      ∙ ap (λ (d : List ℕ). chunkFault at (drop at f) then walkFault (length f) (at + n) d) (drop-drop n at f)
+
+  pub chunks-on : at < length f → chunksFrom f at ≡ chunkAt f at ∷ chunksFrom f (at + sized (rd32 (drop 4 (drop at f))))
+  unfolding chunksFrom
+  chunks-on h =
+      let n : ℕ = sized (rd32 (drop 4 (drop at f))) in
+      let z : 0 < length (drop at f) = rw (length-drop at f) (omega arith) in
+      let l : length (drop at f) ≤ suc (length f) = omega (arith, dropped) in
+      chunks-same (length f) (suc (length f)) (drop at f) dropped l ∙ chunks-one (length f) (drop at f) z
+      ∙ ap (λ (d : List ℕ). chunkIn (drop at f) ∷ chunksIn (length f) d) (drop-drop n at f)
+
+-- a chunk without fault
+pub record Fine (f : List ℕ) (at : ℕ) : Type 0 where
+  pub header : at + 8 ≤ length f
+  pub past : at + 8 ≤ nextAt f at
+  pub inside : nextAt f at ≤ length f
+  pub bodied : length (chunkAt f at .body) ≡ rd32 (drop (at + 4) f)
+  pub next : skipAt f at ≡ nextAt f at
+  pub rest : walkFrom f (nextAt f at) ≡ accept
+  pub chunks : chunksFrom f at ≡ chunkAt f at ∷ chunksFrom f (nextAt f at)
+
+body-length : (s : List ℕ) (m : ℕ) → m ≡ rd32 (drop 4 s) → 8 + m ≤ length s → length (chunkIn s .body) ≡ m
+unfolding chunkIn
+body-length s m e h = rw (← e) (length-take-le m (drop 8 s) (simp length-drop (omega arith)))
+
+pub fine : (f : List ℕ) (at : ℕ) → at < length f → walkFrom f at ≡ accept → Fine f at
+unfolding chunkFault sized size
+fine f at h w =
+    let m : ℕ = rd32 (drop 4 (drop at f)) in
+    let d : drop 4 (drop at f) ≡ drop (at + 4) f = drop-drop 4 at f in
+    let e : m ≡ rd32 (drop (at + 4) f) = ap rd32 d in
+    let p = then-accept _ _ (sym (walk-on f at h) ∙ w) in
+    let q = then-accept _ _ (p .0) in
+    let r = then-accept _ _ (q .1) in
+    let l8 : 8 ≤ length (drop at f) = leb-true _ _ (check-accept _ _ _ (q .0)) in
+    let lm : 8 + (m + m % 2) ≤ length (drop at f) = leb-true _ _ (check-accept _ _ _ (r .0)) in
+    let ld : length (drop at f) ≡ length f - at = length-drop at f in
+    let b : length (chunkAt f at .body) ≡ m = body-length (drop at f) m refl (omega arith) in
+    let n2 : at + sized m ≡ nextAt f at = rw b refl in
+    record {
+      header = omega arith;
+      past = omega arith;
+      inside = omega arith;
+      bodied = b ∙ e;
+      next = rw (← e) n2;
+      rest = rw n2 at (p .1);
+      chunks = chunks-on f at h ∙ ap (λ (k : ℕ). chunkAt f at ∷ chunksFrom f k) n2;
+    }
+
+-- 1 to 5, by facts on the bytes
+module _ (f : List ℕ) where
+  pub head-1 : 16777216 < length f → refuse 1 0 ≡ headFault f
+  unfolding headFault
+  head-1 h = sym (stop _ _ _ _ (lt-leb _ _ h))
+
+  module _ (l : length f ≤ 16777216) where
+    pub head-2 : length f < 12 → refuse 2 0 ≡ headFault f
+    unfolding headFault
+    head-2 h = sym (pass _ _ _ _ (le-leb _ _ l) ∙ stop _ _ _ _ (lt-leb _ _ h))
+
+    module _ (l2 : 12 ≤ length f) where
+      pub head-3 : (rd32 f ≡ FORM → ⊥) → refuse 3 0 ≡ headFault f
+      unfolding headFault
+      head-3 h = sym (pass _ _ _ _ (le-leb _ _ l) ∙ pass _ _ _ _ (le-leb _ _ l2) ∙ stop _ _ _ _ (ne-eqb _ _ h))
+
+      module _ (l3 : rd32 f ≡ FORM) where
+        pub head-4 : (rd32 (drop 8 f) ≡ IFRS → ⊥) → refuse 4 8 ≡ headFault f
+        unfolding headFault
+        head-4 h = sym (pass _ _ _ _ (le-leb _ _ l) ∙ pass _ _ _ _ (le-leb _ _ l2) ∙ pass _ _ _ _ (eq-eqb _ _ l3) ∙ stop _ _ _ _ (ne-eqb _ _ h))
+
+        module _ (l4 : rd32 (drop 8 f) ≡ IFRS) where
+          pub head-5 : (8 + rd32 (drop 4 f) ≡ length f → ⊥) → refuse 5 4 ≡ headFault f
+          unfolding headFault
+          head-5 h = sym (pass _ _ _ _ (le-leb _ _ l) ∙ pass _ _ _ _ (le-leb _ _ l2) ∙ pass _ _ _ _ (eq-eqb _ _ l3) ∙ pass _ _ _ _ (eq-eqb _ _ l4) ∙ fails-last _ _ _ (ne-eqb _ _ h))
+
+          pub head-good : 8 + rd32 (drop 4 f) ≡ length f → accept ≡ headFault f
+          unfolding headFault
+          head-good h = sym (pass _ _ _ _ (le-leb _ _ l) ∙ pass _ _ _ _ (le-leb _ _ l2) ∙ pass _ _ _ _ (eq-eqb _ _ l3) ∙ pass _ _ _ _ (eq-eqb _ _ l4) ∙ holds-last _ _ _ (eq-eqb _ _ h))
+
+-- 6 and 7 of one chunk, by facts on its numbers
+module _ (f : List ℕ) (at m : ℕ) (h : at < length f) where
+  ld : length (drop at f) ≡ length f - at
+  ld = length-drop at f
+
+  pub chunk-header : length f - at < 8 → refuse 6 at ≡ chunkFault at (drop at f)
+  unfolding chunkFault
+  chunk-header l = let k : length (drop at f) < 8 = omega (arith, ld) in sym (stop _ _ _ _ (lt-leb _ _ k))
+
+  module _ (e : m ≡ rd32 (drop (at + 4) f)) (l8 : 8 ≤ length f - at) where
+    em : rd32 (drop 4 (drop at f)) ≡ m
+    em = ap rd32 (drop-drop 4 at f) ∙ sym e
+
+    k8 : 8 ≤ length (drop at f)
+    k8 = omega (arith, ld)
+
+    pub chunk-short : length f < at + (8 + m) + m % 2 → refuse 6 at ≡ chunkFault at (drop at f)
+    unfolding chunkFault sized
+    chunk-short l =
+        let k : length (drop at f) < 8 + (m + m % 2) = omega (arith, ld) in
+        rw em (sym (pass _ _ _ _ (le-leb _ _ k8) ∙ stop _ _ _ _ (lt-leb _ _ k)))
+
+    module _ (lm : at + (8 + m) + m % 2 ≤ length f) where
+      km : 8 + (m + m % 2) ≤ length (drop at f)
+      km = omega (arith, ld)
+
+      pub chunk-even : m % 2 ≡ 0 → accept ≡ chunkFault at (drop at f)
+      unfolding chunkFault sized
+      chunk-even z = rw em (sym (pass _ _ _ _ (le-leb _ _ k8) ∙ pass _ _ _ _ (le-leb _ _ km) ∙ holds-last _ _ _ (rw (eq-eqb (m % 2) 0 z))))
+
+      module _ (z : m % 2 ≡ 0 → ⊥) where
+        pub chunk-odd : getD f (at + (8 + m)) 0 ≡ 0 → accept ≡ chunkFault at (drop at f)
+        unfolding chunkFault sized
+        chunk-odd y = rw em (sym (pass _ _ _ _ (le-leb _ _ k8) ∙ pass _ _ _ _ (le-leb _ _ km) ∙ holds-last _ _ _ (rw (ne-eqb (m % 2) 0 z, getD-drop at f (8 + m) 0, eq-eqb _ _ y))))
+
+        pub chunk-pad : (getD f (at + (8 + m)) 0 ≡ 0 → ⊥) → refuse 7 (at + (8 + m)) ≡ chunkFault at (drop at f)
+        unfolding chunkFault sized
+        chunk-pad y = rw em (sym (pass _ _ _ _ (le-leb _ _ k8) ∙ pass _ _ _ _ (le-leb _ _ km) ∙ fails-last _ _ _ (rw (ne-eqb (m % 2) 0 z, getD-drop at f (8 + m) 0, ne-eqb _ _ y))))
+
+-- the walk's loop
+pub walk-next : (f : List ℕ) (at : ℕ) → at < length f → chunkFault at (drop at f) ≡ accept → walkFrom f (skipAt f at) ≡ walkFrom f at
+unfolding sized
+walk-next f at h e = sym (walk-on f at h ∙ accepts _ _ e ∙ ap (λ (d : List ℕ). walkFrom f (at + (8 + (rd32 d + rd32 d % 2)))) (drop-drop 4 at f))
+
+pub walk-fault : (f : List ℕ) (at k p : ℕ) → at < length f → chunkFault at (drop at f) ≡ refuse k p → refuse k p ≡ walkFrom f at
+walk-fault f at k p h e = sym (walk-on f at h ∙ refuses _ _ _ _ e)
+
+pub chunk-good-header : (f : List ℕ) (at : ℕ) → at < length f → chunkFault at (drop at f) ≡ accept → at + 8 ≤ length f
+unfolding chunkFault
+chunk-good-header f at h e =
+    let l8 : 8 ≤ length (drop at f) = leb-true _ _ (check-accept _ _ _ (then-accept _ _ e .0)) in
+    omega (arith, length-drop at f)
+
+-- 8
+module _ (f : List ℕ) where
+  pub first-none : length f ≤ 12 → refuse 8 12 ≡ firstFault f
+  unfolding firstFault
+  first-none h = sym (fails-last _ _ _ (rw (le-ltb 12 (length f) h)))
+
+  pub first-other : 12 < length f → (rd32 (drop 12 f) ≡ RIdx → ⊥) → refuse 8 12 ≡ firstFault f
+  unfolding firstFault
+  first-other l h = sym (fails-last _ _ _ (rw (lt-ltb 12 (length f) l, ne-eqb (rd32 (drop 12 f)) RIdx h)))
+
+  pub first-good : 12 < length f → rd32 (drop 12 f) ≡ RIdx → accept ≡ firstFault f
+  unfolding firstFault
+  first-good l h = sym (holds-last _ _ _ (rw (lt-ltb 12 (length f) l, eq-eqb (rd32 (drop 12 f)) RIdx h)))
+
+-- 9
+module _ (f : List ℕ) (at : ℕ) where
+  pub second-end : length f ≤ at → secondIndex at (chunksFrom f at) ≡ accept
+  unfolding secondIndex
+  second-end h = rw (chunks-end f at h)
+
+  module _ (h : at < length f) (w : walkFrom f at ≡ accept) where
+    pub second-next : (rd32 (drop at f) ≡ RIdx → ⊥) → secondIndex (skipAt f at) (chunksFrom f (skipAt f at)) ≡ secondIndex at (chunksFrom f at)
+    unfolding secondIndex chunkIn
+    second-next n = let i = fine f at h w in rw (i .chunks, i .next) (sym (pass _ _ _ _ (rw (ne-eqb (rd32 (drop at f)) RIdx n))))
+
+    pub second-hit : rd32 (drop at f) ≡ RIdx → refuse 9 at ≡ secondIndex at (chunksFrom f at)
+    unfolding secondIndex chunkIn
+    second-hit n = let i = fine f at h w in rw (i .chunks) (sym (stop _ _ _ _ (rw (eq-eqb (rd32 (drop at f)) RIdx n))))
+
+    pub walked : walkFrom f (skipAt f at) ≡ accept
+    walked = let i = fine f at h w in rw (i .next) (i .rest)
+
+-- where chunks begin
+module _ (f : List ℕ) (x at : ℕ) where
+  pub find-end : length f ≤ at → false ≡ isStart x at (chunksFrom f at)
+  unfolding isStart
+  find-end h = rw (chunks-end f at h)
+
+  module _ (h : at < length f) (w : walkFrom f at ≡ accept) where
+    pub find-hit : at ≡ x → true ≡ isStart x at (chunksFrom f at)
+    unfolding isStart
+    find-hit e = let i = fine f at h w in rw (i .chunks, eq-eqb x at (sym e))
+
+    pub find-next : (at ≡ x → ⊥) → isStart x (skipAt f at) (chunksFrom f (skipAt f at)) ≡ isStart x at (chunksFrom f at)
+    unfolding isStart
+    find-next n = let i = fine f at h w in rw (i .chunks, i .next, ne-eqb x at (λ e. n (sym e)))
+
+-- induction over the chunks of a file that the walk accepts
+module _ (f : List ℕ) (P : ℕ → List Chunk → Type 0)
+    (none : (at : ℕ) → length f ≤ at → P at [])
+    (more : (at : ℕ) → at < length f → walkFrom f at ≡ accept → Fine f at → P (nextAt f at) (chunksFrom f (nextAt f at)) → P at (chunkAt f at ∷ chunksFrom f (nextAt f at))) where
+  upto : (k at : ℕ) → length f ≤ at + k → walkFrom f at ≡ accept → P at (chunksFrom f at)
+  upto zero at l w = let e : length f ≤ at = omega arith in rw (chunks-end f at e) (none at e)
+  upto (suc k) at l w = go (ltb at (length f)) refl (λ n m. upto k n m)
+    where
+      go : (b : Bool) → ltb at (length f) ≡ b → ((n : ℕ) → length f ≤ n + k → walkFrom f n ≡ accept → P n (chunksFrom f n)) → P at (chunksFrom f at)
+      go true e ih =
+          let h : at < length f = ltb-true at (length f) e in
+          let i = fine f at h w in
+          rw (i .chunks) (more at h w i (ih (nextAt f at) (omega (arith, i .past)) (i .rest)))
+      go false e ih = let h : length f ≤ at = ltb-false at (length f) e in rw (chunks-end f at h) (none at h)
+
+  pub good-ind : (at : ℕ) → walkFrom f at ≡ accept → P at (chunksFrom f at)
+  good-ind at w = upto (length f) at (omega arith) w
+
+-- a start's chunk
+pub record Begun (f : List ℕ) (x : ℕ) (c : Chunk) : Type 0 where
+  pub chunk : c ≡ chunkAt f x
+  pub below : x < length f
+  pub walks : walkFrom f x ≡ accept
+
+pub begun : (f : List ℕ) (x at : ℕ) → walkFrom f at ≡ accept → isStart x at (chunksFrom f at) ≡ true
+    → Begun f x (getD (chunksFrom f at) (placeOf x at (chunksFrom f at)) noChunk)
+unfolding isStart placeOf
+begun f x at w =
+    good-ind f (λ a cs. isStart x a cs ≡ true → Begun f x (getD cs (placeOf x a cs) noChunk))
+    (λ a h e. let z : _≡_ {A = ℕ} 0 1 = cc in absurd (omega arith))
+    (λ a h v i ih e. by-test a h v (chunksFrom f (nextAt f a)) (eqb x a) refl ih e)
+    at w
+  where
+    by-test : (a : ℕ) → a < length f → walkFrom f a ≡ accept → (cs : List Chunk) (b : Bool) → eqb x a ≡ b
+        → (isStart x (nextAt f a) cs ≡ true → Begun f x (getD cs (placeOf x (nextAt f a) cs) noChunk))
+        → b || isStart x (nextAt f a) cs ≡ true
+        → Begun f x (getD (chunkAt f a ∷ cs) (cond b 0 (suc (placeOf x (nextAt f a) cs))) noChunk)
+    by-test a h v cs true t ih e =
+        let q : x ≡ a = eqb-true x a t in record { chunk = rw q refl; below = omega arith; walks = rw q v }
+    by-test a h v cs false t ih e = ih e
+
+start-ge : (g at : ℕ) (cs : List Chunk) → isStart g at cs ≡ true → at ≤ g
+unfolding isStart
+start-ge g at [] e = let z : _≡_ {A = ℕ} 0 1 = cc in absurd (omega arith)
+start-ge g at (c ∷ cs) e = go (eqb g at) refl e (start-ge g (at + size c) cs)
+  where
+    go : (b : Bool) → eqb g at ≡ b → b || isStart g (at + size c) cs ≡ true → (isStart g (at + size c) cs ≡ true → at + size c ≤ g) → at ≤ g
+    go true t e ih = let q : g ≡ at = eqb-true g at t in omega arith
+    go false t e ih = let q : at + size c ≤ g = ih e in omega arith
+
+-- the search may begin at any start that was found
+pub resume : (f : List ℕ) (g at : ℕ) → walkFrom f at ≡ accept → isStart g at (chunksFrom f at) ≡ true → Reached f at g
+unfolding isStart
+resume f g at w =
+    good-ind f (λ a cs. isStart g a cs ≡ true → (x : ℕ) → g ≤ x → isStart x a cs ≡ isStart x g (chunksFrom f g))
+    (λ a h e. let z : _≡_ {A = ℕ} 0 1 = cc in absurd (omega arith))
+    (λ a h v i ih e x l. by-test a i (eqb g a) refl ih e x l)
+    at w
+  where
+    by-test : (a : ℕ) → Fine f a → (b : Bool) → eqb g a ≡ b
+        → (isStart g (nextAt f a) (chunksFrom f (nextAt f a)) ≡ true → (x : ℕ) → g ≤ x → isStart x (nextAt f a) (chunksFrom f (nextAt f a)) ≡ isStart x g (chunksFrom f g))
+        → b || isStart g (nextAt f a) (chunksFrom f (nextAt f a)) ≡ true
+        → (x : ℕ) → g ≤ x → isStart x a (chunkAt f a ∷ chunksFrom f (nextAt f a)) ≡ isStart x g (chunksFrom f g)
+    by-test a i true t ih e x l = ap (λ (cs : List Chunk). isStart x a cs) (sym (i .chunks)) ∙ ap (λ (k : ℕ). isStart x k (chunksFrom f k)) (sym (eqb-true g a t))
+    by-test a i false t ih e x l =
+        let n : nextAt f a ≤ g = start-ge g (nextAt f a) (chunksFrom f (nextAt f a)) e in
+        let q : eqb x a ≡ false = ne-eqb x a (λ y. omega (arith, i .past)) in
+        rw q (ih e x l)
+
+pub reached-again : (f : List ℕ) (base g x : ℕ) → Reached f base g → Reached f g x → g ≤ x → Reached f base x
+reached-again f base g x r s l y m = r y (omega arith) ∙ s y m
+
+-- chunks that are plain
+module _ (f : List ℕ) (at : ℕ) where
+  pub plain-end : length f ≤ at → allPlain (chunksFrom f at) ≡ true
+  unfolding allPlain
+  plain-end h = rw (chunks-end f at h)
+
+  plain-on : at < length f → allPlain (chunksFrom f at) ≡ ordinaryType (rd32 (drop at f)) && allPlain (chunksFrom f (skipAt f at))
+  unfolding allPlain chunkIn sized
+  plain-on h = rw (chunks-on f at h, drop-drop 4 at f)
+
+  pub plain-next : (t : ℕ) (p : Bool) → at < length f → t ≡ rd32 (drop at f) → p && ordinaryType t ≡ true → (p ≡ true) × (allPlain (chunksFrom f at) ≡ allPlain (chunksFrom f (skipAt f at)))
+  plain-next t p h e o =
+      let q = and-both _ _ o in
+      let z : ordinaryType (rd32 (drop at f)) ≡ true = rw (← e) (q .1) in
+      (q .0, plain-on h ∙ rw z)
+
+not-or : (a b : Bool) → not (a || b) ≡ true → (a ≡ false) × (b ≡ false)
+not-or true b e = let z : _≡_ {A = ℕ} 0 1 = cc in absurd (omega arith)
+not-or false true e = let z : _≡_ {A = ℕ} 0 1 = cc in absurd (omega arith)
+not-or false false e = (refl, refl)
+
+neither : (a b : Bool) → a || b ≡ false → (a ≡ false) × (b ≡ false)
+neither true b e = let z : _≡_ {A = ℕ} 0 1 = cc in absurd (omega arith)
+neither false b e = (refl, e)
+
+pub ordinary-not : (t : ℕ) → ordinaryType t ≡ true → (eqb t RIdx ≡ false) × (eqb t RelN ≡ false) × (eqb t Fspc ≡ false)
+ordinary-not t e =
+    let a = not-or (eqb t RIdx) (eqb t RelN || eqb t Fspc) e in
+    let b = neither (eqb t RelN) (eqb t Fspc) (a .1) in
+    (a .0, b .0, b .1)
+
+pub unplain : (v : Bool) → false ≡ true → v ≡ true
+unplain v e = let z : _≡_ {A = ℕ} 0 1 = cc in absurd (omega arith)
+
+pub plain-second : (cs : List Chunk) (at : ℕ) → allPlain cs ≡ true → secondIndex at cs ≡ accept
+unfolding allPlain secondIndex
+plain-second [] at e = refl
+plain-second (c ∷ cs) at e =
+    let q = and-both (ordinaryType (c .type)) (allPlain cs) e in
+    let n : eqb (c .type) RIdx ≡ false = ordinary-not (c .type) (q .0) .0 in
+    pass _ _ _ _ (rw n) ∙ plain-second cs (at + size c) (q .1)

@@ -1,0 +1,262 @@
+-- Laws of the entries.
+use mathlib.Core.Path.{_≡_, refl, sym, ap, _∙_}
+use Prim.Native.Nat.{ℕ, zero, suc, _+_, _*_, _-_, _/_, _%_, _≤_, _<_}
+use mathlib.Core.List.{List, [], _∷_, _++_}
+use mathlib.Core.Bool.{Bool, true, false, cond, _&&_, _||_, not}
+use native.Mathlib.Omega.{arith}
+use native.Mathlib.Numerals.{add-one}
+use native.Mathlib.Nat.{not-suc-le-zero, add-zero}
+use lib.ListN.{length, getD, take, drop, set, length-take, length-drop}
+use lib.Seq.{getD-set-same, getD-set-other, drop-drop, getD-drop, getD-take}
+use lib.Dec.{eqb, leb, ltb}
+use borrow.Author.Tests.{eq-eqb, ne-eqb, eqb-true, eqb-false, le-leb, lt-leb, leb-true, leb-false}
+use Rattle.blorb.proofs.UsageLaws.{or-false, or-assoc, known-is, known-not}
+use Rattle.blorb.specs.Bytes.{rd32}
+use Rattle.blorb.specs.Format.{tag, FORM, Chunk, Entry, Ref, refOf, chunkIn, entryIn, entriesIn, isStart, placeOf}
+use Rattle.blorb.specs.Verdict.{Rules, Verdict, accept, refuse, _then_, check, noChunk, knownUsage, pairIn, refFault, entriesFault}
+use Rattle.blorb.specs.Rules.{plain, plainRules, oneOf, AIFF}
+use Rattle.reader.specs.Walk.{chunkAt, nextAt, chunksFrom, walkFrom, Reached}
+use Rattle.blorb.proofs.Checks.{pass, stop, holds-last, fails-last, accepts, refuses, then-accept, check-accept}
+use Rattle.blorb.proofs.Checks.{then-assoc}
+use Rattle.reader.proofs.ChunkLaws.{fine, Fine, begun, Begun, resume}
+use Rattle.blorb.specs.declared.Usage.{Usage}
+use Rattle.blorb.specs.declared.Usage.the-variants.{Pict, Snd, Data, Exec}
+use Rattle.blorb.specs.declared.Known.{Known}
+use Rattle.blorb.specs.declared.Known.the-variants.{Is, Unknown}
+use Rattle.reader.specs.declared.entries.Judged.{Judged}
+use Rattle.reader.specs.declared.entries.Judged.the-variants.{At, Fault}
+use Rattle.blorb.specs.Usages.{chunkOf, codeOf, pickKnown, usageOf, pictType, sndType, dataType, execType}
+use Rattle.reader.specs.Entries.{usageAt, numberAt, startAt, place, typedAt, entryFault, judgedBy, earlier, samePair, Topped, slotOf, Below, entriesFrom}
+
+-- rule 5 of the chunk at x, by its type and its data
+pub typed-at : (f : List ℕ) (u x from to t : ℕ) → from ≡ x + 8 → to ≡ from + rd32 (drop (x + 4) f) → t ≡ rd32 (drop x f)
+    → plain u (chunkOf t (take (to - from) (drop from f))) ≡ typedAt f u x
+unfolding chunkIn
+typed-at f u x from to t e1 e2 e3 =
+    let n : to - from ≡ rd32 (drop (x + 4) f) = omega arith in
+    rw (n, e1, e3, drop-drop 4 x f, drop-drop 8 x f) refl
+
+-- the fields of an entry
+number-at : (f : List ℕ) (p : ℕ) → entryIn (drop p f) .number ≡ numberAt f p
+unfolding entryIn
+number-at f p = ap rd32 (drop-drop 4 p f)
+
+start-at : (f : List ℕ) (p : ℕ) → entryIn (drop p f) .start ≡ startAt f p
+unfolding entryIn
+start-at f p = ap rd32 (drop-drop 8 p f)
+
+-- one entry of the list
+under : (b : Bool) (k p : ℕ) (v w : Verdict) → (b ≡ true → v ≡ w) → check b k p then v ≡ check b k p then w
+unfolding check _then_
+under true k p v w h = h refl
+under false k p v w h = refl
+
+pub ref-at : (f : List ℕ) (base p : ℕ) → Ref
+ref-at f base p = record { usage = usageAt f p; number = numberAt f p; chunk = placeOf (startAt f p) base (chunksFrom f base) }
+
+pub refOf-at : (f : List ℕ) (base p : ℕ) → refOf base (chunksFrom f base) (entryIn (drop p f)) ≡ ref-at f base p
+unfolding refOf ref-at entryIn
+refOf-at f base p = λ i. record { usage = usageAt f p; number = number-at f p i; chunk = placeOf (start-at f p i) base (chunksFrom f base) }
+
+shape : (b12 b13 b14 t14 b15 b16 : Bool) (p : ℕ) (v : Verdict) → (b13 ≡ true → b14 ≡ t14)
+    → check b12 12 p then (check b13 13 (p + 8) then ((check b14 14 p then (check b15 15 (p + 4) then check b16 16 p)) then v))
+    ≡ (check b12 12 p then (check b13 13 (p + 8) then (check t14 14 p then check b15 15 (p + 4)))) then (check b16 16 p then v)
+unfolding check _then_
+shape false b13 b14 t14 b15 b16 p v h = refl
+shape true false b14 t14 b15 b16 p v h = refl
+shape true true b14 false b15 b16 p v h = rw (h refl)
+shape true true b14 true false b16 p v h = rw (h refl)
+shape true true b14 true true b16 p v h = rw (h refl)
+
+module _ (f : List ℕ) (base : ℕ) (w : walkFrom f base ≡ accept) where
+  pub entries-on : (j n : ℕ)
+      → entriesFrom f base j (suc n) ≡ entryFault f base (place j) then (check (not (pairIn (usageAt f (place j)) (numberAt f (place j)) (earlier f base j))) 16 (place j) then entriesFrom f base (suc j) n)
+  unfolding entriesFrom entriesFault entriesIn refFault entryFault earlier ref-at entryIn
+  entries-on j n =
+      let q : place j + 12 ≡ place (suc j) = omega arith in
+      let h : isStart (startAt f (place j)) base (chunksFrom f base) ≡ true
+      → plain (usageAt f (place j)) (getD (chunksFrom f base) (placeOf (startAt f (place j)) base (chunksFrom f base)) noChunk) ≡ typedAt f (usageAt f (place j)) (startAt f (place j))
+      = λ e. ap (plain (usageAt f (place j))) (begun f (startAt f (place j)) base w e .chunk) in
+      rw (refOf-at f base (place j), drop-drop 8 (place j) f, drop-drop 12 (place j) f, q)
+      (shape (knownUsage (usageAt f (place j))) (isStart (startAt f (place j)) base (chunksFrom f base)) _ (typedAt f (usageAt f (place j)) (startAt f (place j)))
+      (not (eqb (usageAt f (place j)) (codeOf Exec)) || eqb (numberAt f (place j)) 0) (not (pairIn (usageAt f (place j)) (numberAt f (place j)) (earlier f base j))) (place j) _ h)
+
+  pub entries-end : (j : ℕ) → entriesFrom f base j 0 ≡ accept
+  unfolding entriesFrom entriesFault entriesIn
+  entries-end j = refl
+
+-- the pairs before an entry
+pub pair-snoc : (u n : ℕ) (l : List Ref) (r : Ref) → pairIn u n (l ++ (r ∷ [])) ≡ pairIn u n l || (eqb (r .usage) u && eqb (r .number) n)
+unfolding pairIn
+pair-snoc u n [] r = or-false (eqb (r .usage) u && eqb (r .number) n)
+pair-snoc u n (x ∷ l) r = rw (pair-snoc u n l r) (sym (or-assoc (eqb (x .usage) u && eqb (x .number) n) (pairIn u n l) (eqb (r .usage) u && eqb (r .number) n)))
+
+module _ (f : List ℕ) (base : ℕ) where
+  pair-suc : (u n i : ℕ) → pairIn u n (earlier f base (suc i)) ≡ pairIn u n (earlier f base i) || (eqb (usageAt f (place i)) u && eqb (numberAt f (place i)) n)
+  unfolding earlier ref-at
+  pair-suc u n i = rw (refOf-at f base (place i)) (pair-snoc u n (earlier f base i) (ref-at f base (place i)))
+
+  pub pair-none : (j : ℕ) → pairIn (usageAt f (place j)) (numberAt f (place j)) (earlier f base 0) ≡ false
+  unfolding earlier pairIn
+  pair-none j = refl
+
+  pub pair-more : (i j : ℕ) → pairIn (usageAt f (place j)) (numberAt f (place j)) (earlier f base i) ≡ false → samePair f i j ≡ false
+      → pairIn (usageAt f (place j)) (numberAt f (place j)) (earlier f base (i + 1)) ≡ false
+  pair-more i j h e = rw add-one (pair-suc (usageAt f (place j)) (numberAt f (place j)) i ∙ rw (h, e))
+
+  or-true : (b : Bool) → b || true ≡ true
+  or-true true = refl
+  or-true false = refl
+
+  pub pair-hit : (i j m : ℕ) → i < m → samePair f i j ≡ true → pairIn (usageAt f (place j)) (numberAt f (place j)) (earlier f base m) ≡ true
+  pair-hit i j zero h e = absurd (not-suc-le-zero h)
+  pair-hit i j (suc m) h e = pair-suc (usageAt f (place j)) (numberAt f (place j)) m ∙ go (eqb i m) refl (pair-hit i j m)
+    where
+      go : (b : Bool) → eqb i m ≡ b → (i < m → samePair f i j ≡ true → pairIn (usageAt f (place j)) (numberAt f (place j)) (earlier f base m) ≡ true)
+          → pairIn (usageAt f (place j)) (numberAt f (place j)) (earlier f base m) || samePair f m j ≡ true
+      go true t ih = let s : samePair f m j ≡ true = ap (λ (k : ℕ). samePair f k j) (sym (eqb-true i m t)) ∙ e in rw s (or-true (pairIn (usageAt f (place j)) (numberAt f (place j)) (earlier f base m)))
+      go false t ih = let n : i ≡ m → ⊥ = eqb-false i m t in rw (ih (omega arith) e)
+
+-- an entry's start, or its fault
+pub judged-at : (v : Verdict) (x y : ℕ) → judgedBy v x ≡ At y → (v ≡ accept) × (x ≡ y)
+judged-at accept x y e = (refl, cc)
+judged-at (refuse k p) x y e = let z : _≡_ {A = ℕ} 0 1 = cc in absurd (omega arith)
+
+pub judged-fault : (v : Verdict) (x k p : ℕ) → judgedBy v x ≡ Fault k p → v ≡ refuse k p
+judged-fault accept x k p e = let z : _≡_ {A = ℕ} 0 1 = cc in absurd (omega arith)
+judged-fault (refuse a b) x k p e = let q : a ≡ k = cc in let r : b ≡ p = cc in rw (q, r)
+
+module _ (f : List ℕ) (base p : ℕ) where
+  judged : (v : Verdict) → entryFault f base p ≡ v → judgedBy v (startAt f p) ≡ judgedBy (entryFault f base p) (startAt f p)
+  judged v e = ap (λ (u : Verdict). judgedBy u (startAt f p)) (sym e)
+
+  pub judge-12 : usageOf (usageAt f p) ≡ Unknown → Fault 12 p ≡ judgedBy (entryFault f base p) (startAt f p)
+  unfolding entryFault
+  judge-12 e = judged (refuse 12 p) (stop _ _ _ _ (known-not _ e))
+
+  module _ (k : Usage) (e : usageOf (usageAt f p) ≡ Is k) where
+    pub judge-13 : isStart (startAt f p) base (chunksFrom f base) ≡ false → Fault 13 (p + 8) ≡ judgedBy (entryFault f base p) (startAt f p)
+    unfolding entryFault
+    judge-13 h = judged (refuse 13 (p + 8)) (pass _ _ _ _ (known-is _ k e .0) ∙ stop _ _ _ _ h)
+
+    module _ (b : isStart (startAt f p) base (chunksFrom f base) ≡ true) where
+      pub judge-14 : typedAt f (codeOf k) (startAt f p) ≡ false → Fault 14 p ≡ judgedBy (entryFault f base p) (startAt f p)
+      unfolding entryFault
+      judge-14 h =
+          let q : typedAt f (usageAt f p) (startAt f p) ≡ false = ap (λ (u : ℕ). typedAt f u (startAt f p)) (known-is _ k e .1) ∙ h in
+          judged (refuse 14 p) (pass _ _ _ _ (known-is _ k e .0) ∙ pass _ _ _ _ b ∙ stop _ _ _ _ q)
+
+      module _ (t : typedAt f (codeOf k) (startAt f p) ≡ true) where
+        q14 : typedAt f (usageAt f p) (startAt f p) ≡ true
+        q14 = ap (λ (u : ℕ). typedAt f u (startAt f p)) (known-is _ k e .1) ∙ t
+
+        pub judge-15 : not (eqb (usageAt f p) (codeOf Exec)) || eqb (numberAt f p) 0 ≡ false → Fault 15 (p + 4) ≡ judgedBy (entryFault f base p) (startAt f p)
+        unfolding entryFault
+        judge-15 h = judged (refuse 15 (p + 4)) (pass _ _ _ _ (known-is _ k e .0) ∙ pass _ _ _ _ b ∙ pass _ _ _ _ q14 ∙ fails-last _ _ _ h)
+
+        pub judge-good : not (eqb (usageAt f p) (codeOf Exec)) || eqb (numberAt f p) 0 ≡ true → At (startAt f p) ≡ judgedBy (entryFault f base p) (startAt f p)
+        unfolding entryFault
+        judge-good h = judged accept (pass _ _ _ _ (known-is _ k e .0) ∙ pass _ _ _ _ b ∙ pass _ _ _ _ q14 ∙ holds-last _ _ _ h)
+
+-- what a good entry tells of its start
+pub entry-start : (f : List ℕ) (base p : ℕ) → entryFault f base p ≡ accept → isStart (startAt f p) base (chunksFrom f base) ≡ true
+unfolding entryFault
+entry-start f base p h = check-accept _ _ _ (then-accept _ _ (then-accept _ _ h .1) .0)
+
+-- the loop over the entries
+module _ (f : List ℕ) (base count j : ℕ) (w : walkFrom f base ≡ accept) (h : j < count) where
+  left : count - j ≡ suc (count - (j + 1))
+  left = omega arith
+
+  turn : entriesFrom f base j (count - j) ≡ entryFault f base (place j) then (check (not (pairIn (usageAt f (place j)) (numberAt f (place j)) (earlier f base j))) 16 (place j) then entriesFrom f base (suc j) (count - (j + 1)))
+  turn = ap (λ (n : ℕ). entriesFrom f base j n) left ∙ entries-on f base w j (count - (j + 1))
+
+  pub entry-stop : (k p : ℕ) → entryFault f base (place j) ≡ refuse k p → refuse k p ≡ entriesFrom f base j (count - j)
+  entry-stop k p e = sym (turn ∙ refuses _ _ _ _ e)
+
+  module _ (g : entryFault f base (place j) ≡ accept) where
+    pub pair-stop : pairIn (usageAt f (place j)) (numberAt f (place j)) (earlier f base j) ≡ true → refuse 16 (place j) ≡ entriesFrom f base j (count - j)
+    pair-stop e = sym (turn ∙ accepts _ _ g ∙ stop _ _ _ _ (rw e))
+
+    pub entries-next : pairIn (usageAt f (place j)) (numberAt f (place j)) (earlier f base j) ≡ false → entriesFrom f base (j + 1) (count - (j + 1)) ≡ entriesFrom f base j (count - j)
+    entries-next e = ap (λ (k : ℕ). entriesFrom f base k (count - (j + 1))) (add-one j) ∙ (sym (turn ∙ accepts _ _ g ∙ pass _ _ _ _ (rw e)))
+
+-- the same by the numbers that the code has read
+module _ (f : List ℕ) (base p u x : ℕ) (eu : u ≡ usageAt f p) where
+  pub by-12 : usageOf u ≡ Unknown → Fault 12 p ≡ judgedBy (entryFault f base p) (startAt f p)
+  by-12 e = judge-12 f base p (rw eu at e)
+
+  module _ (k : Usage) (e : usageOf u ≡ Is k) (ex : x ≡ startAt f p) where
+    pub by-13 : isStart x base (chunksFrom f base) ≡ false → Fault 13 (p + 8) ≡ judgedBy (entryFault f base p) (startAt f p)
+    by-13 h = judge-13 f base p k (rw eu at e) (rw ex at h)
+
+    module _ (b : isStart x base (chunksFrom f base) ≡ true) where
+      pub by-14 : typedAt f (codeOf k) x ≡ false → Fault 14 p ≡ judgedBy (entryFault f base p) (startAt f p)
+      by-14 h = judge-14 f base p k (rw eu at e) (rw ex at b) (rw ex at h)
+
+      module _ (t : typedAt f (codeOf k) x ≡ true) (n : ℕ) (en : n ≡ numberAt f p) where
+        pub by-15 : not (eqb u (codeOf Exec)) || eqb n 0 ≡ false → Fault 15 (p + 4) ≡ judgedBy (entryFault f base p) (startAt f p)
+        by-15 h = judge-15 f base p k (rw eu at e) (rw ex at b) (rw ex at t) (rw (eu, en) at h)
+
+        pub by-good : not (eqb u (codeOf Exec)) || eqb n 0 ≡ true → At x ≡ judgedBy (entryFault f base p) (startAt f p)
+        by-good h = ap At ex ∙ judge-good f base p k (rw eu at e) (rw ex at b) (rw ex at t) (rw (eu, en) at h)
+
+-- a pair as one number
+key-go : (a b c : Bool) (u n v m : ℕ) → n < 4294967296 → m < 4294967296
+    → eqb (u * 4294967296 + n) (v * 4294967296 + m) ≡ a → eqb u v ≡ b → eqb n m ≡ c → a ≡ b && c
+key-go true true true u n v m hn hm x y z = refl
+key-go true true false u n v m hn hm x y z =
+    let p : u * 4294967296 + n ≡ v * 4294967296 + m = eqb-true _ _ x in let q : u ≡ v = eqb-true _ _ y in let r : n ≡ m → ⊥ = eqb-false _ _ z in absurd (r (omega arith))
+key-go true false c u n v m hn hm x y z =
+    let p : u * 4294967296 + n ≡ v * 4294967296 + m = eqb-true _ _ x in let q : u ≡ v → ⊥ = eqb-false _ _ y in absurd (q (omega arith))
+key-go false true true u n v m hn hm x y z =
+    let p : u * 4294967296 + n ≡ v * 4294967296 + m → ⊥ = eqb-false _ _ x in let q : u ≡ v = eqb-true _ _ y in let r : n ≡ m = eqb-true _ _ z in absurd (p (omega arith))
+key-go false true false u n v m hn hm x y z = refl
+key-go false false c u n v m hn hm x y z = refl
+
+pub key-same : (u n v m : ℕ) → n < 4294967296 → m < 4294967296 → eqb (u * 4294967296 + n) (v * 4294967296 + m) ≡ eqb u v && eqb n m
+key-same u n v m hn hm = key-go _ _ _ u n v m hn hm refl refl refl
+
+-- an entry that is not below the top of its usage repeats no pair
+differ : (a b : Bool) (u n v m : ℕ) → eqb u v ≡ a → eqb n m ≡ b → (u ≡ v → n < m) → a && b ≡ false
+differ true true u n v m x y h = let p : n < m = h (eqb-true _ _ x) in let q : n ≡ m = eqb-true _ _ y in absurd (omega arith)
+differ true false u n v m x y h = refl
+differ false b u n v m x y h = refl
+
+module _ (f : List ℕ) (base j top : ℕ) (t : Topped f j top) (h : top ≤ numberAt f (place j)) where
+  pub fresh : (m : ℕ) → m ≤ j → pairIn (usageAt f (place j)) (numberAt f (place j)) (earlier f base m) ≡ false
+  fresh zero l = pair-none f base j
+  fresh (suc m) l =
+      pair-suc f base (usageAt f (place j)) (numberAt f (place j)) m
+      ∙ rw (fresh m (omega arith))
+      (differ _ _ (usageAt f (place m)) (numberAt f (place m)) (usageAt f (place j)) (numberAt f (place j)) refl refl (λ e. let p = t m (omega arith) e in omega arith))
+
+-- the tops
+pub topped : (f tops : List ℕ) (j k : ℕ) → Below f tops j → k ≡ slotOf (usageAt f (place j)) → Topped f j (getD tops k 0)
+topped f tops j k b q i h e = rw (q, ← e) (b i h)
+
+pub below-next : (f tops : List ℕ) (j k r : ℕ) → Below f tops j → k ≡ slotOf (usageAt f (place j)) → k < length tops → numberAt f (place j) < r → getD tops k 0 ≤ r
+    → Below f (set tops k r) (j + 1)
+below-next f tops j k r b q l hn ht i h = go (eqb (slotOf (usageAt f (place i))) k) refl (eqb i j) refl
+  where
+    x : ℕ
+    x = slotOf (usageAt f (place i))
+
+    go : (c : Bool) → eqb x k ≡ c → (d : Bool) → eqb i j ≡ d → numberAt f (place i) < getD (set tops k r) x 0
+    go true e true g =
+        let p : i ≡ j = eqb-true _ _ g in
+        rw (eqb-true x k e, getD-set-same tops k r 0 l, p) hn
+    go true e false g =
+        let p : i ≡ j → ⊥ = eqb-false _ _ g in
+        let w : numberAt f (place i) < getD tops k 0 = rw (← (eqb-true x k e)) (b i (omega arith)) in
+        rw (eqb-true x k e, getD-set-same tops k r 0 l) (omega arith)
+    go false e true g = let p : i ≡ j = eqb-true _ _ g in absurd (eqb-false x k e (ap (λ (z : ℕ). slotOf (usageAt f (place z))) p ∙ sym q))
+    go false e false g = let p : i ≡ j → ⊥ = eqb-false _ _ g in rw (getD-set-other tops k x r 0 (eqb-false x k e)) (b i (omega arith))
+
+-- no entry before the first rival has the pair
+module _ (f : List ℕ) (base j top n : ℕ) (t : Topped f j top) (e : n ≡ numberAt f (place j)) where
+  pub rival-none : top ≤ n → (j ≤ j) × (pairIn (usageAt f (place j)) (numberAt f (place j)) (earlier f base j) ≡ false)
+  rival-none h = (omega arith, fresh f base j top t (omega arith) j (omega arith))
+
+  pub rival-all : (0 ≤ j) × (pairIn (usageAt f (place j)) (numberAt f (place j)) (earlier f base 0) ≡ false)
+  rival-all = (omega arith, pair-none f base j)

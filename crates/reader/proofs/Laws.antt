@@ -1,0 +1,368 @@
+-- Laws of the index, of the lookup and of the optional chunks.
+use mathlib.Core.Path.{_≡_, refl, sym, ap, _∙_}
+use Prim.Native.Nat.{ℕ, zero, suc, _+_, _*_, _-_, _%_, _≤_, _<_}
+use mathlib.Core.List.{List, [], _∷_, _++_, map}
+use mathlib.Core.Bool.{Bool, true, false, cond, _&&_, _||_, not}
+use native.Mathlib.Omega.{arith}
+use native.Mathlib.Numerals.{add-one}
+use native.Mathlib.Nat.{not-suc-le-zero, le-of-suc-le-suc}
+use lib.ListN.{length, getD, take, drop, length-take, length-drop, length-map}
+use lib.Seq.{drop-drop, getD-drop, getD-take, take-nil}
+use lib.Dec.{eqb, leb, ltb}
+use borrow.Author.Tests.{eq-eqb, ne-eqb, eqb-true, eqb-false, le-leb, lt-leb, leb-true, leb-false, lt-ltb, le-ltb, ltb-true, ltb-false, not-true}
+use Rattle.blorb.specs.Bytes.{rd32}
+use Rattle.blorb.specs.Format.{tag, FORM, RIdx, Chunk, Entry, Ref, refOf, size, sized, chunkIn, chunksIn, chunksOf, entryIn, entriesIn, entriesOf, isStart, placeOf}
+use Rattle.blorb.specs.Verdict.{Rules, Verdict, accept, refuse, _then_, check, noChunk, knownUsage, pairIn, refFault, entriesFault, secondIndex, indexFault, restFault, layoutFault, verdict}
+use Rattle.blorb.specs.Rules.{plain, plainRules, plainVerdict, picture, optional, chunkRules, chunkRule, single, typeIn, Pict, Rect, RelN, Fspc}
+use Rattle.reader.specs.Walk.{chunkAt, nextAt, skipAt, chunksFrom, walkFrom, firstFault, Reached}
+use Rattle.blorb.specs.Verdict.{headFault}
+use Rattle.reader.specs.Plain.{ordinaryType, allPlain}
+use Rattle.reader.proofs.ChunkLaws.{ordinary-not, fine, Fine, begun, Begun, resume, chunks-end, first-none}
+use Rattle.blorb.proofs.Checks.{pass, stop, holds-last, fails-last, accepts, refuses, then-accept, check-accept, and-both}
+use Rattle.blorb.proofs.Checks.{then-assoc}
+use Rattle.blorb.specs.Usages.{codeOf, usageOf}
+use Rattle.reader.specs.Entries.{usageAt, numberAt, startAt, place, entryFault, earlier, entriesFrom}
+use Rattle.blorb.proofs.UsageLaws.{rd32-take, or-assoc}
+use Rattle.blorb.proofs.UsageLaws.{or-false}
+use Rattle.reader.proofs.EntryLaws.{pair-snoc}
+use Rattle.reader.specs.declared.entries.Hit.{Hit}
+use Rattle.reader.specs.declared.entries.Hit.the-variants.{At, Nothing}
+use Rattle.reader.specs.Reading.{hitIn, pickHit, indexOf}
+use Rattle.reader.specs.Optional.{pictureBy, pictured, oneRule, rulesFrom, optionalFault, Judged}
+
+-- parts of parts
+drop-take : (n k m : ℕ) (s : List ℕ) → k ≡ n + m → drop n (take k s) ≡ take m (drop n s)
+drop-take zero k m s e = let q : k ≡ m = omega arith in rw q refl
+drop-take (suc n) zero m s e = absurd (omega arith)
+drop-take (suc n) (suc k) m [] e = sym (take-nil m)
+drop-take (suc n) (suc k) m (x ∷ s) e = drop-take n k m s (omega arith)
+
+entry-take : (k : ℕ) (s : List ℕ) → 12 ≤ k → entryIn (take k s) ≡ entryIn s
+unfolding entryIn
+entry-take k s h =
+    let a : rd32 (take k s) ≡ rd32 s = rd32-take k s (omega arith) in
+    let b : rd32 (drop 4 (take k s)) ≡ rd32 (drop 4 s) = ap rd32 (drop-take 4 k (k - 4) s (omega arith)) ∙ rd32-take (k - 4) (drop 4 s) (omega arith) in
+    let d : rd32 (drop 8 (take k s)) ≡ rd32 (drop 8 s) = ap rd32 (drop-take 8 k (k - 8) s (omega arith)) ∙ rd32-take (k - 8) (drop 8 s) (omega arith) in
+    λ i. record { usage = a i; number = b i; start = d i }
+
+entries-take : (n k : ℕ) (s : List ℕ) → 12 * n ≤ k → entriesIn n (take k s) ≡ entriesIn n s
+unfolding entriesIn
+entries-take zero k s h = refl
+entries-take (suc n) k s h =
+    let r : entriesIn n (drop 12 (take k s)) ≡ entriesIn n (drop 12 s)
+    = ap (entriesIn n) (drop-take 12 k (k - 12) s (omega arith)) ∙ entries-take n (k - 12) (drop 12 s) (omega arith) in
+    λ i. entry-take k s (omega arith) i ∷ r i
+
+pub length-entriesIn : (n : ℕ) (s : List ℕ) → length (entriesIn n s) ≡ n
+unfolding entriesIn
+length-entriesIn zero s = refl
+length-entriesIn (suc n) s = ap suc (length-entriesIn n (drop 12 s))
+
+pub body-word : (f : List ℕ) (x : ℕ) → 4 ≤ rd32 (drop (x + 4) f) → rd32 (chunkAt f x .body) ≡ rd32 (drop (x + 8) f)
+unfolding chunkIn
+body-word f x l = rd32-take (rd32 (drop 4 (drop x f))) (drop 8 (drop x f)) (rw (drop-drop 4 x f) l) ∙ ap rd32 (drop-drop 8 x f)
+
+-- 10 and 11
+pub record Shaped (f : List ℕ) (count : ℕ) : Type 0 where
+  pub base : nextAt f 12 ≡ place count
+  pub room : place count ≤ length f
+  pub walks : walkFrom f (place count) ≡ accept
+  pub index : entriesOf (chunkAt f 12) ≡ entriesIn count (drop 24 f)
+  pub few : count ≤ 4096
+  pub chunks : chunksFrom f 12 ≡ chunkAt f 12 ∷ chunksFrom f (place count)
+
+module _ (f : List ℕ) (h : 12 < length f) (w : walkFrom f 12 ≡ accept) where
+  lb : length (chunkAt f 12 .body) ≡ rd32 (drop 16 f)
+  lb = fine f 12 h w .bodied
+
+  pub shape-short : rd32 (drop 16 f) < 4 → refuse 10 16 ≡ indexFault (chunkAt f 12 .body)
+  unfolding indexFault
+  shape-short l = sym (stop _ _ _ _ (rw (lb, lt-leb 4 (rd32 (drop 16 f)) l)))
+
+  pub shape-room : 4 ≤ rd32 (drop 16 f) → 24 ≤ length f
+  shape-room l = let i = fine f 12 h w in omega (arith, i .inside, i .next)
+
+  module _ (l4 : 4 ≤ rd32 (drop 16 f)) where
+    word : rd32 (chunkAt f 12 .body) ≡ rd32 (drop 20 f)
+    word = body-word f 12 l4
+
+    pub shape-other : (rd32 (drop 16 f) ≡ 4 + 12 * rd32 (drop 20 f) → ⊥) → refuse 10 16 ≡ indexFault (chunkAt f 12 .body)
+    unfolding indexFault
+    shape-other n = sym (stop _ _ _ _ (rw (lb, word, le-leb 4 (rd32 (drop 16 f)) l4, ne-eqb (rd32 (drop 16 f)) (4 + 12 * rd32 (drop 20 f)) n)))
+
+    module _ (e : rd32 (drop 16 f) ≡ 4 + 12 * rd32 (drop 20 f)) where
+      t10 : leb 4 (length (chunkAt f 12 .body)) && eqb (length (chunkAt f 12 .body)) (4 + 12 * rd32 (chunkAt f 12 .body)) ≡ true
+      t10 = rw (lb, word, le-leb 4 (rd32 (drop 16 f)) l4, eq-eqb (rd32 (drop 16 f)) (4 + 12 * rd32 (drop 20 f)) e)
+
+      pub shape-many : 4096 < rd32 (drop 20 f) → refuse 11 20 ≡ indexFault (chunkAt f 12 .body)
+      unfolding indexFault
+      shape-many l = sym (pass _ _ _ _ t10 ∙ fails-last _ _ _ (rw word (lt-leb (rd32 (drop 20 f)) 4096 l)))
+
+      pub shape-good : rd32 (drop 20 f) ≤ 4096 → accept ≡ indexFault (chunkAt f 12 .body)
+      unfolding indexFault
+      shape-good l = sym (pass _ _ _ _ t10 ∙ holds-last _ _ _ (rw word (le-leb (rd32 (drop 20 f)) 4096 l)))
+
+      index-is : entriesOf (chunkAt f 12) ≡ entriesIn (rd32 (drop 20 f)) (drop 24 f)
+      unfolding entriesOf chunkIn
+      index-is =
+          let m : ℕ = rd32 (drop 16 f) in
+          let n : ℕ = rd32 (drop 20 f) in
+          let a : drop 4 (take m (drop 20 f)) ≡ take (12 * n) (drop 24 f) = drop-take 4 m (12 * n) (drop 20 f) e ∙ ap (take (12 * n)) (drop-drop 4 20 f) in
+          let b : take (rd32 (drop 4 (drop 12 f))) (drop 8 (drop 12 f)) ≡ take m (drop 20 f) = rw (drop-drop 4 12 f, drop-drop 8 12 f) in
+          ap (λ (k : ℕ). entriesIn k (drop 4 (take (rd32 (drop 4 (drop 12 f))) (drop 8 (drop 12 f))))) word
+          ∙ ap (λ (d : List ℕ). entriesIn n (drop 4 d)) b ∙ ap (entriesIn n) a ∙ entries-take n (12 * n) (drop 24 f) (omega arith)
+
+  pub shaped : indexFault (chunkAt f 12 .body) ≡ accept → Shaped f (rd32 (drop 20 f))
+  unfolding indexFault
+  shaped ok =
+      let p = then-accept _ _ ok in
+      let q = and-both _ _ (check-accept _ _ _ (p .0)) in
+      let a : 4 ≤ length (chunkAt f 12 .body) = leb-true _ _ (q .0) in
+      let l4 : 4 ≤ rd32 (drop 16 f) = omega (arith, lb) in
+      let d : length (chunkAt f 12 .body) ≡ 4 + 12 * rd32 (chunkAt f 12 .body) = eqb-true _ _ (q .1) in
+      let e : rd32 (drop 16 f) ≡ 4 + 12 * rd32 (drop 20 f) = omega (arith, lb, word l4) in
+      let g : rd32 (chunkAt f 12 .body) ≤ 4096 = leb-true _ _ (check-accept _ _ _ (p .1)) in
+      let few : rd32 (drop 20 f) ≤ 4096 = omega (arith, word l4) in
+      let i = fine f 12 h w in
+      let b : nextAt f 12 ≡ place (rd32 (drop 20 f)) = sym (i .next) ∙ omega arith in
+      record {
+        base = b;
+        room = rw (← b) (i .inside);
+        walks = rw (← b) (i .rest);
+        index = index-is l4 e;
+        few = few;
+        chunks = rw (← b) (i .chunks);
+      }
+
+-- the lookup's loop
+module _ (f : List ℕ) (u n : ℕ) where
+  hit-on : (k i : ℕ) → hitIn u n (entriesIn (suc k) (drop (place i) f))
+      ≡ pickHit (eqb (usageAt f (place i)) u && eqb (numberAt f (place i)) n) (startAt f (place i)) (hitIn u n (entriesIn k (drop (place (suc i)) f)))
+  unfolding hitIn entriesIn entryIn
+  hit-on k i =
+      let q : place i + 12 ≡ place (suc i) = omega arith in
+      rw (drop-drop 4 (place i) f, drop-drop 8 (place i) f, drop-drop 12 (place i) f, q)
+
+  module _ (count i : ℕ) (h : i < count) where
+    left : count - i ≡ suc (count - (i + 1))
+    left = omega arith
+
+    pub hit-here : eqb (usageAt f (place i)) u && eqb (numberAt f (place i)) n ≡ true → At (startAt f (place i)) ≡ hitIn u n (entriesIn (count - i) (drop (place i) f))
+    hit-here e = rw left (sym (hit-on (count - (i + 1)) i ∙ rw e))
+
+    pub hit-next : eqb (usageAt f (place i)) u && eqb (numberAt f (place i)) n ≡ false
+        → hitIn u n (entriesIn (count - (i + 1)) (drop (place (i + 1)) f)) ≡ hitIn u n (entriesIn (count - i) (drop (place i) f))
+    hit-next e = ap (λ (k : ℕ). hitIn u n (entriesIn (count - (i + 1)) (drop (place k) f))) (add-one i) ∙ sym (ap (λ (k : ℕ). hitIn u n (entriesIn k (drop (place i) f))) left ∙ hit-on (count - (i + 1)) i ∙ rw e)
+
+  pub hit-end : (i : ℕ) → hitIn u n (entriesIn 0 (drop (place i) f)) ≡ Nothing
+  unfolding hitIn entriesIn
+  hit-end i = refl
+
+-- by the numbers that the code has read
+module _ (f : List ℕ) (u n count i a b x : ℕ) (h : i < count) (ea : a ≡ usageAt f (place i)) (eb : b ≡ numberAt f (place i)) where
+  pub by-hit : x ≡ startAt f (place i) → eqb a u && eqb b n ≡ true → At x ≡ hitIn u n (entriesIn (count - i) (drop (place i) f))
+  by-hit ex e = ap At ex ∙ hit-here f u n count i h (rw (ea, eb) at e)
+
+  pub by-next : eqb a u && eqb b n ≡ false → hitIn u n (entriesIn (count - (i + 1)) (drop (place (i + 1)) f)) ≡ hitIn u n (entriesIn (count - i) (drop (place i) f))
+  by-next e = hit-next f u n count i h (rw (ea, eb) at e)
+
+or-true : (b : Bool) → b || true ≡ true
+or-true true = refl
+or-true false = refl
+
+-- what the acceptance of entries tells of the first of them
+module _ (f : List ℕ) (base : ℕ) (w : walkFrom f base ≡ accept) where
+  first-entry : (e : Entry) (es : List Entry) (earlier : List Ref) (p : ℕ) → entriesFault plainRules base (chunksFrom f base) earlier p (e ∷ es) ≡ accept
+      → (isStart (e .start) base (chunksFrom f base) ≡ true) × (pairIn (e .usage) (e .number) earlier ≡ false)
+      × (entriesFault plainRules base (chunksFrom f base) (earlier ++ (refOf base (chunksFrom f base) e ∷ [])) (p + 12) es ≡ accept)
+  unfolding entriesFault refFault refOf
+  first-entry e es earlier p h =
+      let a = then-accept _ _ (then-accept _ _ h .1) in
+      let b = then-accept _ _ (a .1) in
+      let d = then-accept _ _ (then-accept _ _ (b .0) .1) in
+      (check-accept _ _ _ (a .0), not-true (pairIn (e .usage) (e .number) earlier) (check-accept _ _ _ (d .1)), b .1)
+
+  -- a hit is a chunk's beginning
+  pub hit-start : (u n x : ℕ) (es : List Entry) (earlier : List Ref) (p : ℕ) → entriesFault plainRules base (chunksFrom f base) earlier p es ≡ accept
+      → hitIn u n es ≡ At x → isStart x base (chunksFrom f base) ≡ true
+  unfolding hitIn
+  hit-start u n x [] earlier p h e = let z : _≡_ {A = ℕ} 0 1 = cc in absurd (omega arith)
+  hit-start u n x (y ∷ es) earlier p h e =
+      let a = first-entry y es earlier p h in
+      go (eqb (y .usage) u && eqb (y .number) n) (a .0) (hit-start u n x es (earlier ++ (refOf base (chunksFrom f base) y ∷ [])) (p + 12) (a .2)) e
+    where
+      go : (b : Bool) → isStart (y .start) base (chunksFrom f base) ≡ true → (hitIn u n es ≡ At x → isStart x base (chunksFrom f base) ≡ true)
+          → pickHit b (y .start) (hitIn u n es) ≡ At x → isStart x base (chunksFrom f base) ≡ true
+      go true s ih e = let q : y .start ≡ x = cc in rw (← q) s
+      go false s ih e = ih e
+
+  -- a pair that an earlier entry has is no later one's
+  none-later : (n : ℕ) (es : List Entry) (earlier : List Ref) (p : ℕ) → entriesFault plainRules base (chunksFrom f base) earlier p es ≡ accept
+      → pairIn Pict n earlier ≡ true → picture n (chunksFrom f base) (map (refOf base (chunksFrom f base)) es) ≡ false
+  unfolding picture refOf
+  none-later n [] earlier p h t = refl
+  none-later n (y ∷ es) earlier p h t =
+      let a = first-entry y es earlier p h in
+      let r : Ref = refOf base (chunksFrom f base) y in
+      let t2 : pairIn Pict n (earlier ++ (r ∷ [])) ≡ true = pair-snoc Pict n earlier r ∙ rw t in
+      go (eqb (y .usage) Pict && eqb (y .number) n) refl (a .1) _ (none-later n es (earlier ++ (r ∷ [])) (p + 12) (a .2) t2)
+    where
+      go : (b : Bool) → eqb (y .usage) Pict && eqb (y .number) n ≡ b → pairIn (y .usage) (y .number) earlier ≡ false → (z : Bool)
+          → picture n (chunksFrom f base) (map (refOf base (chunksFrom f base)) es) ≡ false
+          → b && z || picture n (chunksFrom f base) (map (refOf base (chunksFrom f base)) es) ≡ false
+      go true e a z ih =
+          let q = and-both _ _ e in
+          let q1 : y .usage ≡ Pict = eqb-true _ _ (q .0) in
+          let q2 : y .number ≡ n = eqb-true _ _ (q .1) in
+          let no : pairIn Pict n earlier ≡ false = rw (q1, q2) at a in
+          let x : _≡_ {A = ℕ} 0 1 = cc in
+          absurd (omega arith)
+      go false e a z ih = ih
+
+  -- so the picture of rule 19 is the lookup's
+  pub picture-hit : (n : ℕ) (es : List Entry) (earlier : List Ref) (p : ℕ) → entriesFault plainRules base (chunksFrom f base) earlier p es ≡ accept
+      → picture n (chunksFrom f base) (map (refOf base (chunksFrom f base)) es) ≡ pictureBy f (hitIn Pict n es)
+  unfolding picture refOf hitIn chunkIn
+  picture-hit n [] earlier p h = refl
+  picture-hit n (y ∷ es) earlier p h =
+      let a = first-entry y es earlier p h in
+      let r : Ref = refOf base (chunksFrom f base) y in
+      let k : not (eqb (getD (chunksFrom f base) (placeOf (y .start) base (chunksFrom f base)) noChunk .type) Rect) ≡ not (eqb (rd32 (drop (y .start) f)) Rect)
+      = ap (λ (c : Chunk). not (eqb (c .type) Rect)) (begun f (y .start) base w (a .0) .chunk) in
+      rw k
+      (go (eqb (y .usage) Pict && eqb (y .number) n) refl
+      (λ t. none-later n es (earlier ++ (r ∷ [])) (p + 12) (a .2) (pair-snoc Pict n earlier r ∙ t))
+      (picture-hit n es (earlier ++ (r ∷ [])) (p + 12) (a .2)))
+    where
+      go : (b : Bool) → eqb (y .usage) Pict && eqb (y .number) n ≡ b
+          → (pairIn Pict n earlier || (eqb (y .usage) Pict && eqb (y .number) n) ≡ true → picture n (chunksFrom f base) (map (refOf base (chunksFrom f base)) es) ≡ false)
+          → picture n (chunksFrom f base) (map (refOf base (chunksFrom f base)) es) ≡ pictureBy f (hitIn Pict n es)
+          → b && not (eqb (rd32 (drop (y .start) f)) Rect) || picture n (chunksFrom f base) (map (refOf base (chunksFrom f base)) es)
+          ≡ pictureBy f (pickHit b (y .start) (hitIn Pict n es))
+      go true e later ih =
+          let no : picture n (chunksFrom f base) (map (refOf base (chunksFrom f base)) es) ≡ false = later (rw e (or-true (pairIn Pict n earlier))) in
+          rw no (or-false (not (eqb (rd32 (drop (y .start) f)) Rect)))
+      go false e later ih = ih
+
+-- rules 17 to 19 with two flags for the chunks before
+type-snoc : (t : ℕ) (l : List Chunk) (c : Chunk) → typeIn t (l ++ (c ∷ [])) ≡ typeIn t l || eqb (c .type) t
+unfolding typeIn
+type-snoc t [] c = or-false (eqb (c .type) t)
+type-snoc t (x ∷ l) c = rw (type-snoc t l c) (sym (or-assoc (eqb (x .type) t) (typeIn t l) (eqb (c .type) t)))
+
+rules-flags : (rs : List Ref) (all : List Chunk) (earlier : List Chunk) (at : ℕ) (cs : List Chunk)
+    → chunkRules rs all earlier at cs ≡ rulesFrom (λ n. picture n all rs) (typeIn RelN earlier) (typeIn Fspc earlier) at cs
+unfolding chunkRules rulesFrom chunkRule oneRule single
+rules-flags rs all earlier at [] = refl
+rules-flags rs all earlier at (c ∷ cs) =
+    let ih : chunkRules rs all (earlier ++ (c ∷ [])) (at + size c) cs
+    ≡ rulesFrom (λ n. picture n all rs) (typeIn RelN earlier || eqb (c .type) RelN) (typeIn Fspc earlier || eqb (c .type) Fspc) (at + size c) cs
+    = rules-flags rs all (earlier ++ (c ∷ [])) (at + size c) cs
+    ∙ ap (λ (b : Bool). rulesFrom (λ n. picture n all rs) b (typeIn Fspc (earlier ++ (c ∷ []))) (at + size c) cs) (type-snoc RelN earlier c)
+    ∙ ap (λ (b : Bool). rulesFrom (λ n. picture n all rs) (typeIn RelN earlier || eqb (c .type) RelN) b (at + size c) cs) (type-snoc Fspc earlier c) in
+    ap (λ (v : Verdict). chunkRule rs all earlier at c then v) ih
+
+pub optional-is : (f : List ℕ) (count : ℕ) → walkFrom f (place count) ≡ accept → entriesFrom f (place count) 0 count ≡ accept
+    → optional (place count) (map (refOf (place count) (chunksFrom f (place count))) (entriesIn count (drop 24 f))) (chunksFrom f (place count)) ≡ optionalFault f count
+unfolding optional optionalFault entriesFrom pictured typeIn earlier
+optional-is f count w h =
+    rules-flags _ _ [] (place count) (chunksFrom f (place count))
+    ∙ ap (λ (p : ℕ → Bool). rulesFrom p false false (place count) (chunksFrom f (place count)))
+    (λ i n. picture-hit f (place count) w n (entriesIn count (drop 24 f)) [] 24 h i)
+
+-- one chunk of rule 7, by facts on its numbers
+module _ (pic : ℕ → Bool) (f : List ℕ) (a b : Bool) (at t m : ℕ) (h : at < length f) (w : walkFrom f at ≡ accept) (et : t ≡ rd32 (drop at f)) (em : m ≡ rd32 (drop (at + 4) f)) where
+  lm : length (chunkAt f at .body) ≡ m
+  lm = fine f at h w .bodied ∙ sym em
+
+  by-type : oneRule pic a b at (chunkAt f at)
+      ≡ cond (eqb t RelN) (check (not a) 17 at then check (eqb m 2) 18 (at + 4))
+      (cond (eqb t Fspc) ((check (not b) 17 at then check (eqb m 4) 18 (at + 4)) then check (pic (rd32 (chunkAt f at .body))) 19 (at + 8)) accept)
+  unfolding oneRule chunkIn
+  by-type = rw (lm, ← et)
+
+  pub rule-none : (t ≡ RelN → ⊥) → (t ≡ Fspc → ⊥) → accept ≡ oneRule pic a b at (chunkAt f at)
+  rule-none n1 n2 = sym (by-type ∙ rw (ne-eqb t RelN n1, ne-eqb t Fspc n2))
+
+  module _ (e : t ≡ RelN) where
+    pub reln-17 : a ≡ true → refuse 17 at ≡ oneRule pic a b at (chunkAt f at)
+    reln-17 p = sym (by-type ∙ rw (eq-eqb t RelN e) (stop _ _ _ _ (rw p)))
+
+    pub reln-18 : a ≡ false → (m ≡ 2 → ⊥) → refuse 18 (at + 4) ≡ oneRule pic a b at (chunkAt f at)
+    reln-18 p n = sym (by-type ∙ rw (eq-eqb t RelN e) (pass _ _ _ _ (rw p) ∙ fails-last _ _ _ (ne-eqb m 2 n)))
+
+    pub reln-good : a ≡ false → m ≡ 2 → accept ≡ oneRule pic a b at (chunkAt f at)
+    reln-good p n = sym (by-type ∙ rw (eq-eqb t RelN e) (pass _ _ _ _ (rw p) ∙ holds-last _ _ _ (eq-eqb m 2 n)))
+
+  module _ (n1 : t ≡ RelN → ⊥) (e : t ≡ Fspc) where
+    fspc : oneRule pic a b at (chunkAt f at) ≡ check (not b) 17 at then (check (eqb m 4) 18 (at + 4) then check (pic (rd32 (chunkAt f at .body))) 19 (at + 8))
+    fspc = by-type ∙ rw (ne-eqb t RelN n1, eq-eqb t Fspc e) (then-assoc _ _ _)
+
+    pub fspc-17 : b ≡ true → refuse 17 at ≡ oneRule pic a b at (chunkAt f at)
+    fspc-17 p = sym (fspc ∙ stop _ _ _ _ (rw p))
+
+    pub fspc-18 : b ≡ false → (m ≡ 4 → ⊥) → refuse 18 (at + 4) ≡ oneRule pic a b at (chunkAt f at)
+    fspc-18 p n = sym (fspc ∙ pass _ _ _ _ (rw p) ∙ stop _ _ _ _ (ne-eqb m 4 n))
+
+    module _ (p : b ≡ false) (four : m ≡ 4) (n : ℕ) (en : n ≡ rd32 (drop (at + 8) f)) where
+      number : rd32 (chunkAt f at .body) ≡ n
+      number = body-word f at (omega arith) ∙ sym en
+
+      pub fspc-19 : pic n ≡ false → refuse 19 (at + 8) ≡ oneRule pic a b at (chunkAt f at)
+      fspc-19 q = sym (fspc ∙ pass _ _ _ _ (rw p) ∙ pass _ _ _ _ (eq-eqb m 4 four) ∙ fails-last _ _ _ (ap pic number ∙ q))
+
+      pub fspc-good : pic n ≡ true → accept ≡ oneRule pic a b at (chunkAt f at)
+      fspc-good q = sym (fspc ∙ pass _ _ _ _ (rw p) ∙ pass _ _ _ _ (eq-eqb m 4 four) ∙ holds-last _ _ _ (ap pic number ∙ q))
+
+-- the picture by the lookup's answer
+module _ (f : List ℕ) (count n : ℕ) where
+  pub picture-none : hitIn Pict n (entriesIn count (drop 24 f)) ≡ Nothing → pictured f count n ≡ false
+  unfolding pictured
+  picture-none e = rw e
+
+  module _ (x t : ℕ) (e : hitIn Pict n (entriesIn count (drop 24 f)) ≡ At x) (et : t ≡ rd32 (drop x f)) where
+    pub picture-rect : t ≡ Rect → pictured f count n ≡ false
+    unfolding pictured
+    picture-rect q = rw (e, ← et, q)
+
+    pub picture-there : (t ≡ Rect → ⊥) → pictured f count n ≡ true
+    unfolding pictured
+    picture-there q = rw (e, ← et, ne-eqb t Rect q)
+
+-- the loop over the optional chunks
+module _ (pic : ℕ → Bool) (f : List ℕ) (a b : Bool) (at : ℕ) where
+  pub rules-end : length f ≤ at → rulesFrom pic a b at (chunksFrom f at) ≡ accept
+  unfolding rulesFrom
+  rules-end h = rw (chunks-end f at h)
+
+  module _ (h : at < length f) (w : walkFrom f at ≡ accept) where
+    turn : rulesFrom pic a b at (chunksFrom f at) ≡ oneRule pic a b at (chunkAt f at) then rulesFrom pic (a || eqb (rd32 (drop at f)) RelN) (b || eqb (rd32 (drop at f)) Fspc) (skipAt f at) (chunksFrom f (skipAt f at))
+    unfolding rulesFrom chunkIn
+    turn = let i = fine f at h w in rw (i .chunks, i .next)
+
+    pub rules-next : (t : ℕ) → t ≡ rd32 (drop at f) → oneRule pic a b at (chunkAt f at) ≡ accept
+        → rulesFrom pic (a || eqb t RelN) (b || eqb t Fspc) (skipAt f at) (chunksFrom f (skipAt f at)) ≡ rulesFrom pic a b at (chunksFrom f at)
+    rules-next t et e = rw et (sym (turn ∙ accepts _ _ e))
+
+    pub rules-stop : (k p : ℕ) → oneRule pic a b at (chunkAt f at) ≡ refuse k p → refuse k p ≡ rulesFrom pic a b at (chunksFrom f at)
+    rules-stop k p e = sym (turn ∙ refuses _ _ _ _ e)
+
+-- the chunk of a hit
+pub hit-begun : (f : List ℕ) (count u n x : ℕ) → Judged f count → hitIn u n (entriesIn count (drop 24 f)) ≡ At x → (x < length f) × (walkFrom f x ≡ accept)
+unfolding entriesFrom earlier
+hit-begun f count u n x j e =
+    let b = begun f x (place count) (j .walks) (hit-start f (place count) (j .walks) u n x (entriesIn count (drop 24 f)) [] 24 (j .entries) e) in
+    (b .below, b .walks)
+
+-- where no chunk is optional
+pub plain-rules : (pic : ℕ → Bool) (cs : List Chunk) (a b : Bool) (at : ℕ) → allPlain cs ≡ true → rulesFrom pic a b at cs ≡ accept
+unfolding allPlain rulesFrom oneRule
+plain-rules pic [] a b at e = refl
+plain-rules pic (c ∷ cs) a b at e =
+    let q = and-both (ordinaryType (c .type)) (allPlain cs) e in
+    let n = ordinary-not (c .type) (q .0) in
+    rw (n .1, n .2) (accepts _ _ refl ∙ plain-rules pic cs (a || false) (b || false) (at + size c) (q .1))
+
+pub plain-optional : (f : List ℕ) (count : ℕ) → allPlain (chunksFrom f (place count)) ≡ true → optionalFault f count ≡ accept
+unfolding optionalFault
+plain-optional f count e = plain-rules (pictured f count) (chunksFrom f (place count)) false false (place count) e

@@ -1,0 +1,125 @@
+-- The verdict as the reader's parts, and what its acceptance tells.
+use mathlib.Core.Path.{_≡_, refl, sym, ap, _∙_}
+use Prim.Native.Nat.{ℕ, zero, suc, _+_, _*_, _-_, _%_, _≤_, _<_}
+use mathlib.Core.List.{List, [], _∷_, _++_, map}
+use mathlib.Core.Bool.{Bool, true, false, cond, _&&_, _||_, not}
+use native.Mathlib.Omega.{arith}
+use lib.ListN.{length, getD, take, drop}
+use lib.Dec.{eqb, leb, ltb}
+use borrow.Author.Tests.{lt-ltb, le-ltb, ltb-true, ltb-false}
+use Rattle.blorb.specs.Bytes.{rd32}
+use Rattle.blorb.specs.Format.{RIdx, Chunk, Entry, Ref, refOf, size, chunkIn, chunksIn, chunksOf, entriesIn, entriesOf}
+use Rattle.blorb.specs.Verdict.{Verdict, accept, refuse, _then_, check, noChunk, entriesFault, secondIndex, indexFault, restFault, layoutFault, verdict}
+use Rattle.blorb.specs.Rules.{plainRules, plainVerdict, optional}
+use Rattle.reader.specs.Walk.{chunkAt, nextAt, skipAt, chunksFrom, walkFrom, firstFault}
+use Rattle.blorb.specs.Verdict.{headFault}
+use Rattle.blorb.proofs.Checks.{accepts, refuses, then-accept, check-accept, and-both}
+use Rattle.blorb.proofs.Checks.{then-assoc}
+use Rattle.reader.proofs.ChunkLaws.{fine, Fine, chunks-end, first-none}
+use Rattle.reader.specs.Entries.{place, entriesFrom, earlier}
+use Rattle.reader.specs.declared.Reading.{Reading}
+use Rattle.reader.specs.declared.Reading.the-variants.{Accepted, Refused}
+use Rattle.reader.specs.Reading.{indexOf, readBy, readOf}
+use Rattle.reader.specs.Optional.{optionalFault, Judged}
+use Rattle.reader.proofs.Laws.{Shaped, shaped, length-entriesIn, optional-is}
+
+module _ (f : List ℕ) where
+  pub whole : plainVerdict f ≡ headFault f then (walkFrom f 12 then layoutFault plainRules (chunksOf f))
+  unfolding plainVerdict verdict headFault walkFrom
+  whole = simp then-assoc
+
+  pub refused : (k p : ℕ) → plainVerdict f ≡ refuse k p → Refused k p ≡ readOf f
+  unfolding readOf
+  refused k p e = rw e
+
+  pub first-long : firstFault f ≡ accept → 12 < length f
+  unfolding firstFault
+  first-long h = ltb-true _ _ (and-both _ _ (check-accept _ _ _ h) .0)
+
+  chunks-is : chunksOf f ≡ chunksFrom f 12
+  unfolding chunksOf chunksFrom
+  chunks-is = refl
+
+  layout-long : walkFrom f 12 ≡ accept → 12 < length f
+      → layoutFault plainRules (chunksFrom f 12) ≡ firstFault f then restFault plainRules (chunkAt f 12) (chunksFrom f (nextAt f 12))
+  unfolding layoutFault firstFault chunkIn
+  layout-long w h = rw (fine f 12 h w .chunks, lt-ltb 12 (length f) h)
+
+  layout-short : length f ≤ 12
+      → layoutFault plainRules (chunksFrom f 12) ≡ firstFault f then restFault plainRules (chunkAt f 12) (chunksFrom f (nextAt f 12))
+  unfolding layoutFault
+  layout-short h = rw (chunks-end f 12 h) (sym (refuses (firstFault f) _ 8 12 (sym (first-none f h))))
+
+  pub layout : walkFrom f 12 ≡ accept → layoutFault plainRules (chunksOf f) ≡ firstFault f then restFault plainRules (chunkAt f 12) (chunksFrom f (nextAt f 12))
+  layout w = rw chunks-is (go (ltb 12 (length f)) refl)
+    where
+      go : (b : Bool) → ltb 12 (length f) ≡ b → layoutFault plainRules (chunksFrom f 12) ≡ firstFault f then restFault plainRules (chunkAt f 12) (chunksFrom f (nextAt f 12))
+      go true e = layout-long w (ltb-true _ _ e)
+      go false e = layout-short (ltb-false _ _ e)
+
+  pub read-1 : (k p : ℕ) → headFault f ≡ refuse k p → Refused k p ≡ readOf f
+  read-1 k p e = refused k p (whole ∙ refuses _ _ _ _ e)
+
+  module _ (h1 : headFault f ≡ accept) where
+    pub read-2 : (k p : ℕ) → walkFrom f 12 ≡ refuse k p → Refused k p ≡ readOf f
+    read-2 k p e = refused k p (whole ∙ accepts _ _ h1 ∙ refuses _ _ _ _ e)
+
+    module _ (h2 : walkFrom f 12 ≡ accept) where
+      v2 : plainVerdict f ≡ firstFault f then restFault plainRules (chunkAt f 12) (chunksFrom f (nextAt f 12))
+      v2 = whole ∙ accepts _ _ h1 ∙ accepts _ _ h2 ∙ layout h2
+
+      pub read-3 : (k p : ℕ) → firstFault f ≡ refuse k p → Refused k p ≡ readOf f
+      read-3 k p e = refused k p (v2 ∙ refuses _ _ _ _ e)
+
+      module _ (h3 : firstFault f ≡ accept) (b : ℕ) (eb : b ≡ skipAt f 12) where
+        en : b ≡ nextAt f 12
+        en = eb ∙ fine f 12 (first-long h3) h2 .next
+
+        pub v3 : plainVerdict f ≡ secondIndex b (chunksFrom f b) then (indexFault (chunkAt f 12 .body)
+            then (entriesFault plainRules b (chunksFrom f b) [] 24 (entriesOf (chunkAt f 12))
+            then optional b (map (refOf b (chunksFrom f b)) (entriesOf (chunkAt f 12))) (chunksFrom f b)))
+        unfolding restFault
+        v3 = rw en (v2 ∙ accepts _ _ h3)
+
+        pub read-4 : (k p : ℕ) → secondIndex b (chunksFrom f b) ≡ refuse k p → Refused k p ≡ readOf f
+        read-4 k p e = refused k p (v3 ∙ refuses _ _ _ _ e)
+
+        module _ (h4 : secondIndex b (chunksFrom f b) ≡ accept) where
+          pub read-5 : (k p : ℕ) → indexFault (chunkAt f 12 .body) ≡ refuse k p → Refused k p ≡ readOf f
+          read-5 k p e = refused k p (v3 ∙ accepts _ _ h4 ∙ refuses _ _ _ _ e)
+
+          module _ (h5 : indexFault (chunkAt f 12 .body) ≡ accept) (count : ℕ) (ec : count ≡ rd32 (drop 20 f)) where
+            pub is-shaped : Shaped f count
+            is-shaped = rw ec (shaped f (first-long h3) h2 h5)
+
+            pub v5 : plainVerdict f ≡ entriesFrom f (place count) 0 count
+                then optional (place count) (map (refOf (place count) (chunksFrom f (place count))) (entriesIn count (drop 24 f))) (chunksFrom f (place count))
+            unfolding entriesFrom earlier
+            v5 =
+                let eb2 : b ≡ place count = en ∙ is-shaped .base in
+                let es : entriesOf (chunkAt f 12) ≡ entriesIn count (drop 24 f) = is-shaped .index in
+                rw (eb2, es) at (v3 ∙ accepts _ _ h4 ∙ accepts _ _ h5)
+
+            pub read-6 : (k p : ℕ) → entriesFrom f (place count) 0 count ≡ refuse k p → Refused k p ≡ readOf f
+            read-6 k p e = refused k p (v5 ∙ refuses _ _ _ _ e)
+
+            module _ (h6 : entriesFrom f (place count) 0 count ≡ accept) where
+              v6 : plainVerdict f ≡ optionalFault f count
+              v6 = v5 ∙ accepts _ _ h6 ∙ optional-is f count (is-shaped .walks) h6
+
+              pub read-7 : (k p : ℕ) → optionalFault f count ≡ refuse k p → Refused k p ≡ readOf f
+              read-7 k p e = refused k p (v6 ∙ e)
+
+              pub is-judged : Judged f count
+              is-judged = record { few = is-shaped .few; room = is-shaped .room; walks = is-shaped .walks; entries = h6 }
+
+              pub index-of : indexOf f ≡ entriesIn count (drop 24 f)
+              unfolding indexOf
+              index-of = rw (chunks-is, is-shaped .chunks) (is-shaped .index)
+
+              pub read-8 : optionalFault f count ≡ accept → Accepted (length f) count ≡ readOf f
+              unfolding readOf
+              read-8 e =
+                  let n : count ≡ length (indexOf f) = sym (ap length index-of ∙ length-entriesIn count (drop 24 f)) in
+                  let v : plainVerdict f ≡ accept = v6 ∙ e in
+                  rw v (ap (Accepted (length f)) n)

@@ -1,0 +1,33 @@
+use Rattle.reader.specs.Plain.{allPlain}
+use Rattle.reader.specs.Walk.{walkFrom, chunksFrom, skipAt, verdictOf}
+use Rattle.reader.proofs.ChunkLaws.{walk-next, walk-fault, walk-end, chunk-good-header, plain-next, plain-end, plain-second, unplain}
+use Prim.Native.Nat.{ℕ, _-_, _+_, _≤_, _<_}
+use native.Mathlib.Omega.{arith}
+use mathlib.Core.Path.{_≡_, refl, sym, ap, _∙_}
+use mathlib.Core.Bool.{Bool, true, false, _&&_}
+use lib.ListN.{length}
+use denote.Ref.{now}
+use Rattle.reader.specs.Plain.{allPlain}
+use Rattle.reader.specs.Walk.{walkFrom, chunksFrom, skipAt, verdictOf}
+use Rattle.reader.proofs.ChunkLaws.{walk-next, walk-fault, walk-end, chunk-good-header, plain-next, plain-end, plain-second, unplain}
+use borrow.Author.Needs.{needs}
+use Rattle.reader.proofs.chunks.second_if.Statement.{statement}
+use Rattle.reader.proofs.chunks.second_if.Tie as tie
+use Rattle.reader.proofs.chunks.second_if.Reads as reads
+use Rattle.reader.proofs.chunks.second_if.Lts as lts
+use Rattle.reader.proofs.chunks.second.Reads as second-reads
+
+-- src/chunks.rt:201:9
+returns : tie.Need-returns
+returns c = sym (plain-second _ _ (c .before .before .pre .1 (c .if1 .taken)))
+
+-- src/chunks.rt:203:5
+second-requires : tie.Need-second-requires
+second-requires c κs = search needs
+
+-- src/chunks.rt:196:1
+returns-2 : tie.Need-returns-2
+returns-2 c = search needs
+
+pub second-if-spec : {M : Type 1} → statement M
+second-if-spec = tie.close (tie.spec returns second-requires returns-2)

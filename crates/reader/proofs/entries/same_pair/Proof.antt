@@ -1,0 +1,61 @@
+use Rattle.blorb.specs.Verdict.{pairIn}
+use Rattle.reader.specs.Entries.{usageAt, numberAt, place, earlier, samePair}
+use native.Mathlib.Omega.{arith}
+use Prim.Native.Nat.{ℕ, _+_, _-_, _≤_, _<_}
+use mathlib.Core.Path.{_≡_, refl, sym, ap, _∙_}
+use mathlib.Core.Bool.{true, false}
+use denote.Ref.{now}
+use Rattle.blorb.specs.Verdict.{pairIn}
+use Rattle.reader.specs.Entries.{usageAt, numberAt, place, earlier, samePair}
+use Rattle.reader.proofs.EntryLaws as laws
+use borrow.Author.Needs.{needs}
+use Rattle.reader.proofs.entries.same_pair.Statement.{statement}
+use Rattle.reader.proofs.entries.same_pair.Tie as tie
+use Rattle.reader.proofs.entries.same_pair.Reads as reads
+use Rattle.reader.proofs.entries.same_pair.Lts as lts
+use Rattle.reader.proofs.entries.pair_key.Reads as pair-key-reads
+
+-- src/entries.rt:92:22
+mul-pair-key : tie.Need-mul-pair-key
+mul-pair-key c = search needs
+
+-- src/entries.rt:92:17
+add-pair-key : tie.Need-add-pair-key
+add-pair-key c = search needs
+
+-- src/entries.rt:92:5
+pair-key-requires : tie.Need-pair-key-requires
+pair-key-requires c κs = search needs
+
+-- src/entries.rt:92:50
+mul-pair-key-2 : tie.Need-mul-pair-key-2
+mul-pair-key-2 c = search needs
+
+-- src/entries.rt:92:45
+add-pair-key-2 : tie.Need-add-pair-key-2
+add-pair-key-2 c = search needs
+
+-- src/entries.rt:92:33
+pair-key-requires-2 : tie.Need-pair-key-requires-2
+pair-key-requires-2 c κs = search needs
+
+-- src/entries.rt:88:1
+returns : tie.Need-returns
+returns c =
+    let a = c .before .before .before .args in
+    let s = now (a .s) in
+    let p = c .before .pair-key .ensures in
+    let q = c .pair-key2 .ensures in
+    rw (p .0, q .0) (laws.key-same (usageAt s (place (a .i))) (numberAt s (place (a .i))) (usageAt s (place (a .j))) (numberAt s (place (a .j))) (p .1) (q .1))
+
+pub same-pair-spec : {M : Type 1} → statement M
+same-pair-spec =
+    tie.close
+    (tie.spec
+    mul-pair-key
+    add-pair-key
+    pair-key-requires
+    mul-pair-key-2
+    add-pair-key-2
+    pair-key-requires-2
+    returns)

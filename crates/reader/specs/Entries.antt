@@ -1,0 +1,74 @@
+-- The entries of an index by their offsets, and rules 12 to 16 from an entry on.
+use Prim.Native.Nat.{ℕ, zero, suc, _+_, _*_, _-_, _/_, _%_, _≤_, _<_}
+use mathlib.Core.Path.{_≡_}
+use mathlib.Core.List.{List, [], _∷_, _++_}
+use mathlib.Core.Bool.{Bool, true, false, _&&_, _||_, not}
+use lib.ListN.{length, getD, drop}
+use lib.Dec.{eqb, leb, ltb}
+use Rattle.blorb.specs.Bytes.{rd32}
+use Rattle.blorb.specs.Usages.{codeOf}
+use Rattle.blorb.specs.Format.{tag, Chunk, Ref, refOf, entryIn, entriesIn, isStart}
+use Rattle.blorb.specs.Verdict.{Verdict, accept, refuse, _then_, check, knownUsage, entriesFault}
+use Rattle.blorb.specs.Rules.{plain, plainRules}
+use Rattle.reader.specs.Walk.{chunkAt, chunksFrom}
+use Rattle.blorb.specs.declared.Usage.{Usage}
+use Rattle.blorb.specs.declared.Usage.the-variants.{Pict, Snd, Data, Exec}
+use Rattle.blorb.specs.declared.Known.{Known}
+use Rattle.blorb.specs.declared.Known.the-variants.{Is, Unknown}
+use Rattle.reader.specs.declared.entries.Judged.{Judged}
+use Rattle.reader.specs.declared.entries.Judged.the-variants.{At, Fault}
+
+-- the usage, number and start of the entry at p
+abbrev pub usageAt : List ℕ → ℕ → ℕ
+usageAt f p = rd32 (drop p f)
+
+abbrev pub numberAt : List ℕ → ℕ → ℕ
+numberAt f p = rd32 (drop (p + 4) f)
+
+abbrev pub startAt : List ℕ → ℕ → ℕ
+startAt f p = rd32 (drop (p + 8) f)
+
+-- where entry i is
+abbrev pub place : ℕ → ℕ
+place i = 24 + 12 * i
+
+-- rule 5 of the chunk at x
+abbrev pub typedAt : List ℕ → ℕ → ℕ → Bool
+typedAt f u x = plain u (chunkAt f x)
+
+-- 12 to 15 of the entry at p; the chunks behind the index stand from base on
+unfoldable pub entryFault : List ℕ → ℕ → ℕ → Verdict
+entryFault f base p =
+    check (knownUsage (usageAt f p)) 12 p
+    then check (isStart (startAt f p) base (chunksFrom f base)) 13 (p + 8)
+    then check (typedAt f (usageAt f p) (startAt f p)) 14 p
+    then check (not (eqb (usageAt f p) (codeOf Exec)) || eqb (numberAt f p) 0) 15 (p + 4)
+
+-- its start, or its fault
+abbrev pub judgedBy : Verdict → ℕ → Judged
+judgedBy accept x = At x
+judgedBy (refuse k p) x = Fault k p
+
+-- the first j entries
+unfoldable pub earlier : List ℕ → ℕ → ℕ → List Ref
+earlier f base zero = []
+earlier f base (suc j) = earlier f base j ++ (refOf base (chunksFrom f base) (entryIn (drop (place j) f)) ∷ [])
+
+-- entries i and j have the same usage and number
+abbrev pub samePair : List ℕ → ℕ → ℕ → Bool
+samePair f i j = eqb (usageAt f (place i)) (usageAt f (place j)) && eqb (numberAt f (place i)) (numberAt f (place j))
+
+-- 12 to 16 of n entries from entry j on
+unfoldable pub entriesFrom : List ℕ → ℕ → ℕ → ℕ → Verdict
+entriesFrom f base j n = entriesFault plainRules base (chunksFrom f base) (earlier f base j) (place j) (entriesIn n (drop (place j) f))
+
+-- the entries before j that have its usage have numbers below top
+abbrev pub Topped : List ℕ → ℕ → ℕ → Type 0
+Topped f j top = (i : ℕ) → i < j → usageAt f (place i) ≡ usageAt f (place j) → numberAt f (place i) < top
+
+-- tops by usage
+abbrev pub slotOf : ℕ → ℕ
+slotOf u = u / 16777216 % 8
+
+abbrev pub Below : List ℕ → List ℕ → ℕ → Type 0
+Below f tops j = (i : ℕ) → i < j → numberAt f (place i) < getD tops (slotOf (usageAt f (place i))) 0

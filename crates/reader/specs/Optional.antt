@@ -1,0 +1,46 @@
+-- Rules 17 to 19 from a chunk on, and the frontispiece's picture by the lookup.
+use Prim.Native.Nat.{ℕ, zero, suc, _+_, _*_, _≤_}
+use mathlib.Core.Path.{_≡_}
+use mathlib.Core.List.{List, [], _∷_}
+use mathlib.Core.Bool.{Bool, true, false, _&&_, _||_, not, cond}
+use lib.ListN.{length, drop}
+use lib.Dec.{eqb}
+use Rattle.blorb.specs.Bytes.{rd32}
+use Rattle.blorb.specs.Format.{Chunk, size, entriesIn}
+use Rattle.blorb.specs.Verdict.{Verdict, accept, refuse, _then_, check}
+use Rattle.blorb.specs.Rules.{Pict, Rect, RelN, Fspc}
+use Rattle.reader.specs.Walk.{chunkAt, chunksFrom, walkFrom}
+use Rattle.reader.specs.Entries.{place, entriesFrom}
+use Rattle.reader.specs.declared.entries.Hit.{Hit}
+use Rattle.reader.specs.declared.entries.Hit.the-variants.{At, Nothing}
+use Rattle.reader.specs.Reading.{hitIn}
+
+abbrev pub pictureBy : List ℕ → Hit → Bool
+pictureBy f (At x) = not (eqb (rd32 (drop x f)) Rect)
+pictureBy f Nothing = false
+
+-- the picture n is in the index of count entries, and isn't a 'Rect'
+unfoldable pub pictured : List ℕ → ℕ → ℕ → Bool
+pictured f count n = pictureBy f (hitIn Pict n (entriesIn count (drop 24 f)))
+
+module _ (pic : ℕ → Bool) where
+  -- 17 to 19 of one chunk; a and b tell whether a 'RelN' and an 'Fspc' stand before it
+  unfoldable pub oneRule : Bool → Bool → ℕ → Chunk → Verdict
+  oneRule a b at c =
+      cond (eqb (c .type) RelN) (check (not a) 17 at then check (eqb (length (c .body)) 2) 18 (at + 4))
+      (cond (eqb (c .type) Fspc) ((check (not b) 17 at then check (eqb (length (c .body)) 4) 18 (at + 4)) then check (pic (rd32 (c .body))) 19 (at + 8)) accept)
+
+  unfoldable pub rulesFrom : Bool → Bool → ℕ → List Chunk → Verdict
+  rulesFrom a b at [] = accept
+  rulesFrom a b at (c ∷ cs) = oneRule a b at c then rulesFrom (a || eqb (c .type) RelN) (b || eqb (c .type) Fspc) (at + size c) cs
+
+-- of all chunks behind an index of count entries
+unfoldable pub optionalFault : List ℕ → ℕ → Verdict
+optionalFault f count = rulesFrom (pictured f count) false false (place count) (chunksFrom f (place count))
+
+-- what is known once rules 1 to 16 hold of a file with count entries
+pub record Judged (f : List ℕ) (count : ℕ) : Type 0 where
+  pub few : count ≤ 4096
+  pub room : place count ≤ length f
+  pub walks : walkFrom f (place count) ≡ accept
+  pub entries : entriesFrom f (place count) 0 count ≡ accept

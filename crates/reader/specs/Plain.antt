@@ -1,0 +1,15 @@
+-- Chunks that no rule but those of chunks and entries speaks of.
+use mathlib.Core.Path.{_≡_}
+use Prim.Native.Nat.{ℕ}
+use mathlib.Core.List.{List, [], _∷_}
+use mathlib.Core.Bool.{Bool, true, false, _&&_, _||_, not}
+use lib.Dec.{eqb}
+use Rattle.blorb.specs.Format.{RIdx, Chunk}
+use Rattle.blorb.specs.Rules.{RelN, Fspc}
+
+abbrev pub ordinaryType : ℕ → Bool
+ordinaryType t = not (eqb t RIdx || (eqb t RelN || eqb t Fspc))
+
+unfoldable pub allPlain : List Chunk → Bool
+allPlain [] = true
+allPlain (c ∷ cs) = ordinaryType (c .type) && allPlain cs

@@ -1,0 +1,84 @@
+-- What the reader answers (01, Found resources), as functions of the file's bytes.
+use Prim.Native.Nat.{ℕ, zero, suc, _+_, _*_, _≤_, _<_}
+use mathlib.Core.List.{List, [], _∷_}
+use mathlib.Core.Bool.{Bool, true, false, _&&_}
+use lib.ListN.{length, getD, take, drop}
+use lib.Dec.{eqb, ltb}
+use Rattle.blorb.specs.Bytes.{rd32}
+use Rattle.blorb.specs.Format as format
+use Rattle.blorb.specs.Format.{Chunk, chunksOf, entriesOf, chunkIn}
+use Rattle.blorb.specs.Verdict.{Verdict, accept, refuse, noChunk}
+use Rattle.blorb.specs.Rules.{plainVerdict}
+use Rattle.reader.specs.Walk.{chunkAt}
+use Rattle.blorb.specs.declared.Usage.{Usage}
+use Rattle.blorb.specs.declared.Known.{Known}
+use Rattle.blorb.specs.declared.Known.the-variants.{Is, Unknown}
+use Rattle.blorb.specs.declared.Entry.{Entry}
+use Rattle.blorb.specs.Usages.{usageOf}
+use Rattle.reader.specs.Entries.{place}
+use Rattle.reader.specs.declared.Reading.{Reading}
+use Rattle.reader.specs.declared.Reading.the-variants.{Accepted, Refused}
+use Rattle.reader.specs.declared.Asked.{Asked}
+use Rattle.reader.specs.declared.Asked.the-variants.{Given, Refused as Withheld}
+use Rattle.reader.specs.declared.entries.Hit.{Hit}
+use Rattle.reader.specs.declared.entries.Hit.the-variants.{At, Nothing}
+use Rattle.reader.specs.declared.Looked.{Looked}
+use Rattle.reader.specs.declared.Looked.the-variants.{Found, Refused as Missing}
+
+-- the entries of the file's index
+unfoldable pub indexOf : List ℕ → List format.Entry
+indexOf f = entriesOf (getD (chunksOf f) 0 noChunk)
+
+-- the verdict, with the length and the count where it accepts
+abbrev pub readBy : Verdict → ℕ → ℕ → Reading
+readBy accept l n = Accepted l n
+readBy (refuse k p) l n = Refused k p
+
+unfoldable pub readOf : List ℕ → Reading
+readOf f = readBy (plainVerdict f) (length f) (length (indexOf f))
+
+-- an entry with its usage as one of the four kinds; p is its place
+abbrev pub givenBy : Known → ℕ → ℕ → ℕ → Asked
+givenBy (Is u) n x p = Given (record { usage = u; number = n; start = x })
+givenBy Unknown n x p = Withheld 12 p
+
+abbrev pub noEntry : format.Entry
+noEntry = record { usage = 0; number = 0; start = 0 }
+
+abbrev pub entryBy : Bool → format.Entry → ℕ → Asked
+entryBy true e i = givenBy (usageOf (e .usage)) (e .number) (e .start) (place i)
+entryBy false e i = Withheld 22 0
+
+abbrev pub askedBy : Verdict → List format.Entry → ℕ → Asked
+askedBy accept es i = entryBy (ltb i (length es)) (getD es i noEntry) i
+askedBy (refuse k p) es i = Withheld k p
+
+-- entry i, or the refusal
+unfoldable pub entryOf : List ℕ → ℕ → Asked
+entryOf f i = askedBy (plainVerdict f) (indexOf f) i
+
+-- the start of the first entry with this usage and number
+abbrev pub pickHit : Bool → ℕ → Hit → Hit
+pickHit true x h = At x
+pickHit false x h = h
+
+unfoldable pub hitIn : ℕ → ℕ → List format.Entry → Hit
+hitIn u n [] = Nothing
+hitIn u n (e ∷ es) = pickHit (eqb (e .usage) u && eqb (e .number) n) (e .start) (hitIn u n es)
+
+-- the chunk that begins at x: its type, and where its data is
+abbrev pub foundBy : List ℕ → Hit → Looked
+foundBy f (At x) = Found (chunkAt f x .type) (x + 8) (length (chunkAt f x .body))
+foundBy f Nothing = Missing 22 0
+
+abbrev pub lookedBy : Verdict → Looked → Looked
+lookedBy accept l = l
+lookedBy (refuse k p) l = Missing k p
+
+unfoldable pub lookupOf : List ℕ → ℕ → ℕ → Looked
+lookupOf f u n = lookedBy (plainVerdict f) (foundBy f (hitIn u n (indexOf f)))
+
+-- the part of the file that an answer names: empty where it refuses
+abbrev pub partOf : Looked → List ℕ → List ℕ
+partOf (Found t a m) f = take m (drop a f)
+partOf (Missing k p) f = []

@@ -1,0 +1,44 @@
+-- Positions in a file: what stands from an offset on. The loops of the reader know only where they stand.
+use Prim.Native.Nat.{ℕ, zero, suc, _+_, _*_, _%_, _≤_, _<_}
+use mathlib.Core.Path.{_≡_}
+use mathlib.Core.List.{List, [], _∷_}
+use mathlib.Core.Bool.{Bool, true, false, _&&_}
+use lib.ListN.{length, drop}
+use lib.Dec.{eqb, leb, ltb}
+use Rattle.blorb.specs.Bytes.{rd32}
+use Rattle.blorb.specs.Format.{FORM, IFRS, RIdx, Chunk, size, chunkIn, chunksIn, isStart}
+use Rattle.blorb.specs.Verdict.{Verdict, accept, refuse, _then_, check, walkFault}
+use Rattle.reader.specs.declared.chunks.Check.{Check}
+use Rattle.reader.specs.declared.chunks.Check.the-variants.{Good, Refused}
+
+-- the chunk at offset at, and the offset behind it
+abbrev pub chunkAt : List ℕ → ℕ → Chunk
+chunkAt f at = chunkIn (drop at f)
+
+abbrev pub nextAt : List ℕ → ℕ → ℕ
+nextAt f at = at + size (chunkAt f at)
+
+-- where the code finds the next chunk
+abbrev pub skipAt : List ℕ → ℕ → ℕ
+skipAt f at = at + (8 + (rd32 (drop (at + 4) f) + rd32 (drop (at + 4) f) % 2))
+
+-- the chunks from offset at on
+unfoldable pub chunksFrom : List ℕ → ℕ → List Chunk
+chunksFrom f at = chunksIn (length f) (drop at f)
+
+-- 6 and 7 of them
+unfoldable pub walkFrom : List ℕ → ℕ → Verdict
+walkFrom f at = walkFault (length f) at (drop at f)
+
+-- 8
+unfoldable pub firstFault : List ℕ → Verdict
+firstFault f = check (ltb 12 (length f) && eqb (rd32 (drop 12 f)) RIdx) 8 12
+
+-- a check's answer as a verdict
+abbrev pub verdictOf : Check → Verdict
+verdictOf Good = accept
+verdictOf (Refused k p) = refuse k p
+
+-- what is found from base on is what is found from g on, for a start that is not before g
+abbrev pub Reached : List ℕ → ℕ → ℕ → Type 0
+Reached f base g = (x : ℕ) → g ≤ x → isStart x base (chunksFrom f base) ≡ isStart x g (chunksFrom f g)

@@ -1,0 +1,219 @@
+// The chunks of a Blorb file: its header, the walk over its chunks, and the chunk at a start.
+ghost use mathlib.Core.Path.{_≡_};
+ghost use Prim.Native.Nat.{_+_, _≤_, _<_, _^_};
+ghost use lib.ListN.{length, drop};
+ghost use mathlib.Core.Bool.{true, false};
+ghost use Rattle.reader.specs.Plain.{ordinaryType, allPlain};
+ghost use Rattle.blorb.specs.Verdict.{accept, headFault, chunkFault, secondIndex};
+ghost use Rattle.blorb.specs.Format.{isStart};
+ghost use Rattle.reader.specs.Walk.{skipAt, chunksFrom, walkFrom, firstFault, verdictOf};
+
+pub(crate) const FORM: u64 = 0x464f524d;
+
+pub(crate) const IFRS: u64 = 0x49465253;
+
+pub(crate) const RIDX: u64 = 0x52496478;
+
+// The answer of a part of the rules: nothing against the file, or the refusal.
+pub enum Check {
+    Good,
+    Refused { number: u64, place: usize },
+}
+
+// Refusals 1 to 5: the file's length and its header.
+pub(crate) fn head(s: &[u8]) -> Check
+    ensures { λ r. ⌜ verdictOf r ≡ headFault (now (s .entry)) ⌝ }
+{
+    if 16777216 < s.len() {
+        return Check::Refused {
+            number: 1,
+            place: 0,
+        };
+    }
+    if s.len() < 12 {
+        return Check::Refused {
+            number: 2,
+            place: 0,
+        };
+    }
+    if blorb::be32_at(s, 0) != FORM {
+        return Check::Refused {
+            number: 3,
+            place: 0,
+        };
+    }
+    if blorb::be32_at(s, 8) != IFRS {
+        return Check::Refused {
+            number: 4,
+            place: 8,
+        };
+    }
+    if 8 + blorb::be32_at(s, 4) as usize != s.len() {
+        return Check::Refused {
+            number: 5,
+            place: 4,
+        };
+    }
+    Check::Good
+}
+
+// Refusals 6 and 7 of the chunk at `at`.
+fn chunk(s: &[u8], at: usize) -> Check
+    requires { ⌜ at < length (now s) ⌝ }
+    ensures { λ r. ⌜ verdictOf r ≡ chunkFault at (drop at (now (s .entry))) ⌝ }
+{
+    if s.len() - at < 8 {
+        return Check::Refused {
+            number: 6,
+            place: at,
+        };
+    }
+    let m = blorb::be32_at(s, at + 4) as usize;
+    let end = at + (8 + m);
+    if s.len() < end + m % 2 {
+        return Check::Refused {
+            number: 6,
+            place: at,
+        };
+    }
+    if m % 2 == 0 {
+        return Check::Good;
+    }
+    if s[end] == 0 {
+        return Check::Good;
+    }
+    Check::Refused {
+        number: 7,
+        place: end,
+    }
+}
+
+// Where the chunk behind the one at `at` begins.
+pub(crate) fn skip(s: &[u8], at: usize) -> usize
+    requires { ⌜ at + 8 ≤ length (now s) ⌝ }
+    ensures { λ r. ⌜ r ≡ skipAt (now (s .entry)) at ⌝ }
+{
+    let m = blorb::be32_at(s, at + 4) as usize;
+    at + (8 + (m + m % 2))
+}
+
+// The answer of the walk; `plain` is true only where no chunk walked is an index, a 'RelN' or an 'Fspc'.
+pub struct Walked {
+    pub check: Check,
+    pub plain: bool,
+}
+
+fn ordinary(t: u64) -> bool
+    ensures { λ r. ⌜ r ≡ ordinaryType t ⌝ }
+{
+    !((t == RIDX) | ((t == 0x52656c4e) | (t == 0x46737063)))
+}
+
+// Refusals 6 and 7: the walk over the chunks from `from` on.
+fn walk_rest(s: &[u8], from: usize) -> Walked
+    ensures { λ r. ⌜ (verdictOf (r .check) ≡ walkFrom (now (s .entry)) from) × (r .plain ≡ true → allPlain (chunksFrom (now (s .entry)) from) ≡ true) ⌝ }
+{
+    let mut at = from;
+    let mut plain = true;
+    while at < s.len() {
+        match chunk(s, at) {
+            Check::Good => {
+                plain = plain & ordinary(blorb::be32_at(s, at));
+                at = skip(s, at);
+            }
+            Check::Refused { number, place } => {
+                return Walked {
+                    check: Check::Refused { number, place },
+                    plain: false,
+                };
+            }
+        }
+    }
+    Walked {
+        check: Check::Good,
+        plain,
+    }
+}
+
+// Refusals 6 and 7: the walk over all chunks.
+pub(crate) fn walk(s: &[u8]) -> Walked
+    ensures { λ r. ⌜ (verdictOf (r .check) ≡ walkFrom (now (s .entry)) 12) × (r .plain ≡ true → allPlain (chunksFrom (now (s .entry)) (skipAt (now (s .entry)) 12)) ≡ true) ⌝ }
+{
+    if s.len() <= 12 {
+        return Walked {
+            check: Check::Good,
+            plain: false,
+        };
+    }
+    match chunk(s, 12) {
+        Check::Refused { number, place } => Walked {
+            check: Check::Refused { number, place },
+            plain: false,
+        },
+        Check::Good => walk_rest(s, skip(s, 12)),
+    }
+}
+
+// Refusal 8: the first chunk is the index.
+pub(crate) fn first(s: &[u8]) -> Check
+    requires { ⌜ walkFrom (now s) 12 ≡ accept ⌝ }
+    ensures { λ r. ⌜ verdictOf r ≡ firstFault (now (s .entry)) ⌝ }
+{
+    if s.len() <= 12 {
+        return Check::Refused {
+            number: 8,
+            place: 12,
+        };
+    }
+    if blorb::be32_at(s, 12) != RIDX {
+        return Check::Refused {
+            number: 8,
+            place: 12,
+        };
+    }
+    Check::Good
+}
+
+// Refusal 9: no chunk from `from` on is an index.
+pub(crate) fn second(s: &[u8], from: usize) -> Check
+    requires { ⌜ walkFrom (now s) from ≡ accept ⌝ }
+    ensures { λ r. ⌜ verdictOf r ≡ secondIndex from (chunksFrom (now (s .entry)) from) ⌝ }
+{
+    let mut at = from;
+    while at < s.len() {
+        if blorb::be32_at(s, at) == RIDX {
+            return Check::Refused {
+                number: 9,
+                place: at,
+            };
+        }
+        at = skip(s, at);
+    }
+    Check::Good
+}
+
+// The same, where it may be known that there is none.
+pub(crate) fn second_if(plain: bool, s: &[u8], from: usize) -> Check
+    requires { ⌜ (walkFrom (now s) from ≡ accept) × (plain ≡ true → allPlain (chunksFrom (now s) from) ≡ true) ⌝ }
+    ensures { λ r. ⌜ verdictOf r ≡ secondIndex from (chunksFrom (now (s .entry)) from) ⌝ }
+{
+    if plain {
+        return Check::Good;
+    }
+    second(s, from)
+}
+
+// Whether a chunk from `from` on begins at `start`.
+pub(crate) fn begins(s: &[u8], from: usize, start: usize) -> bool
+    requires { ⌜ walkFrom (now s) from ≡ accept ⌝ }
+    ensures { λ r. ⌜ r ≡ isStart start from (chunksFrom (now (s .entry)) from) ⌝ }
+{
+    let mut at = from;
+    while at < s.len() {
+        if at == start {
+            return true;
+        }
+        at = skip(s, at);
+    }
+    false
+}

@@ -1,0 +1,218 @@
+// The entries of an index, and refusals 12 to 16.
+use crate::chunks;
+use crate::chunks::Check;
+use blorb::Known;
+use blorb::Usage;
+ghost use mathlib.Core.Path.{_≡_};
+ghost use Prim.Native.Nat.{_+_, _*_, _≤_, _<_, _^_};
+ghost use mathlib.Core.Bool.{_||_, not, false};
+ghost use lib.ListN.{length, drop};
+ghost use lib.Dec.{eqb};
+ghost use Rattle.blorb.specs.Verdict.{accept, pairIn, indexFault};
+ghost use Rattle.blorb.specs.Format.{isStart, entriesIn};
+ghost use Rattle.blorb.specs.Usages.{codeOf};
+ghost use Rattle.blorb.specs.declared.Usage.the-variants.{Exec};
+ghost use Rattle.reader.specs.Walk.{chunkAt, chunksFrom, walkFrom, verdictOf, Reached};
+ghost use Rattle.reader.specs.Entries.{startAt, place, typedAt, entryFault, judgedBy, samePair, earlier, usageAt, numberAt, Topped, slotOf, entriesFrom};
+ghost use Rattle.reader.specs.Reading.{hitIn};
+
+// An entry's judgement: its start, where a chunk begins, or its fault.
+pub enum Judged {
+    At(usize),
+    Fault { number: u64, place: usize },
+}
+
+pub enum Hit {
+    At(usize),
+    Nothing,
+}
+
+// Refusals 10 and 11: the index's length and count.
+pub(crate) fn shape(s: &[u8]) -> Check
+    requires { ⌜ (12 < length (now s)) × (walkFrom (now s) 12 ≡ accept) ⌝ }
+    ensures { λ r. ⌜ verdictOf r ≡ indexFault (chunkAt (now (s .entry)) 12 .body) ⌝ }
+{
+    let m = blorb::be32_at(s, 16);
+    if m < 4 {
+        return Check::Refused {
+            number: 10,
+            place: 16,
+        };
+    }
+    let count = blorb::be32_at(s, 20);
+    if m != 4 + 12 * count {
+        return Check::Refused {
+            number: 10,
+            place: 16,
+        };
+    }
+    if 4096 < count {
+        return Check::Refused {
+            number: 11,
+            place: 20,
+        };
+    }
+    Check::Good
+}
+
+// Where the chunk of the entry (code, number) begins, among `count` entries.
+pub(crate) fn find(s: &[u8], count: usize, code: u64, number: u64) -> Hit
+    requires { ⌜ (count ≤ 4096) × (place count ≤ length (now s)) ⌝ }
+    ensures { λ r. ⌜ r ≡ hitIn code number (entriesIn count (drop 24 (now (s .entry)))) ⌝ }
+{
+    let mut i: usize = 0;
+    while i < count {
+        let p = 24 + 12 * i;
+        if (blorb::be32_at(s, p) == code) & (blorb::be32_at(s, p + 4) == number) {
+            return Hit::At(blorb::be32_at(s, p + 8) as usize);
+        }
+        i += 1;
+    }
+    Hit::Nothing
+}
+
+fn numbered(code: u64, number: u64) -> bool
+    ensures { λ r. ⌜ r ≡ (not (eqb code (codeOf Exec)) || eqb number 0) ⌝ }
+{
+    (code != Usage::EXEC) | (number == 0)
+}
+
+// The pair of the entry at `p` as one number.
+fn pair_key(s: &[u8], p: usize) -> u64
+    requires { ⌜ p + 8 ≤ length (now s) ⌝ }
+    ensures { λ r. ⌜ (r ≡ usageAt (now (s .entry)) p * 4294967296 + numberAt (now (s .entry)) p) × (numberAt (now (s .entry)) p < 4294967296) ⌝ }
+{
+    blorb::be32_at(s, p) * 4294967296 + blorb::be32_at(s, p + 4)
+}
+
+fn same_pair(s: &[u8], i: usize, j: usize) -> bool
+    requires { ⌜ (place i + 8 ≤ length (now s)) × (place j + 8 ≤ length (now s)) ⌝ }
+    ensures { λ r. ⌜ r ≡ samePair (now (s .entry)) i j ⌝ }
+{
+    pair_key(s, 24 + 12 * i) == pair_key(s, 24 + 12 * j)
+}
+
+// A number above `n`, and not below `top`.
+fn above(top: u64, n: u64) -> u64
+    requires { ⌜ n < 2 ^ 32 ⌝ }
+    ensures { λ r. ⌜ (n < r) × (top ≤ r) ⌝ }
+{
+    if n < top {
+        return top;
+    }
+    n + 1
+}
+
+// The place of a usage among the eight tops.
+fn slot(code: u64) -> usize
+    ensures { λ r. ⌜ (r ≡ slotOf code) × (r < 8) ⌝ }
+{
+    (code / 16777216 % 8) as usize
+}
+
+// The first entry that could have the pair of entry `j`: none before it where its number is not below `top`,
+// which is above all earlier numbers of its usage.
+fn first_rival(s: &[u8], base: usize, j: usize, top: u64) -> usize
+    requires { ⌜ (place j + 12 ≤ length (now s)) × Topped (now s) j top ⌝ }
+    ensures { λ r. ⌜ (r ≤ j) × (pairIn (usageAt (now (s .entry)) (place j)) (numberAt (now (s .entry)) (place j)) (earlier (now (s .entry)) base r) ≡ false) ⌝ }
+{
+    if top <= blorb::be32_at(s, 24 + 12 * j + 4) {
+        return j;
+    }
+    0
+}
+
+// Rule 5: the chunk at `at` has a type that the usage allows.
+fn typed(s: &[u8], usage: Usage, at: usize) -> bool
+    requires { ⌜ (at < length (now s)) × (walkFrom (now s) at ≡ accept) ⌝ }
+    ensures { λ r. ⌜ r ≡ typedAt (now (s .entry)) (codeOf usage) at ⌝ }
+{
+    let from = at + 8;
+    let to = from + blorb::be32_at(s, at + 4) as usize;
+    usage.allows(blorb::be32_at(s, at), &s[from..to])
+}
+
+// Whether a chunk behind the index begins at `start`: the walk goes on from `from`, where one begins, if `start` is not before it.
+pub(crate) fn begins_behind(s: &[u8], base: usize, from: usize, start: usize) -> bool
+    requires { ⌜ (walkFrom (now s) base ≡ accept) × (walkFrom (now s) from ≡ accept) × Reached (now s) base from ⌝ }
+    ensures { λ r. ⌜ r ≡ isStart start base (chunksFrom (now (s .entry)) base) ⌝ }
+{
+    if from <= start {
+        return chunks::begins(s, from, start);
+    }
+    chunks::begins(s, base, start)
+}
+
+// Refusals 12 to 15 of the entry at `p`.
+fn judge(s: &[u8], base: usize, from: usize, p: usize) -> Judged
+    requires { ⌜ (p + 12 ≤ length (now s)) × (walkFrom (now s) base ≡ accept) × (walkFrom (now s) from ≡ accept) × Reached (now s) base from ⌝ }
+    ensures { λ r. ⌜ r ≡ judgedBy (entryFault (now (s .entry)) base p) (startAt (now (s .entry)) p) ⌝ }
+{
+    let code = blorb::be32_at(s, p);
+    let Known::Is(usage) = Usage::of_code(code) else {
+        return Judged::Fault {
+            number: 12,
+            place: p,
+        };
+    };
+    let start = blorb::be32_at(s, p + 8) as usize;
+    if !begins_behind(s, base, from, start) {
+        return Judged::Fault {
+            number: 13,
+            place: p + 8,
+        };
+    }
+    if !typed(s, usage, start) {
+        return Judged::Fault {
+            number: 14,
+            place: p,
+        };
+    }
+    if !numbered(code, blorb::be32_at(s, p + 4)) {
+        return Judged::Fault {
+            number: 15,
+            place: p + 4,
+        };
+    }
+    Judged::At(start)
+}
+
+// Refusals 12 to 16, entry by entry. For each usage a number above all of its numbers so far is kept, so that
+// the search among the earlier entries runs only for an entry that could repeat one of them.
+pub(crate) fn entries(s: &[u8], count: usize) -> Check
+    requires { ⌜ (count ≤ 4096) × (place count ≤ length (now s)) × (walkFrom (now s) (place count) ≡ accept) ⌝ }
+    ensures { λ r. ⌜ verdictOf r ≡ entriesFrom (now (s .entry)) (place count) 0 count ⌝ }
+{
+    let base = 24 + 12 * count;
+    let mut answer = Check::Good;
+    let mut tops = [0u64; 8];
+    let mut found = base;
+    let mut j: usize = 0;
+    'entries: while j < count {
+        let p = 24 + 12 * j;
+        match judge(s, base, found, p) {
+            Judged::Fault { number, place } => {
+                return Check::Refused { number, place };
+            }
+            Judged::At(start) => {
+                found = start;
+            }
+        }
+        let k = slot(blorb::be32_at(s, p));
+        let top = tops[k];
+        let mut i = first_rival(s, base, j, top);
+        while i < j {
+            if same_pair(s, i, j) {
+                answer = Check::Refused {
+                    number: 16,
+                    place: p,
+                };
+                break 'entries;
+            }
+            i += 1;
+        }
+        tops[k] = above(top, blorb::be32_at(s, p + 4));
+        j += 1;
+    }
+    answer
+}

@@ -1,0 +1,155 @@
+// The reader of a Blorb file: its verdict, its entries, and the lookup of a resource.
+use blorb::Entry;
+use blorb::Known;
+use blorb::Usage;
+use chunks::Check;
+use entries::Hit;
+
+mod chunks;
+mod entries;
+mod optional;
+
+ghost use mathlib.Core.Path.{_≡_};
+ghost use Rattle.blorb.specs.Bytes.{rd32};
+ghost use Rattle.reader.specs.Reading.{readOf, entryOf, lookupOf, partOf};
+
+pub enum Reading {
+    Accepted { length: usize, count: usize },
+    Refused { number: u64, place: usize },
+}
+
+pub enum Asked {
+    Given(Entry),
+    Refused { number: u64, place: usize },
+}
+
+pub enum Looked {
+    Found {
+        kind: u32,
+        start: usize,
+        length: usize,
+    },
+    Refused {
+        number: u64,
+        place: usize,
+    },
+}
+
+// The reader's verdict: the file's length and entry count, or the first refusal of the table.
+pub fn read(file: &[u8]) -> Reading
+    ensures { λ r. ⌜ r ≡ readOf (now (file .entry)) ⌝ }
+{
+    if let Check::Refused { number, place } = chunks::head(file) {
+        return Reading::Refused { number, place };
+    }
+    let walked = chunks::walk(file);
+    let fault = walked.check;
+    if let Check::Refused { number, place } = fault {
+        return Reading::Refused { number, place };
+    }
+    if let Check::Refused { number, place } = chunks::first(file) {
+        return Reading::Refused { number, place };
+    }
+    if let Check::Refused { number, place } = chunks::second_if(
+        walked.plain,
+        file,
+        chunks::skip(file, 12),
+    ) {
+        return Reading::Refused { number, place };
+    }
+    if let Check::Refused { number, place } = entries::shape(file) {
+        return Reading::Refused { number, place };
+    }
+    let count = blorb::be32_at(file, 20) as usize;
+    if let Check::Refused { number, place } = entries::entries(file, count) {
+        return Reading::Refused { number, place };
+    }
+    if let Check::Refused { number, place } = optional::optional_if(walked.plain, file, count) {
+        return Reading::Refused { number, place };
+    }
+    Reading::Accepted {
+        length: file.len(),
+        count,
+    }
+}
+
+// Entry i of the index: its usage, number and start.
+pub fn entry(file: &[u8], i: usize) -> Asked
+    ensures { λ r. ⌜ r ≡ entryOf (now (file .entry)) i ⌝ }
+{
+    match read(file) {
+        Reading::Refused { number, place } => Asked::Refused { number, place },
+        Reading::Accepted { length: _, count } => {
+            if count <= i {
+                return Asked::Refused {
+                    number: 22,
+                    place: 0,
+                };
+            }
+            let p = 24 + 12 * i;
+            let Known::Is(usage) = Usage::of_code(blorb::be32_at(file, p)) else {
+                return Asked::Refused {
+                    number: 12,
+                    place: p,
+                };
+            };
+            let number = blorb::be32_at(file, p + 4) as u32;
+            let start = blorb::be32_at(file, p + 8) as u32;
+            Asked::Given(Entry {
+                usage,
+                number,
+                start,
+            })
+        }
+    }
+}
+
+fn code(usage: [u8; 4]) -> u64
+    ensures { λ r. ⌜ r ≡ rd32 usage ⌝ }
+{
+    blorb::be32_at(&usage, 0)
+}
+
+// The chunk of the entry (usage, number): its type, and where its data is.
+pub fn lookup(file: &[u8], usage: [u8; 4], number: u32) -> Looked
+    ensures { λ r. ⌜ r ≡ lookupOf (now (file .entry)) (rd32 usage) number ⌝ }
+{
+    match read(file) {
+        Reading::Refused { number, place } => Looked::Refused { number, place },
+        Reading::Accepted { length: _, count } => {
+            let Hit::At(at) = entries::find(file, count, code(usage), number as u64) else {
+                return Looked::Refused {
+                    number: 22,
+                    place: 0,
+                };
+            };
+            let kind = blorb::be32_at(file, at) as u32;
+            let length = blorb::be32_at(file, at + 4) as usize;
+            Looked::Found {
+                kind,
+                start: at + 8,
+                length,
+            }
+        }
+    }
+}
+
+// The data that the lookup names: empty where it refuses.
+pub fn data(file: &[u8], usage: [u8; 4], number: u32) -> &[u8]
+    ensures { λ r. ⌜ now r ≡ partOf (lookupOf (now (file .entry)) (rd32 usage) number) (now (file .entry)) ⌝ }
+{
+    match lookup(file, usage, number) {
+        Looked::Found {
+            kind: _,
+            start,
+            length,
+        } => {
+            let end = start + length;
+            &file[start..end]
+        }
+        Looked::Refused {
+            number: _,
+            place: _,
+        } => &file[0..0],
+    }
+}

@@ -1,0 +1,115 @@
+// Refusals 17 to 19: the optional chunks 'RelN' and 'Fspc'.
+use crate::chunks;
+use crate::chunks::Check;
+use crate::entries::Hit;
+use crate::entries::find;
+use blorb::Usage;
+ghost use mathlib.Core.Path.{_≡_};
+ghost use Prim.Native.Nat.{_<_};
+ghost use lib.ListN.{length};
+ghost use lib.Dec.{eqb};
+ghost use mathlib.Core.Bool.{_||_, true};
+ghost use Rattle.blorb.specs.Verdict.{accept};
+ghost use Rattle.reader.specs.Plain.{allPlain};
+ghost use Rattle.reader.specs.Walk.{chunkAt, chunksFrom, walkFrom, verdictOf};
+ghost use Rattle.reader.specs.Entries.{place};
+ghost use Rattle.reader.specs.Optional.{pictured, oneRule, optionalFault, Judged};
+
+const RELN: u64 = 0x52656c4e;
+
+const FSPC: u64 = 0x46737063;
+
+const RECT: u64 = 0x52656374;
+
+// Refusals 17 to 19 of the chunk at `at`; `reln` and `fspc` tell whether a 'RelN' and an 'Fspc' stand before it.
+fn optional_chunk(s: &[u8], count: usize, reln: bool, fspc: bool, at: usize) -> Check
+    requires { ⌜ Judged (now s) count × (at < length (now s)) × (walkFrom (now s) at ≡ accept) ⌝ }
+    ensures { λ r. ⌜ verdictOf r ≡ oneRule (pictured (now (s .entry)) count) reln fspc at (chunkAt (now (s .entry)) at) ⌝ }
+{
+    let t = blorb::be32_at(s, at);
+    let m = blorb::be32_at(s, at + 4);
+    if t == RELN {
+        if reln {
+            return Check::Refused {
+                number: 17,
+                place: at,
+            };
+        }
+        if m != 2 {
+            return Check::Refused {
+                number: 18,
+                place: at + 4,
+            };
+        }
+        return Check::Good;
+    }
+    if t != FSPC {
+        return Check::Good;
+    }
+    if fspc {
+        return Check::Refused {
+            number: 17,
+            place: at,
+        };
+    }
+    if m != 4 {
+        return Check::Refused {
+            number: 18,
+            place: at + 4,
+        };
+    }
+    let Hit::At(start) = find(s, count, Usage::PICT, blorb::be32_at(s, at + 8)) else {
+        return Check::Refused {
+            number: 19,
+            place: at + 8,
+        };
+    };
+    if blorb::be32_at(s, start) == RECT {
+        return Check::Refused {
+            number: 19,
+            place: at + 8,
+        };
+    }
+    Check::Good
+}
+
+fn or_is(before: bool, t: u64, kind: u64) -> bool
+    ensures { λ r. ⌜ r ≡ (before || eqb t kind) ⌝ }
+{
+    before | (t == kind)
+}
+
+// Refusals 17 to 19: the optional chunks, by file position.
+fn optional(s: &[u8], count: usize) -> Check
+    requires { ⌜ Judged (now s) count ⌝ }
+    ensures { λ r. ⌜ verdictOf r ≡ optionalFault (now (s .entry)) count ⌝ }
+{
+    let mut at = 24 + 12 * count;
+    let mut reln = false;
+    let mut fspc = false;
+    while at < s.len() {
+        match optional_chunk(s, count, reln, fspc, at) {
+            Check::Refused { number, place } => {
+                return Check::Refused { number, place };
+            }
+            Check::Good => {
+                let t = blorb::be32_at(s, at);
+                reln = or_is(reln, t, RELN);
+                fspc = or_is(fspc, t, FSPC);
+                at = chunks::skip(s, at);
+            }
+        }
+    }
+    Check::Good
+}
+
+// The same, where it may be known that there is no such chunk.
+pub(crate) fn optional_if(plain: bool, s: &[u8], count: usize) -> Check
+    requires { ⌜ Judged (now s) count × (plain ≡ true → allPlain (chunksFrom (now s) (place count)) ≡ true) ⌝ }
+    ensures { λ r. ⌜ verdictOf r ≡ optionalFault (now (s .entry)) count ⌝ }
+{
+    if plain {
+        return Check::Good;
+    }
+    optional(s, count)
+}
