@@ -11,7 +11,8 @@ use lib.Dec.{eqb, leb, ltb}
 use borrow.Author.Tests.{eqb-true, leb-true}
 use Rattle.blorb.specs.Bytes.{be32, rd32}
 use Rattle.blorb.proofs.ByteLaws.{length-be32, be32-rd32}
-use Rattle.blorb.specs.Format.{Ref, refOf, tag, FORM, IFRS, RIdx, Chunk, Entry, size, sized, total, chunkBytes, chunksBytes, fileBytes, chunkIn, chunksIn, chunksOf, entryIn, entriesIn, entryBytes, entriesBytes, indexChunk, entriesOf, isStart, placeOf}
+use Rattle.blorb.specs.Format.{Ref, refOf, Chunk, Entry, size, sized, total, chunkBytes, chunksBytes, fileBytes, chunkIn, chunksIn, chunksOf, entryIn, entriesIn, entryBytes, entriesBytes, indexChunk, entriesOf, isStart, placeOf}
+use Rattle.blorb.specs.Tags.{tag, FORM, IFRS, RIdx}
 use Rattle.blorb.specs.Verdict.{Rules, Verdict, accept, refuse, _then_, check, headFault, chunkFault, walkFault, secondIndex, indexFault, refFault, entriesFault, restFault, layoutFault, verdict, knownUsage, pairIn, noChunk}
 use Rattle.blorb.specs.Model.{Model, base, startAt, entryOf, file, model, modelOf}
 use Rattle.blorb.proofs.All.{All, all-take, all-drop, all-imp}

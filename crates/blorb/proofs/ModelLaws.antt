@@ -7,7 +7,8 @@ use native.Mathlib.Nat.{le-of-suc-le-suc, not-suc-le-zero, le-of-lt}
 use lib.ListN.{length, getD, take, drop, replicate, length-append, length-map}
 use Rattle.blorb.specs.Bytes.{be32, rd32}
 use Rattle.blorb.proofs.ByteLaws.{length-be32}
-use Rattle.blorb.specs.Format.{Ref, refOf, RIdx, Chunk, Entry, size, sized, total, fileBytes, chunksOf, entriesBytes, indexChunk, entriesOf, placeOf}
+use Rattle.blorb.specs.Format.{Ref, refOf, Chunk, Entry, size, sized, total, fileBytes, chunksOf, entriesBytes, indexChunk, entriesOf, placeOf}
+use Rattle.blorb.specs.Tags.{RIdx}
 use Rattle.blorb.specs.Model.{Model, base, startAt, entryOf, file, model, modelOf}
 use Rattle.blorb.proofs.All.{All, all-map}
 use Rattle.blorb.proofs.Sound.{W, ChunkOk, RefOk, Sound}

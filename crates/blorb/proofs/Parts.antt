@@ -8,7 +8,8 @@ use lib.ListN.{length, getD, take, drop, set, replicate, length-append, length-m
 use lib.Seq.{drop-at}
 use Rattle.blorb.specs.Bytes.{be32}
 use Rattle.blorb.proofs.ByteLaws.{length-be32}
-use Rattle.blorb.specs.Format.{FORM, IFRS, RIdx, Chunk, Entry, size, sized, total, chunkBytes, chunksBytes, fileBytes, entriesBytes, indexChunk}
+use Rattle.blorb.specs.Tags.{FORM, IFRS, RIdx}
+use Rattle.blorb.specs.Format.{Chunk, Entry, size, sized, total, chunkBytes, chunksBytes, fileBytes, entriesBytes, indexChunk}
 use Rattle.blorb.specs.Verdict.{noChunk}
 use Rattle.blorb.specs.Model.{Model, base, file}
 use Rattle.blorb.specs.Queries.{without}

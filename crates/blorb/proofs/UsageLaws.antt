@@ -9,9 +9,11 @@ use lib.Seq.{getD-take}
 use lib.Dec.{eqb, leb}
 use borrow.Author.Tests.{eq-eqb, ne-eqb, eqb-true, eqb-false, le-leb, lt-leb}
 use Rattle.blorb.specs.Bytes.{rd32}
-use Rattle.blorb.specs.Format.{FORM, Chunk}
+use Rattle.blorb.specs.Tags.{FORM}
+use Rattle.blorb.specs.Format.{Chunk}
 use Rattle.blorb.specs.Verdict.{knownUsage}
-use Rattle.blorb.specs.Rules.{plain, oneOf, AIFF}
+use Rattle.blorb.specs.Rules.{plain, oneOf}
+use Rattle.blorb.specs.Tags.{AIFF}
 use Rattle.blorb.specs.declared.Usage.{Usage}
 use Rattle.blorb.specs.declared.Usage.the-variants.{Pict, Snd, Data, Exec}
 use Rattle.blorb.specs.declared.Known.{Known}

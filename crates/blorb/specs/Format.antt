@@ -1,30 +1,18 @@
--- Chunks, index entries, and how they stand in a file's bytes (01, rules 1 to 3).
+-- Chunks and index entries, and how they stand in a file's bytes (01, rules 1 to 4): written, and read back without judging.
 use Prim.Native.Nat.{ℕ, zero, suc, _+_, _*_, _%_}
 use mathlib.Core.List.{List, [], _∷_, _++_}
 use mathlib.Core.Bool.{Bool, true, false, _||_, cond}
 use lib.ListN.{length, getD, take, drop, replicate}
 use lib.Dec.{eqb}
 use Rattle.blorb.specs.Bytes.{be32, rd32}
+use Rattle.blorb.specs.Tags.{FORM, IFRS, RIdx}
 
--- four characters as the number that their bytes hold
-abbrev pub tag : ℕ → ℕ → ℕ → ℕ → ℕ
-tag a b c d = a * 16777216 + b * 65536 + c * 256 + d
-
-abbrev pub FORM : ℕ
-FORM = tag 70 79 82 77
-
-abbrev pub IFRS : ℕ
-IFRS = tag 73 70 82 83
-
-abbrev pub RIdx : ℕ
-RIdx = tag 82 73 100 120
-
--- a chunk: its type and its data, without header and padding
+-- rule 2: "A chunk is a four-byte type, a four-byte data length m, m data bytes and, if m is odd, one zero byte." Here: its type and its data.
 pub record Chunk : Type 0 where
   pub type : ℕ
   pub body : List ℕ
 
--- an index entry as it stands in the file
+-- rule 3: "12 bytes an entry: usage, number, start"; as it stands in the file
 pub record Entry : Type 0 where
   pub usage : ℕ
   pub number : ℕ
@@ -36,7 +24,7 @@ pub record Ref : Type 0 where
   pub number : ℕ
   pub chunk : ℕ
 
--- the bytes of a chunk with m data bytes
+-- how many bytes a chunk with m data bytes takes: "The length counts neither header nor padding" (rule 2)
 unfoldable pub sized : ℕ → ℕ
 sized m = 8 + (m + m % 2)
 
@@ -44,6 +32,7 @@ unfoldable pub size : Chunk → ℕ
 unfolding sized
 size c = sized (length (c .body))
 
+-- a chunk's bytes (rule 2)
 unfoldable pub chunkBytes : Chunk → List ℕ
 chunkBytes c = be32 (c .type) ++ (be32 (length (c .body)) ++ (c .body ++ replicate (length (c .body) % 2) 0))
 
@@ -56,11 +45,11 @@ unfoldable pub total : List Chunk → ℕ
 total [] = 0
 total (c ∷ cs) = size c + total cs
 
--- a whole file
+-- rule 1: "Bytes 0 to 3 are 'FORM', 4 to 7 the file length less 8, 8 to 11 'IFRS'. Chunks follow from offset 12 and fill the file exactly."
 unfoldable pub fileBytes : List Chunk → List ℕ
 fileBytes cs = be32 FORM ++ (be32 (4 + total cs) ++ (be32 IFRS ++ chunksBytes cs))
 
--- reading: the chunk that s begins with, and all chunks in s (k bounds their number); faults are the verdict's business
+-- reading: the chunk that s begins with, and all chunks in s (k bounds their number). It never fails: what is wrong is the verdict's business.
 unfoldable pub chunkIn : List ℕ → Chunk
 chunkIn s = record { type = rd32 s; body = take (rd32 (drop 4 s)) (drop 8 s) }
 
@@ -69,6 +58,7 @@ chunksIn zero s = []
 chunksIn (suc k) [] = []
 chunksIn (suc k) (b ∷ s) = chunkIn (b ∷ s) ∷ chunksIn k (drop (sized (rd32 (drop 4 (b ∷ s)))) (b ∷ s))
 
+-- the chunks of a file, from offset 12 on (rule 1)
 unfoldable pub chunksOf : List ℕ → List Chunk
 chunksOf f = chunksIn (length f) (drop 12 f)
 
@@ -87,7 +77,7 @@ unfoldable pub entriesBytes : List Entry → List ℕ
 entriesBytes [] = []
 entriesBytes (e ∷ es) = entryBytes e ++ entriesBytes es
 
--- the index chunk that holds these entries
+-- rule 3: "Its data: a count, then 12 bytes an entry"; the index chunk that holds these entries
 unfoldable pub indexChunk : List Entry → Chunk
 indexChunk es = record { type = RIdx; body = be32 (length es) ++ entriesBytes es }
 
@@ -95,7 +85,7 @@ indexChunk es = record { type = RIdx; body = be32 (length es) ++ entriesBytes es
 unfoldable pub entriesOf : Chunk → List Entry
 entriesOf c = entriesIn (rd32 (c .body)) (drop 4 (c .body))
 
--- s is the first byte of one of the chunks, which stand from offset at on
+-- rule 4: "A start is the first byte of a chunk"; of one of these chunks, which stand from offset at on
 unfoldable pub isStart : ℕ → ℕ → List Chunk → Bool
 isStart s at [] = false
 isStart s at (c ∷ cs) = eqb s at || isStart s (at + size c) cs

@@ -1,5 +1,6 @@
 pub mod Bytes
 pub mod Little
+pub mod Tags
 pub mod Format
 pub mod Verdict
 pub mod Rules

@@ -7,7 +7,7 @@ use lib.Dec.{eqb}
 use Rattle.blorb.specs.Bytes.{rd32}
 use Rattle.blorb.specs.Format.{Ref, Chunk}
 use Rattle.blorb.specs.Verdict.{noChunk}
-use Rattle.blorb.specs.Rules.{Fspc}
+use Rattle.blorb.specs.Tags.{Fspc}
 use Rattle.blorb.specs.Model.{Model, base, startAt}
 
 module _ {A : Type 0} where
@@ -18,7 +18,7 @@ module _ {A : Type 0} where
 abbrev pub noRef : Ref
 noRef = record { usage = 0; number = 0; chunk = 0 }
 
--- the place of the entry (u, n): the list's length where there is none
+-- the place in the index of the entry with usage u and number n, the count where there is none
 unfoldable pub find : ℕ → ℕ → List Ref → ℕ
 find u n [] = 0
 find u n (r ∷ rs) = cond (eqb (r .usage) u && eqb (r .number) n) 0 (suc (find u n rs))
@@ -42,7 +42,7 @@ shared m i = uses (refAt m i .chunk) (without i (m .refs))
 unfoldable pub start : Model → ℕ → ℕ
 start m k = startAt (base (length (m .refs))) (m .chunks) k
 
--- the frontispiece: its place among the chunks and the number in it
+-- rule 7's frontispiece chunk: its place among the chunks, and "the number of a picture" in it
 unfoldable pub frontPlace : List Chunk → ℕ
 frontPlace [] = 0
 frontPlace (c ∷ cs) = cond (eqb (c .type) Fspc) 0 (suc (frontPlace cs))

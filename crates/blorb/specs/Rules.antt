@@ -5,73 +5,56 @@ use mathlib.Core.Bool.{Bool, true, false, _||_, _&&_, not, cond}
 use lib.ListN.{length, getD, take, drop}
 use lib.Dec.{eqb, leb, ltb}
 use Rattle.blorb.specs.Bytes.{rd32}
-use Rattle.blorb.specs.Format.{tag, FORM, Chunk, Ref, size}
+use Rattle.blorb.specs.Tags.{FORM, RelN, Fspc, Pict, Snd, Data, Exec, JPEG, PNG, Rect, OGGV, MOD, SONG, AIFF, TEXT, BINA, ZCOD, GLUL, TAD2, TAD3, HUGO, ALAN, ADRI, LEVE, AGT, MAGS, ADVS, EXEC}
+use Rattle.blorb.specs.Format.{Chunk, Ref, size}
 use Rattle.blorb.specs.Verdict.{Rules, Verdict, accept, refuse, _then_, check, noChunk, verdict}
-
-abbrev pub Pict : ℕ
-Pict = tag 80 105 99 116
-
-abbrev pub Snd : ℕ
-Snd = tag 83 110 100 32
-
-abbrev pub Data : ℕ
-Data = tag 68 97 116 97
-
-abbrev pub Exec : ℕ
-Exec = tag 69 120 101 99
-
-abbrev pub Rect : ℕ
-Rect = tag 82 101 99 116
-
-abbrev pub RelN : ℕ
-RelN = tag 82 101 108 78
-
-abbrev pub Fspc : ℕ
-Fspc = tag 70 115 112 99
-
-abbrev pub AIFF : ℕ
-AIFF = tag 65 73 70 70
 
 unfoldable pub oneOf : ℕ → List ℕ → Bool
 oneOf t [] = false
 oneOf t (x ∷ xs) = eqb t x || oneOf t xs
 
--- rule 5
+-- rule 5: the types that a usage allows, and what each asks of the chunk besides
 unfoldable pub plain : ℕ → Chunk → Bool
 plain u c =
-    (eqb u Pict && (oneOf (c .type) (tag 74 80 69 71 ∷ (tag 80 78 71 32 ∷ [])) || (eqb (c .type) Rect && eqb (length (c .body)) 8)))
-    || (eqb u Snd && (oneOf (c .type) (tag 79 71 71 86 ∷ (tag 77 79 68 32 ∷ (tag 83 79 78 71 ∷ []))) || (eqb (c .type) FORM && leb 4 (length (c .body)) && eqb (rd32 (c .body)) AIFF)))
-    || (eqb u Data && oneOf (c .type) (tag 84 69 88 84 ∷ (tag 66 73 78 65 ∷ [])))
-    || (eqb u Exec && oneOf (c .type) (tag 90 67 79 68 ∷ (tag 71 76 85 76 ∷ (tag 84 65 68 50 ∷ (tag 84 65 68 51 ∷ (tag 72 85 71 79 ∷ (tag 65 76 65 78 ∷ (tag 65 68 82 73 ∷ (tag 76 69 86 69 ∷ (tag 65 71 84 32 ∷ (tag 77 65 71 83 ∷ (tag 65 68 86 83 ∷ (tag 69 88 69 67 ∷ [])))))))))))))
+    (eqb u Pict && (oneOf (c .type) (JPEG ∷ (PNG ∷ [])) || (eqb (c .type) Rect && eqb (length (c .body)) 8)))
+    || (eqb u Snd && (oneOf (c .type) (OGGV ∷ (MOD ∷ (SONG ∷ []))) || (eqb (c .type) FORM && leb 4 (length (c .body)) && eqb (rd32 (c .body)) AIFF)))
+    || (eqb u Data && oneOf (c .type) (TEXT ∷ (BINA ∷ [])))
+    || (eqb u Exec && oneOf (c .type) (ZCOD ∷ (GLUL ∷ (TAD2 ∷ (TAD3 ∷ (HUGO ∷ (ALAN ∷ (ADRI ∷ (LEVE ∷ (AGT ∷ (MAGS ∷ (ADVS ∷ (EXEC ∷ [])))))))))))))
 
--- a picture of this number is in the index and isn't a 'Rect'
+-- rule 7: "The picture named is in the index and isn't a 'Rect'."
 unfoldable pub picture : ℕ → List Chunk → List Ref → Bool
 picture n cs [] = false
 picture n cs (r ∷ rs) = (eqb (r .usage) Pict && eqb (r .number) n && not (eqb (getD cs (r .chunk) noChunk .type) Rect)) || picture n cs rs
 
--- 17 to 19 of one chunk: earlier are those before it
+-- a chunk of this type is among these
 unfoldable pub typeIn : ℕ → List Chunk → Bool
 typeIn t [] = false
 typeIn t (c ∷ cs) = eqb (c .type) t || typeIn t cs
 
 module _ (rs : List Ref) (all : List Chunk) where
+  -- 17: "a second 'RelN' or 'Fspc'", at its start; 18: "its length wrong", at its start + 4. earlier: the chunks before it
   unfoldable pub single : ℕ → ℕ → List Chunk → ℕ → Chunk → Verdict
   single t n earlier at c = check (not (typeIn t earlier)) 17 at then check (eqb (length (c .body)) n) 18 (at + 4)
 
+  -- rule 7 for one chunk; 19: "a frontispiece whose picture isn't in the index, or is a 'Rect'", at its start + 8
   unfoldable pub chunkRule : List Chunk → ℕ → Chunk → Verdict
   chunkRule earlier at c =
       cond (eqb (c .type) RelN) (single RelN 2 earlier at c)
       (cond (eqb (c .type) Fspc) (single Fspc 4 earlier at c then check (picture (rd32 (c .body)) all rs) 19 (at + 8)) accept)
 
+  -- "17 to 19 go by file position, in that order within a chunk."
   unfoldable pub chunkRules : List Chunk → ℕ → List Chunk → Verdict
   chunkRules earlier at [] = accept
   chunkRules earlier at (c ∷ cs) = chunkRule earlier at c then chunkRules (earlier ++ (c ∷ [])) (at + size c) cs
 
+-- rule 7 for all chunks behind the index, the first of which stands at base
 unfoldable pub optional : ℕ → List Ref → List Chunk → Verdict
 optional base rs cs = chunkRules rs cs [] base cs
 
+-- 01's own rules
 abbrev pub plainRules : Rules
 plainRules = record { typed = plain; single = optional }
 
+-- the verdict of a file
 unfoldable pub plainVerdict : List ℕ → Verdict
 plainVerdict = verdict plainRules

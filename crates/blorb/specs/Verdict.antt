@@ -1,11 +1,12 @@
--- The reader's refusals (01, the table), a function of the bytes.
+-- The verdict on a file (01, Refusal numbers, in order of checking): accepted, or the number and place of the first refusal of the table.
 use Prim.Native.Nat.{ℕ, zero, suc, _+_, _*_, _%_, _-_}
 use mathlib.Core.List.{List, [], _∷_, _++_, map}
 use mathlib.Core.Bool.{Bool, true, false, _||_, _&&_, not, cond}
 use lib.ListN.{length, getD, take, drop}
 use lib.Dec.{eqb, leb, ltb}
 use Rattle.blorb.specs.Bytes.{be32, rd32}
-use Rattle.blorb.specs.Format.{tag, FORM, IFRS, RIdx, Chunk, Entry, sized, size, chunksOf, entriesOf, isStart, placeOf, Ref, refOf}
+use Rattle.blorb.specs.Tags.{FORM, IFRS, RIdx, Pict, Snd, Data, Exec}
+use Rattle.blorb.specs.Format.{Chunk, Entry, sized, size, chunksOf, entriesOf, isStart, placeOf, Ref, refOf}
 
 pub data Verdict : Type 0 where
   accept : Verdict
@@ -31,13 +32,15 @@ headFault f =
     then check (eqb (rd32 (drop 8 f)) IFRS) 4 8
     then check (eqb (8 + rd32 (drop 4 f)) (length f)) 5 4
 
--- 6 and 7, of the chunk that s begins with, at offset at
+-- The faults of a single chunk, the one that s begins with, at offset at. 6: "header, data or padding runs past the end", at its start;
+-- 7: "padding byte not zero", at that byte.
 unfoldable pub chunkFault : ℕ → List ℕ → Verdict
 chunkFault at s =
     check (leb 8 (length s)) 6 at
     then check (leb (sized (rd32 (drop 4 s))) (length s)) 6 at
     then check (eqb (rd32 (drop 4 s) % 2) 0 || eqb (getD s (8 + rd32 (drop 4 s)) 0) 0) 7 (at + (8 + rd32 (drop 4 s)))
 
+-- "6 and 7 are found walking forward; the first faulty chunk decides, 6 before 7." k bounds the number of chunks.
 unfoldable pub walkFault : ℕ → ℕ → List ℕ → Verdict
 walkFault zero at s = accept
 walkFault (suc k) at [] = accept
@@ -45,43 +48,46 @@ walkFault (suc k) at (b ∷ s) =
     chunkFault at (b ∷ s)
     then walkFault k (at + sized (rd32 (drop 4 (b ∷ s)))) (drop (sized (rd32 (drop 4 (b ∷ s)))) (b ∷ s))
 
--- 9: no further index; the chunks stand from at on
+-- 9: "a second 'RIdx'", at its start; the chunks behind the first one stand from at on
 unfoldable pub secondIndex : ℕ → List Chunk → Verdict
 secondIndex at [] = accept
 secondIndex at (c ∷ cs) = check (not (eqb (c .type) RIdx)) 9 at then secondIndex (at + size c) cs
 
--- 10 and 11
+-- 10: "index shorter than 4 or not 4 + 12 × count", as whole numbers (rule 3); 11: "more than 4,096 entries"
 unfoldable pub indexFault : List ℕ → Verdict
 indexFault d =
     check (leb 4 (length d) && eqb (length d) (4 + 12 * rd32 d)) 10 16
     then check (leb (rd32 d) 4096) 11 20
 
--- a chunk's beginning behind the index
--- 12 to 16 of one entry: `ok` is rule 5 as a test of usage and chunk; earlier: the entries before it; p its place; base, cs: the chunks behind the index
+-- stands where a list of chunks has none
 abbrev pub noChunk : Chunk
 noChunk = record { type = 0; body = [] }
 
+-- rule 4: "A usage is 'Pict', 'Snd ', 'Data' or 'Exec'"
 abbrev pub knownUsage : ℕ → Bool
-knownUsage u = eqb u (tag 80 105 99 116) || eqb u (tag 83 110 100 32) || eqb u (tag 68 97 116 97) || eqb u (tag 69 120 101 99)
+knownUsage u = eqb u Pict || eqb u Snd || eqb u Data || eqb u Exec
 
+-- rule 6: an entry with this usage and number is among these
 unfoldable pub pairIn : ℕ → ℕ → List Ref → Bool
 pairIn u n [] = false
 pairIn u n (r ∷ rs) = (eqb (r .usage) u && eqb (r .number) n) || pairIn u n rs
 
--- what the profile decides: rule 5 for a usage and a chunk, and rule 7 (17 to 19) for where the chunks begin, the entries and the chunks
+-- The rules that are a definition of their own: rule 5 for a usage and a chunk, and rule 7 (17 to 19) for the offset of the first chunk
+-- behind the index, the entries and the chunks.
 pub record Rules : Type 0 where
   pub typed : ℕ → Chunk → Bool
   pub single : ℕ → List Ref → List Chunk → Verdict
 
 module _ (R : Rules) where
-  -- 14 to 16 of one entry at p, whose chunk is known; earlier: the entries before it
+  -- 14 to 16 of one entry at p, whose chunk is known (rules 5 and 6); earlier: the entries before it
   unfoldable pub refFault : List Chunk → List Ref → ℕ → Ref → Verdict
   refFault cs earlier p r =
       check (R .typed (r .usage) (getD cs (r .chunk) noChunk)) 14 p
-      then check (not (eqb (r .usage) (tag 69 120 101 99)) || eqb (r .number) 0) 15 (p + 4)
+      then check (not (eqb (r .usage) Exec) || eqb (r .number) 0) 15 (p + 4)
       then check (not (pairIn (r .usage) (r .number) earlier)) 16 p
 
-  -- 12 to 16 of the entries from p on; the chunks behind the index stand from at on
+  -- "12 to 16 go entry by entry, the first faulty entry deciding, in that order within it": of the entries from p on;
+  -- the chunks behind the index stand from at on
   unfoldable pub entriesFault : ℕ → List Chunk → List Ref → ℕ → List Entry → Verdict
   entriesFault at cs earlier p [] = accept
   entriesFault at cs earlier p (e ∷ es) =
@@ -98,6 +104,7 @@ module _ (R : Rules) where
       then entriesFault (12 + size c) cs [] 24 (entriesOf c)
       then R .single (12 + size c) (map (refOf (12 + size c) cs) (entriesOf c)) cs
 
+  -- 8: "no chunk, or the first isn't 'RIdx'", at 12; then the rest
   unfoldable pub layoutFault : List Chunk → Verdict
   layoutFault [] = refuse 8 12
   layoutFault (c ∷ cs) = check (eqb (c .type) RIdx) 8 12 then restFault c cs

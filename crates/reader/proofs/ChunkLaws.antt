@@ -10,9 +10,10 @@ use lib.Seq.{drop-drop, drop-cons, length-take-le, getD-drop, getD-take}
 use lib.Dec.{eqb, leb, ltb}
 use borrow.Author.Tests.{eq-eqb, ne-eqb, eqb-true, eqb-false, le-leb, lt-leb, leb-true, leb-false, lt-ltb, le-ltb, ltb-true, ltb-false}
 use Rattle.reader.specs.Plain.{ordinaryType, allPlain}
-use Rattle.blorb.specs.Rules.{RelN, Fspc}
+use Rattle.blorb.specs.Tags.{RelN, Fspc}
 use Rattle.blorb.specs.Bytes.{rd32}
-use Rattle.blorb.specs.Format.{FORM, IFRS, RIdx, Chunk, Entry, sized, size, chunkIn, chunksIn, chunksOf, isStart, placeOf}
+use Rattle.blorb.specs.Tags.{FORM, IFRS, RIdx}
+use Rattle.blorb.specs.Format.{Chunk, Entry, sized, size, chunkIn, chunksIn, chunksOf, isStart, placeOf}
 use Rattle.blorb.specs.Verdict.{Rules, Verdict, accept, refuse, _then_, check, chunkFault, walkFault, noChunk, secondIndex, layoutFault, restFault, verdict}
 use Rattle.reader.specs.Walk.{chunkAt, nextAt, chunksFrom, walkFrom, skipAt, firstFault, Reached}
 use Rattle.blorb.specs.Verdict.{headFault}

@@ -12,9 +12,11 @@ use lib.Dec.{eqb, leb, ltb}
 use borrow.Author.Tests.{eq-eqb, ne-eqb, eqb-true, eqb-false, le-leb, lt-leb, leb-true, leb-false}
 use Rattle.blorb.proofs.UsageLaws.{or-false, or-assoc, known-is, known-not}
 use Rattle.blorb.specs.Bytes.{rd32}
-use Rattle.blorb.specs.Format.{tag, FORM, Chunk, Entry, Ref, refOf, chunkIn, entryIn, entriesIn, isStart, placeOf}
+use Rattle.blorb.specs.Tags.{tag, FORM}
+use Rattle.blorb.specs.Format.{Chunk, Entry, Ref, refOf, chunkIn, entryIn, entriesIn, isStart, placeOf}
 use Rattle.blorb.specs.Verdict.{Rules, Verdict, accept, refuse, _then_, check, noChunk, knownUsage, pairIn, refFault, entriesFault}
-use Rattle.blorb.specs.Rules.{plain, plainRules, oneOf, AIFF}
+use Rattle.blorb.specs.Rules.{plain, plainRules, oneOf}
+use Rattle.blorb.specs.Tags.{AIFF}
 use Rattle.reader.specs.Walk.{chunkAt, nextAt, chunksFrom, walkFrom, Reached}
 use Rattle.blorb.proofs.Checks.{pass, stop, holds-last, fails-last, accepts, refuses, then-accept, check-accept}
 use Rattle.blorb.proofs.Checks.{then-assoc}

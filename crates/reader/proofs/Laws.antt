@@ -11,9 +11,11 @@ use lib.Seq.{drop-drop, getD-drop, getD-take, take-nil}
 use lib.Dec.{eqb, leb, ltb}
 use borrow.Author.Tests.{eq-eqb, ne-eqb, eqb-true, eqb-false, le-leb, lt-leb, leb-true, leb-false, lt-ltb, le-ltb, ltb-true, ltb-false, not-true}
 use Rattle.blorb.specs.Bytes.{rd32}
-use Rattle.blorb.specs.Format.{tag, FORM, RIdx, Chunk, Entry, Ref, refOf, size, sized, chunkIn, chunksIn, chunksOf, entryIn, entriesIn, entriesOf, isStart, placeOf}
+use Rattle.blorb.specs.Tags.{tag, FORM, RIdx}
+use Rattle.blorb.specs.Format.{Chunk, Entry, Ref, refOf, size, sized, chunkIn, chunksIn, chunksOf, entryIn, entriesIn, entriesOf, isStart, placeOf}
 use Rattle.blorb.specs.Verdict.{Rules, Verdict, accept, refuse, _then_, check, noChunk, knownUsage, pairIn, refFault, entriesFault, secondIndex, indexFault, restFault, layoutFault, verdict}
-use Rattle.blorb.specs.Rules.{plain, plainRules, plainVerdict, picture, optional, chunkRules, chunkRule, single, typeIn, Pict, Rect, RelN, Fspc}
+use Rattle.blorb.specs.Rules.{plain, plainRules, plainVerdict, picture, optional, chunkRules, chunkRule, single, typeIn}
+use Rattle.blorb.specs.Tags.{Pict, Rect, RelN, Fspc}
 use Rattle.reader.specs.Walk.{chunkAt, nextAt, skipAt, chunksFrom, walkFrom, firstFault, Reached}
 use Rattle.blorb.specs.Verdict.{headFault}
 use Rattle.reader.specs.Plain.{ordinaryType, allPlain}

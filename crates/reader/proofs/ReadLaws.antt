@@ -8,7 +8,8 @@ use lib.ListN.{length, getD, take, drop}
 use lib.Dec.{eqb, leb, ltb}
 use borrow.Author.Tests.{lt-ltb, le-ltb, ltb-true, ltb-false}
 use Rattle.blorb.specs.Bytes.{rd32}
-use Rattle.blorb.specs.Format.{RIdx, Chunk, Entry, Ref, refOf, size, chunkIn, chunksIn, chunksOf, entriesIn, entriesOf}
+use Rattle.blorb.specs.Tags.{RIdx}
+use Rattle.blorb.specs.Format.{Chunk, Entry, Ref, refOf, size, chunkIn, chunksIn, chunksOf, entriesIn, entriesOf}
 use Rattle.blorb.specs.Verdict.{Verdict, accept, refuse, _then_, check, noChunk, entriesFault, secondIndex, indexFault, restFault, layoutFault, verdict}
 use Rattle.blorb.specs.Rules.{plainRules, plainVerdict, optional}
 use Rattle.reader.specs.Walk.{chunkAt, nextAt, skipAt, chunksFrom, walkFrom, firstFault}

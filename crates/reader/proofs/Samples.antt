@@ -4,9 +4,11 @@ use Prim.Native.Nat.{ℕ, zero, suc, _+_, _*_, _/_, _%_}
 use mathlib.Core.List.{List, [], _∷_, _++_}
 use lib.ListN.{length, getD, take, drop, set, replicate}
 use Rattle.blorb.specs.Bytes.{be32, rd32}
-use Rattle.blorb.specs.Format.{Ref, refOf, tag, FORM, IFRS, Chunk, Entry, size, sized, total, chunkBytes, chunksBytes, fileBytes, chunkIn, chunksIn, chunksOf, entryIn, entriesIn, entryBytes, entriesBytes, indexChunk, entriesOf, isStart, placeOf}
+use Rattle.blorb.specs.Format.{Ref, refOf, Chunk, Entry, size, sized, total, chunkBytes, chunksBytes, fileBytes, chunkIn, chunksIn, chunksOf, entryIn, entriesIn, entryBytes, entriesBytes, indexChunk, entriesOf, isStart, placeOf}
+use Rattle.blorb.specs.Tags.{tag, FORM, IFRS}
 use Rattle.blorb.specs.Verdict.{Verdict, headFault, accept, refuse, _then_, check, verdict, chunkFault, walkFault, secondIndex, indexFault, refFault, entriesFault, restFault, layoutFault, pairIn}
-use Rattle.blorb.specs.Rules.{plain, optional, plainVerdict, oneOf, picture, typeIn, single, chunkRule, chunkRules, Pict, Data, Rect, Fspc}
+use Rattle.blorb.specs.Rules.{plain, optional, plainVerdict, oneOf, picture, typeIn, single, chunkRule, chunkRules}
+use Rattle.blorb.specs.Tags.{Pict, Data, Rect, Fspc}
 use Rattle.blorb.specs.Usages.{usageOf}
 use Rattle.blorb.specs.declared.Usage as usage
 use Rattle.reader.specs.declared.Reading.{Reading}

@@ -7,7 +7,8 @@ use lib.ListN.{length, getD, drop}
 use lib.Dec.{eqb, leb, ltb}
 use Rattle.blorb.specs.Bytes.{rd32}
 use Rattle.blorb.specs.Usages.{codeOf}
-use Rattle.blorb.specs.Format.{tag, Chunk, Ref, refOf, entryIn, entriesIn, isStart}
+use Rattle.blorb.specs.Tags.{tag}
+use Rattle.blorb.specs.Format.{Chunk, Ref, refOf, entryIn, entriesIn, isStart}
 use Rattle.blorb.specs.Verdict.{Verdict, accept, refuse, _then_, check, knownUsage, entriesFault}
 use Rattle.blorb.specs.Rules.{plain, plainRules}
 use Rattle.reader.specs.Walk.{chunkAt, chunksFrom}

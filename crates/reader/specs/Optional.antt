@@ -8,7 +8,7 @@ use lib.Dec.{eqb}
 use Rattle.blorb.specs.Bytes.{rd32}
 use Rattle.blorb.specs.Format.{Chunk, size, entriesIn}
 use Rattle.blorb.specs.Verdict.{Verdict, accept, refuse, _then_, check}
-use Rattle.blorb.specs.Rules.{Pict, Rect, RelN, Fspc}
+use Rattle.blorb.specs.Tags.{Pict, Rect, RelN, Fspc}
 use Rattle.reader.specs.Walk.{chunkAt, chunksFrom, walkFrom}
 use Rattle.reader.specs.Entries.{place, entriesFrom}
 use Rattle.reader.specs.declared.entries.Hit.{Hit}

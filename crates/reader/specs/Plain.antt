@@ -4,8 +4,9 @@ use Prim.Native.Nat.{ℕ}
 use mathlib.Core.List.{List, [], _∷_}
 use mathlib.Core.Bool.{Bool, true, false, _&&_, _||_, not}
 use lib.Dec.{eqb}
-use Rattle.blorb.specs.Format.{RIdx, Chunk}
-use Rattle.blorb.specs.Rules.{RelN, Fspc}
+use Rattle.blorb.specs.Tags.{RIdx}
+use Rattle.blorb.specs.Format.{Chunk}
+use Rattle.blorb.specs.Tags.{RelN, Fspc}
 
 abbrev pub ordinaryType : ℕ → Bool
 ordinaryType t = not (eqb t RIdx || (eqb t RelN || eqb t Fspc))

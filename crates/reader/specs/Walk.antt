@@ -6,7 +6,8 @@ use mathlib.Core.Bool.{Bool, true, false, _&&_}
 use lib.ListN.{length, drop}
 use lib.Dec.{eqb, leb, ltb}
 use Rattle.blorb.specs.Bytes.{rd32}
-use Rattle.blorb.specs.Format.{FORM, IFRS, RIdx, Chunk, size, chunkIn, chunksIn, isStart}
+use Rattle.blorb.specs.Tags.{FORM, IFRS, RIdx}
+use Rattle.blorb.specs.Format.{Chunk, size, chunkIn, chunksIn, isStart}
 use Rattle.blorb.specs.Verdict.{Verdict, accept, refuse, _then_, check, walkFault}
 use Rattle.reader.specs.declared.chunks.Check.{Check}
 use Rattle.reader.specs.declared.chunks.Check.the-variants.{Good, Refused}

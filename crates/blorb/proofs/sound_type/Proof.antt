@@ -2,7 +2,7 @@ use native.Mathlib.Omega.{arith}
 use mathlib.Core.Path.{_≡_, refl, sym, ap, _∙_}
 use Prim.Native.Nat.{ℕ}
 use lib.Dec.{eqb}
-use Rattle.blorb.specs.Rules.{AIFF}
+use Rattle.blorb.specs.Tags.{AIFF}
 use Rattle.blorb.proofs.UsageLaws.{snd-other, snd-short, snd-form}
 use borrow.Author.Needs.{needs}
 use Rattle.blorb.proofs.sound_type.Statement.{statement}
