@@ -1,0 +1,180 @@
+-- The record of an edit fits the file after it, and undo takes the edit back.
+use mathlib.Core.Path.{_≡_, refl, sym, ap, _∙_}
+use Prim.Native.Nat.{ℕ, zero, suc, _+_, _*_, _-_, _≤_, _<_, _%_}
+use mathlib.Core.List.{List, [], _∷_, _++_, map, append-nil}
+use mathlib.Core.Bool.{Bool, true, false, cond, _&&_, _||_, not}
+use native.Mathlib.Omega.{arith}
+use native.Mathlib.Nat.{le-of-suc-le-suc, not-suc-le-zero}
+use lib.ListN.{length, getD, take, drop, set, length-append, length-take, length-drop, length-map, length-set}
+use lib.Seq.{set-set, set-getD, take-at, drop-at, getD-append-seam, take-append-seam, take-set-le, take-all}
+use lib.Dec.{eqb, leb, ltb}
+use borrow.Author.Tests.{eq-eqb, ne-eqb, eqb-true, eqb-false, ltb-true, ltb-false, le-leb, lt-leb, lt-ltb}
+use Rattle.blorb.specs.Format.{Ref, Chunk, Entry, size, sized, total, isStart, placeOf}
+use Rattle.blorb.specs.Verdict.{noChunk}
+use Rattle.blorb.specs.Model.{Model, base, startAt}
+use Rattle.edits.specs.Edit.{Edit, add, replace, remove, with-at, raise, lower, added, replaced, removed, removedBoth, removedEntry, edited, given}
+use Rattle.blorb.specs.Queries.{find, uses, shared, refAt, noRef, chunkAt, without}
+use Rattle.edits.specs.Journal.{Rec, removal, recOf, oldChunk, oldRef, oldPlace, undo1, undo2, undo3, undo4, undone, fits, fits1, fits2, fits3, fits4}
+use Rattle.blorb.specs.Queries.{start}
+use Rattle.blorb.proofs.All.{All, all-getD, all-append, all-take, all-drop, all-set, all-map, all-imp}
+use Rattle.blorb.proofs.Sound.{W, RefOk, ChunkOk, Sound}
+use Rattle.edits.specs.Run.{ArgsOk}
+use Rattle.edits.proofs.Applies.{Applies}
+use Rattle.blorb.proofs.Places.{placeOf-startAt, isStart-startAt}
+use Rattle.edits.proofs.UndoLaws.{undo-add, undo-replace, undo-remove, undo-remove-entry, entry-start, length-without, length-remaining, remove-start, or-false}
+
+-- the entry that find gives is the one sought
+pub find-pair : (u n : ℕ) (rs : List Ref) → find u n rs < length rs → (getD rs (find u n rs) noRef .usage ≡ u) × (getD rs (find u n rs) noRef .number ≡ n)
+unfolding find
+find-pair u n [] h = absurd (not-suc-le-zero h)
+find-pair u n (r ∷ rs) h = go (eqb (r .usage) u) (eqb (r .number) n) refl refl h (find-pair u n rs)
+  where
+    go : (b c : Bool) → eqb (r .usage) u ≡ b → eqb (r .number) n ≡ c → cond (b && c) 0 (suc (find u n rs)) < length (r ∷ rs)
+        → (find u n rs < length rs → (getD rs (find u n rs) noRef .usage ≡ u) × (getD rs (find u n rs) noRef .number ≡ n))
+        → (getD (r ∷ rs) (cond (b && c) 0 (suc (find u n rs))) noRef .usage ≡ u) × (getD (r ∷ rs) (cond (b && c) 0 (suc (find u n rs))) noRef .number ≡ n)
+    go true true p q h ih = (eqb-true (r .usage) u p, eqb-true (r .number) n q)
+    go true false p q h ih = ih (le-of-suc-le-suc h)
+    go false c p q h ih = ih (le-of-suc-le-suc h)
+
+-- no entry stands on a chunk that is not there
+uses-none : (k : ℕ) (rs : List Ref) → All (RefOk k) rs → uses k rs ≡ false
+unfolding uses
+uses-none k [] h = refl
+uses-none k (r ∷ rs) h = rw (ne-eqb (r .chunk) k (omega (arith, h .0 .chunk-there))) (uses-none k rs (h .1))
+
+without-last : (l : List Ref) (x : Ref) → without (length l) (l ++ (x ∷ [])) ≡ l
+unfolding without
+without-last l x = rw (take-append-seam l (x ∷ [])) (rw (drop-past l x) (append-nil l))
+  where
+    drop-past : (l : List Ref) (x : Ref) → drop (suc (length l)) (l ++ (x ∷ [])) ≡ []
+    drop-past [] x = refl
+    drop-past (y ∷ l) x = drop-past l x
+
+fit-add : (m : Model) (u n : ℕ) (c : Chunk) (t : ℕ) (b : List ℕ) → Sound m
+    → fits1 (record { kind = 1; usage = u; number = n; place = length (m .refs); start = 0; type = t; body = b }) (added m u n c) ≡ true
+unfolding fits1 added shared
+fit-add m u n c t b s =
+    let x : Ref = record { usage = u; number = n; chunk = length (m .chunks) } in
+    rw (getD-append-seam (m .refs) x [] noRef, without-last (m .refs) x, uses-none (length (m .chunks)) (m .refs) (s .refs-ok),
+        eq-eqb (length (m .refs ++ (x ∷ []))) (suc (length (m .refs))) (simp length-append (omega arith)),
+        eq-eqb u u refl, eq-eqb n n refl,
+        eq-eqb (suc (length (m .chunks))) (length (m .chunks ++ (c ∷ []))) (simp length-append (omega arith)))
+
+or-true : (a : Bool) → a || true ≡ true
+or-true true = refl
+or-true false = refl
+
+-- a replaced chunk starts where it did
+pub start-replaced : (m : Model) (k : ℕ) (c : Chunk) → start (replaced m k c) k ≡ start m k
+unfolding start startAt replaced
+start-replaced m k c = rw (take-set-le k (m .chunks) k c (omega arith))
+
+fit-replace : (m : Model) (u n i : ℕ) (c : Chunk) (t : ℕ) (b : List ℕ) → i < length (m .refs) → refAt m i .usage ≡ u → refAt m i .number ≡ n → shared m i ≡ false
+    → fits2 (record { kind = 2; usage = u; number = n; place = i; start = start m (refAt m i .chunk); type = t; body = b }) (replaced m (refAt m i .chunk) c) ≡ true
+unfolding fits2 shared replaced
+fit-replace m u n i c t b h p q alone =
+    rw (lt-ltb i (length (m .refs)) h, eq-eqb (refAt m i .usage) u p, eq-eqb (refAt m i .number) n q,
+        eq-eqb (start (replaced m (refAt m i .chunk) c) (refAt m i .chunk)) (start m (refAt m i .chunk)) (start-replaced m (refAt m i .chunk) c), alone)
+
+-- old start less 12: a chunk's beginning, or the end
+old-fits : (at : ℕ) (cs : List Chunk) (k : ℕ) → k ≤ length cs → (isStart (startAt at cs k) at cs || eqb (startAt at cs k) (startAt at cs (length cs))) ≡ true
+old-fits at cs k h = go (eqb k (length cs)) refl
+  where
+    go : (b : Bool) → eqb k (length cs) ≡ b → (isStart (startAt at cs k) at cs || eqb (startAt at cs k) (startAt at cs (length cs))) ≡ true
+    go true e = rw (eqb-true k (length cs) e, eq-eqb (startAt at cs (length cs)) (startAt at cs (length cs)) refl) (or-true (isStart (startAt at cs (length cs)) at cs))
+    go false e = rw (isStart-startAt at cs k (omega (arith, eqb-false k (length cs) e)))
+
+fit-remove : (m : Model) (i u n : ℕ) → i < length (m .refs) → refAt m i .chunk < length (m .chunks)
+    → fits3 (removal false m u n i) (removedBoth m i (refAt m i .chunk)) ≡ true
+unfolding fits3 removal removedBoth start
+fit-remove m i u n h valid =
+    rw (le-leb i (length (removedBoth m i (refAt m i .chunk) .refs)) (omega (arith, length-remaining m i (refAt m i .chunk) h)))
+    (rw (remove-start m i h valid) (old-fits (base (length (removedBoth m i (refAt m i .chunk) .refs))) (without (refAt m i .chunk) (m .chunks)) (refAt m i .chunk) (omega (arith, length-without (refAt m i .chunk) (m .chunks) valid))))
+
+fit-remove-entry : (m : Model) (i u n : ℕ) → i < length (m .refs) → refAt m i .chunk < length (m .chunks)
+    → fits4 (removal true m u n i) (removedEntry m i) ≡ true
+unfolding fits4 removal removedEntry
+fit-remove-entry m i u n h valid =
+    rw (le-leb i (length (without i (m .refs))) (omega (arith, length-without i (m .refs) h)), entry-start m i h valid,
+        isStart-startAt (base (length (without i (m .refs)))) (m .chunks) (refAt m i .chunk) valid)
+
+valid-at : (m : Model) (i : ℕ) → Sound m → i < length (m .refs) → refAt m i .chunk < length (m .chunks)
+valid-at m i s h = all-getD (RefOk (length (m .chunks))) (m .refs) i noRef (s .refs-ok) h .chunk-there
+
+-- the record of a removal fits, and its undo takes the removal back
+removal-back : (m : Model) (i : ℕ) (b : Bool) → shared m i ≡ b → Sound m → i < length (m .refs)
+    → (fits (removal b m (refAt m i .usage) (refAt m i .number) i) (cond b (removedEntry m i) (removedBoth m i (refAt m i .chunk))) ≡ true)
+      × (undone (removal b m (refAt m i .usage) (refAt m i .number) i) (cond b (removedEntry m i) (removedBoth m i (refAt m i .chunk))) ≡ m)
+unfolding fits undone removal
+removal-back m i true e s h = (fit-remove-entry m i (refAt m i .usage) (refAt m i .number) h (valid-at m i s h), undo-remove-entry m i h (valid-at m i s h))
+removal-back m i false e s h = (fit-remove m i (refAt m i .usage) (refAt m i .number) h (valid-at m i s h), undo-remove m i h (valid-at m i s h) e)
+
+pub edit-back : (m : Model) (e : Edit) → Sound m → Applies m e → (fits (recOf m e) (edited m e) ≡ true) × (undone (recOf m e) (edited m e) ≡ m)
+unfolding fits undone recOf edited undo2 removed replaced
+edit-back m (add u n t d) s a = (fit-add m u n (given t d) 0 [] s, undo-add m u n (given t d))
+edit-back m (replace u n t d) s a =
+    let i : ℕ = find u n (m .refs) in
+    let p = find-pair u n (m .refs) (a .0) in
+    (fit-replace m u n i (given t d) (chunkAt m (refAt m i .chunk) .type) (chunkAt m (refAt m i .chunk) .body) (a .0) (p .0) (p .1) (a .1),
+     undo-replace m (refAt m i .chunk) (given t d))
+edit-back m (remove u n) s a =
+    let i : ℕ = find u n (m .refs) in
+    let p = find-pair u n (m .refs) a in
+    let q : (fits (removal (shared m i) m u n i) (removed m i) ≡ true) × (undone (removal (shared m i) m u n i) (removed m i) ≡ m)
+        = rw (p .0, p .1) at (removal-back m i (shared m i) refl s a) in
+    q
+
+-- an edit keeps a model sound
+lower-ok : (k n : ℕ) (r : Ref) → eqb (r .chunk) k ≡ false → k ≤ n → RefOk (suc n) r → RefOk n (lower k r)
+unfolding lower
+lower-ok k n r h b ok = record { usage-fits = ok .usage-fits; number-fits = ok .number-fits; chunk-there = go (ltb k (r .chunk)) refl }
+  where
+    go : (t : Bool) → ltb k (r .chunk) ≡ t → cond t (r .chunk - 1) (r .chunk) < n
+    go true e = omega (arith, ltb-true k (r .chunk) e, ok .chunk-there)
+    go false e = omega (arith, ltb-false k (r .chunk) e, ok .chunk-there, eqb-false (r .chunk) k h)
+
+lowers-ok : (k n : ℕ) (rs : List Ref) → uses k rs ≡ false → k ≤ n → All (RefOk (suc n)) rs → All (RefOk n) (map (lower k) rs)
+unfolding uses
+lowers-ok k n [] h b ok = tt
+lowers-ok k n (r ∷ rs) h b ok =
+    let p = or-false (eqb (r .chunk) k) (uses k rs) h in
+    (lower-ok k n r (p .0) b (ok .0), lowers-ok k n rs (p .1) b (ok .1))
+
+more-ok : (n k : ℕ) → n ≤ k → (r : Ref) → RefOk n r → RefOk k r
+more-ok n k h r ok = record { usage-fits = ok .usage-fits; number-fits = ok .number-fits; chunk-there = omega (arith, ok .chunk-there) }
+
+all-without : {A : Type 0} (P : A → Type 0) (i : ℕ) (l : List A) → All P l → All P (without i l)
+unfolding without
+all-without P i l h = all-append P (take i l) (drop (suc i) l) (all-take P i l h) (all-drop P (suc i) l h)
+
+sound-removed : (m : Model) (i : ℕ) (b : Bool) → shared m i ≡ b → Sound m → i < length (m .refs) → Sound (cond b (removedEntry m i) (removedBoth m i (refAt m i .chunk)))
+unfolding removedEntry removedBoth shared
+sound-removed m i true e s h = record { refs-ok = all-without (RefOk (length (m .chunks))) i (m .refs) (s .refs-ok); chunks-ok = s .chunks-ok }
+sound-removed m i false e s h =
+    let k : ℕ = refAt m i .chunk in
+    let l = length-without k (m .chunks) (valid-at m i s h) in
+    let v = valid-at m i s h in
+    record
+    { refs-ok = lowers-ok k (length (without k (m .chunks))) (without i (m .refs)) e (omega arith)
+          (rw l (all-without (RefOk (length (m .chunks))) i (m .refs) (s .refs-ok)))
+    ; chunks-ok = all-without ChunkOk k (m .chunks) (s .chunks-ok) }
+
+given-ok : (t : ℕ) (d : List ℕ) → t < W → ChunkOk (given t d)
+unfolding given
+given-ok t d h = record { type-fits = h }
+
+pub edit-sound : (m : Model) (e : Edit) → Sound m → ArgsOk e → Applies m e → Sound (edited m e)
+unfolding edited added replaced removed
+edit-sound m (add u n t d) s a ap = 
+    let c : Chunk = given t d in
+    let l : length (m .chunks ++ (c ∷ [])) ≡ suc (length (m .chunks)) = simp length-append (omega arith) in
+    record
+    { refs-ok = rw l (all-append (RefOk (suc (length (m .chunks)))) (m .refs) (record { usage = u; number = n; chunk = length (m .chunks) } ∷ [])
+          (all-imp (RefOk (length (m .chunks))) (RefOk (suc (length (m .chunks)))) (more-ok (length (m .chunks)) (suc (length (m .chunks))) (omega arith)) (m .refs) (s .refs-ok))
+          (record { usage-fits = a .0; number-fits = a .1; chunk-there = omega arith }, tt))
+    ; chunks-ok = all-append ChunkOk (m .chunks) (c ∷ []) (s .chunks-ok) (given-ok t d (a .2), tt) }
+edit-sound m (replace u n t d) s a ap =
+    let c : Chunk = given t d in
+    let k : ℕ = refAt m (find u n (m .refs)) .chunk in
+    record { refs-ok = rw length-set (s .refs-ok); chunks-ok = all-set ChunkOk (m .chunks) k c (s .chunks-ok) (given-ok t d (a .2)) }
+edit-sound m (remove u n) s a ap = sound-removed m (find u n (m .refs)) (shared m (find u n (m .refs))) refl s ap

@@ -1,0 +1,157 @@
+-- The undo of a removal moves the starts as document 01 says: the removal's moves, back.
+use mathlib.Core.Path.{_≡_, refl, sym, ap, _∙_}
+use Prim.Native.Nat.{ℕ, zero, suc, _+_, _*_, _-_, _≤_, _<_, _%_}
+use mathlib.Core.List.{List, [], _∷_, _++_, map}
+use mathlib.Core.Bool.{Bool, true, false, cond, _&&_, _||_}
+use native.Mathlib.Omega.{arith}
+use native.Mathlib.Nat.{le-of-suc-le-suc, not-suc-le-zero}
+use lib.ListN.{length, getD, take, drop, length-append, length-map, length-take, length-drop}
+use lib.Seq.{take-append-le, take-take, take-at}
+use lib.Dec.{eqb, leb, ltb}
+use borrow.Author.Tests.{le-leb, lt-leb, leb-true, leb-false, eqb-true}
+use Rattle.blorb.specs.Format.{Ref, Chunk, Entry, size, total, isStart, placeOf}
+use Rattle.blorb.specs.Verdict.{noChunk}
+use Rattle.blorb.specs.Model.{Model, base, startAt, entryOf}
+use Rattle.blorb.specs.Queries.{start}
+use Rattle.edits.specs.Edit.{with-at, raise}
+use Rattle.edits.specs.Journal.{Rec, oldChunk, oldPlace, oldRef, undo3, undo4, fits3, fits4}
+use Rattle.blorb.proofs.Places.{size-pos, startAt-placeOf, placeOf-startAt}
+use Rattle.blorb.proofs.ModelLaws.{entries}
+use Rattle.edits.proofs.Starts.{moved, total-more, total-mono}
+
+-- one element more
+module _ {A : Type 0} where
+  pub length-with : (i : ℕ) (x : A) (l : List A) → length (with-at i x l) ≡ suc (length l)
+  unfolding with-at
+  length-with i x l = simp (length-append, length-take, length-drop) (omega arith)
+
+pub map-with : {A B : Type 0} (f : A → B) (i : ℕ) (x : A) (l : List A) → map f (with-at i x l) ≡ with-at i (f x) (map f l)
+unfolding with-at
+map-with f zero x l = refl
+map-with f (suc i) x [] = refl
+map-with f (suc i) x (y ∷ l) = ap (λ r. f y ∷ r) (map-with f i x l)
+
+take-with : (cs : List Chunk) (k : ℕ) (c : Chunk) (j : ℕ) → k ≤ length cs → j ≤ k → take j (with-at k c cs) ≡ take j cs
+unfolding with-at
+take-with cs k c j h b = take-append-le j (take k cs) (c ∷ drop k cs) (simp length-take (omega arith)) ∙ take-take j k cs b
+
+total-with : (cs : List Chunk) (k : ℕ) (c : Chunk) (j : ℕ) → k ≤ length cs → k ≤ j → total (take (suc j) (with-at k c cs)) ≡ total (take j cs) + size c
+unfolding total with-at
+total-with cs zero c j h b = omega arith
+total-with [] (suc k) c j h b = absurd (not-suc-le-zero h)
+total-with (x ∷ cs) (suc k) c zero h b = absurd (not-suc-le-zero b)
+total-with (x ∷ cs) (suc k) c (suc j) h b = omega (arith, total-with cs k c j (le-of-suc-le-suc h) (le-of-suc-le-suc b))
+
+-- a start at or behind s rises by 12 and a, any other by 12
+abbrev pub risen : ℕ → ℕ → ℕ → ℕ
+risen s a t = cond (leb s t) (t + (12 + a)) (t + 12)
+
+rose : (n : ℕ) (cs : List Chunk) (k : ℕ) (c : Chunk) (j : ℕ) → k ≤ length cs
+    → startAt (base (suc n)) (with-at k c cs) (cond (leb k j) (suc j) j) ≡ risen (startAt (base n) cs k) (size c) (startAt (base n) cs j)
+unfolding startAt base
+rose n cs k c j h = go (leb k j) refl
+  where
+    go : (b : Bool) → leb k j ≡ b
+        → 24 + 12 * suc n + total (take (cond b (suc j) j) (with-at k c cs)) ≡ risen (24 + 12 * n + total (take k cs)) (size c) (24 + 12 * n + total (take j cs))
+    go true e =
+        let le = leb-true k j e in
+        rw (le-leb (24 + 12 * n + total (take k cs)) (24 + 12 * n + total (take j cs)) (omega (arith, total-mono cs k j le))) (omega (arith, total-with cs k c j h le))
+    go false e =
+        let lt = leb-false k j e in
+        rw (lt-leb (24 + 12 * n + total (take k cs)) (24 + 12 * n + total (take j cs)) (omega (arith, total-more cs j k (omega arith) lt, size-pos (getD cs j noChunk))), take-with cs k c j h (omega arith)) (omega arith)
+
+-- the new chunk itself starts where the next one did, 12 further
+rose-own : (n : ℕ) (cs : List Chunk) (k : ℕ) (c : Chunk) → k ≤ length cs → startAt (base (suc n)) (with-at k c cs) k ≡ startAt (base n) cs k + 12
+unfolding startAt base
+rose-own n cs k c h = rw (take-with cs k c k h (omega arith)) (omega arith)
+
+pub place-inside : (s at : ℕ) (cs : List Chunk) → placeOf s at cs ≤ length cs
+unfolding placeOf
+place-inside s at [] = omega arith
+place-inside s at (c ∷ cs) = go (eqb s at) (place-inside s (at + size c) cs)
+  where
+    go : (b : Bool) → placeOf s (at + size c) cs ≤ length cs → cond b 0 (suc (placeOf s (at + size c) cs)) ≤ suc (length cs)
+    go true h = omega arith
+    go false h = omega arith
+
+-- undo of kind 3: starts at or behind the chunk's place rise by 12 and the chunk's size, the others by 12
+pub starts-inserted : (m : Model) (r : Rec) → r .start ≡ start m (oldPlace r m) + 12
+    → entries (undo3 r m) ≡ with-at (r .place) (record { usage = r .usage; number = r .number; start = r .start }) (map (moved (risen (r .start - 12) (size (oldChunk r)))) (entries m))
+unfolding undo3 start entryOf raise
+starts-inserted m r e =
+    let f : Ref → Entry = entryOf (base (suc n)) cs′ in
+    let l : length (with-at (r .place) x (map (raise k) (m .refs))) ≡ suc n = length-with (r .place) x (map (raise k) (m .refs)) ∙ ap suc (length-map (m .refs) (raise k)) in
+    let e′ : r .start - 12 ≡ startAt (base n) (m .chunks) k = omega arith in
+    let own : startAt (base (suc n)) cs′ k ≡ r .start = rose-own n (m .chunks) k (oldChunk r) inside ∙ sym e in
+    ap (λ (z : ℕ). map (entryOf (base z) cs′) (with-at (r .place) x (map (raise k) (m .refs)))) l
+    ∙ map-with f (r .place) x (map (raise k) (m .refs))
+    ∙ (λ i. with-at (r .place) (record { usage = r .usage; number = r .number; start = own i }) (all (m .refs) i))
+    ∙ ap (λ (z : ℕ). with-at (r .place) (record { usage = r .usage; number = r .number; start = r .start }) (map (moved (risen z (size (oldChunk r)))) (entries m))) (sym e′)
+  where
+    k : ℕ
+    k = oldPlace r m
+    n : ℕ
+    n = length (m .refs)
+    x : Ref
+    x = oldRef r m
+    cs′ : List Chunk
+    cs′ = with-at (oldPlace r m) (oldChunk r) (m .chunks)
+    inside : oldPlace r m ≤ length (m .chunks)
+    inside = place-inside (r .start - 12) (base (length (m .refs))) (m .chunks)
+    all : (rs : List Ref) → map (entryOf (base (suc n)) cs′) (map (raise k) rs) ≡ map (moved (risen (startAt (base n) (m .chunks) k) (size (oldChunk r)))) (map (entryOf (base n) (m .chunks)) rs)
+    all [] = refl
+    all (y ∷ rs) = λ i. record { usage = y .usage; number = y .number; start = rose n (m .chunks) k (oldChunk r) (y .chunk) inside i } ∷ all rs i
+
+-- undo of kind 4: every start rises by 12
+pub starts-relisted : (m : Model) (r : Rec) → r .start ≡ start m (oldPlace r m) + 12
+    → entries (undo4 r m) ≡ with-at (r .place) (record { usage = r .usage; number = r .number; start = r .start }) (map (moved (λ t. t + 12)) (entries m))
+unfolding undo4 start entryOf
+starts-relisted m r e =
+    let l : length (with-at (r .place) x (m .refs)) ≡ suc n = length-with (r .place) x (m .refs) in
+    let own : startAt (base (suc n)) (m .chunks) (oldPlace r m) ≡ r .start = grown (oldPlace r m) ∙ sym e in
+    ap (λ (z : ℕ). map (entryOf (base z) (m .chunks)) (with-at (r .place) x (m .refs))) l
+    ∙ map-with (entryOf (base (suc n)) (m .chunks)) (r .place) x (m .refs)
+    ∙ (λ i. with-at (r .place) (record { usage = r .usage; number = r .number; start = own i }) (all (m .refs) i))
+  where
+    n : ℕ
+    n = length (m .refs)
+    x : Ref
+    x = oldRef r m
+    grown : (j : ℕ) → startAt (base (suc n)) (m .chunks) j ≡ startAt (base n) (m .chunks) j + 12
+    grown j = unfold startAt base in omega arith
+    all : (rs : List Ref) → map (entryOf (base (suc n)) (m .chunks)) rs ≡ map (moved (λ t. t + 12)) (map (entryOf (base n) (m .chunks)) rs)
+    all [] = refl
+    all (y ∷ rs) = λ i. record { usage = y .usage; number = y .number; start = grown (y .chunk) i } ∷ all rs i
+
+-- a record that fits: its start less 12 is where the chunk at its place begins, or the file's end
+fit-parts : (a b : Bool) → a && b ≡ true → (a ≡ true) × (b ≡ true)
+fit-parts true b h = (refl, h)
+fit-parts false b h = let z : _≡_ {A = Bool} false true = h in (h, cc)
+
+further : (n : ℕ) (cs : List Chunk) (k s : ℕ) → startAt (base n) cs k ≡ s - 12 → s ≡ startAt (base n) cs k + 12
+unfolding startAt base
+further n cs k s e = omega arith
+
+pub fit3 : (m : Model) (r : Rec) → fits3 r m ≡ true → (r .place ≤ length (m .refs)) × (r .start ≡ start m (oldPlace r m) + 12)
+unfolding fits3 start
+fit3 m r h = (leb-true (r .place) (length (m .refs)) (p .0), go (isStart (r .start - 12) (base (length (m .refs))) (m .chunks)) refl (p .1))
+  where
+    at : ℕ
+    at = base (length (m .refs))
+    p : (leb (r .place) (length (m .refs)) ≡ true) × ((isStart (r .start - 12) (base (length (m .refs))) (m .chunks) || eqb (r .start - 12) (startAt (base (length (m .refs))) (m .chunks) (length (m .chunks)))) ≡ true)
+    p = fit-parts (leb (r .place) (length (m .refs))) (isStart (r .start - 12) (base (length (m .refs))) (m .chunks) || eqb (r .start - 12) (startAt (base (length (m .refs))) (m .chunks) (length (m .chunks)))) h
+    back : startAt at (m .chunks) (oldPlace r m) ≡ r .start - 12 → r .start ≡ startAt at (m .chunks) (oldPlace r m) + 12
+    back e = further (length (m .refs)) (m .chunks) (oldPlace r m) (r .start) e
+    go : (b : Bool) → isStart (r .start - 12) at (m .chunks) ≡ b → b || eqb (r .start - 12) (startAt at (m .chunks) (length (m .chunks))) ≡ true → r .start ≡ startAt at (m .chunks) (oldPlace r m) + 12
+    go true e q = back (startAt-placeOf (r .start - 12) at (m .chunks) e .0)
+    go false e q =
+        let z : r .start - 12 ≡ startAt at (m .chunks) (length (m .chunks)) = eqb-true (r .start - 12) (startAt at (m .chunks) (length (m .chunks))) q in
+        let k : oldPlace r m ≡ length (m .chunks) = ap (λ (i : ℕ). placeOf i at (m .chunks)) z ∙ placeOf-startAt at (m .chunks) (length (m .chunks)) (omega arith) in
+        back (ap (startAt at (m .chunks)) k ∙ sym z)
+
+pub fit4 : (m : Model) (r : Rec) → fits4 r m ≡ true → (r .place ≤ length (m .refs)) × (r .start ≡ start m (oldPlace r m) + 12)
+unfolding fits4 start
+fit4 m r h =
+    let p = fit-parts (leb (r .place) (length (m .refs))) (isStart (r .start - 12) (base (length (m .refs))) (m .chunks)) h in
+    let e : startAt (base (length (m .refs))) (m .chunks) (oldPlace r m) ≡ r .start - 12 = startAt-placeOf (r .start - 12) (base (length (m .refs))) (m .chunks) (p .1) .0 in
+    (leb-true (r .place) (length (m .refs)) (p .0), further (length (m .refs)) (m .chunks) (oldPlace r m) (r .start) e)

@@ -1,0 +1,91 @@
+-- Whether a model's file is accepted, as one test; and that an entry is found by its pair.
+use mathlib.Core.Path.{_≡_, refl, sym, ap, _∙_}
+use Prim.Native.Nat.{ℕ, zero, suc, _+_, _≤_, _<_}
+use mathlib.Core.List.{List, [], _∷_, _++_}
+use mathlib.Core.Bool.{Bool, true, false, cond, _&&_, not}
+use native.Mathlib.Nat.{le-of-suc-le-suc, not-suc-le-zero}
+use lib.ListN.{length, getD}
+use lib.Dec.{eqb, leb}
+use borrow.Author.Tests.{leb-true, lt-ltb}
+use Rattle.blorb.specs.Format.{Ref, Chunk}
+use Rattle.blorb.specs.Verdict.{Rules, accept, check, noChunk, pairIn, refFault, secondIndex, verdict}
+use Rattle.blorb.specs.Tags.{Pict, Fspc}
+use Rattle.blorb.specs.Rules.{typeIn, optional, plainRules}
+use Rattle.blorb.specs.Model.{Model, base, file}
+use Rattle.blorb.specs.Queries.{find, noRef, frontNumber}
+use Rattle.blorb.proofs.All.{all-getD}
+use Rattle.blorb.proofs.Sound.{RefOk, Sound}
+use Rattle.blorb.proofs.Checks.{then-accept, check-accept}
+use Rattle.blorb.proofs.VerdictLaws.{refsFault, modelFault, verdict-file}
+use Rattle.edits.specs.Run.{accepted}
+use Rattle.edits.proofs.FaultLaws.{pair-found}
+use Rattle.edits.proofs.FrontLaws.{pairs-once, pair-right}
+use Rattle.edits.proofs.ReadBack.{same}
+use Rattle.edits.proofs.RuleSeven.{Plain, plain-plain}
+use Rattle.edits.proofs.UndoVerdict.{accepted-then, accepted-check}
+
+-- what an accepted model tells
+pub record Parts (m : Model) : Type 0 where
+  pub no-second : secondIndex (base (length (m .refs))) (m .chunks) ≡ accept
+  pub few : length (m .refs) ≤ 4096
+  pub entries-fine : refsFault plainRules (m .chunks) [] 24 (m .refs) ≡ accept
+  pub seven : optional (base (length (m .refs))) (m .refs) (m .chunks) ≡ accept
+
+pub model-parts : (m : Model) → modelFault plainRules m ≡ accept → Parts m
+unfolding modelFault
+model-parts m ok =
+    let a = then-accept _ _ ok in
+    let b = then-accept _ _ (a .1) in
+    let c = then-accept _ _ (b .1) in
+    record { no-second = a .0; few = leb-true _ _ (check-accept _ _ _ (b .0)); entries-fine = c .0; seven = c .1 }
+
+-- the verdict on a sound model's file, as a test
+pub accepted-file : (m : Model) → Sound m → accepted (verdict plainRules (file m))
+    ≡ (leb (length (file m)) 16777216 && (accepted (secondIndex (base (length (m .refs))) (m .chunks)) && (leb (length (m .refs)) 4096
+    && (accepted (refsFault plainRules (m .chunks) [] 24 (m .refs)) && accepted (optional (base (length (m .refs))) (m .refs) (m .chunks))))))
+unfolding modelFault
+accepted-file m s = ap accepted (verdict-file plainRules m s) ∙ simp (accepted-then, accepted-check)
+
+pub accepted-front : (b t : Bool) (p : ℕ) → accepted (cond b (check t 19 p) accept) ≡ not (b && not t)
+accepted-front true t p = accepted-check t 19 p ∙ sym (not-not t)
+  where
+    not-not : (x : Bool) → not (not x) ≡ x
+    not-not true = refl
+    not-not false = refl
+accepted-front false t p = refl
+
+-- the pair is that of the frontispiece's picture
+abbrev pub isFront : List Chunk → ℕ → ℕ → Bool
+isFront cs u n = typeIn Fspc cs && (eqb u Pict && eqb n (frontNumber cs))
+
+pub front-absent : (cs : List Chunk) (u n : ℕ) → typeIn Fspc cs ≡ false → isFront cs u n ≡ false
+front-absent cs u n h = rw h
+
+pub front-present : (cs : List Chunk) (u n q : ℕ) → typeIn Fspc cs ≡ true → frontNumber cs ≡ q → isFront cs u n ≡ (eqb u Pict && eqb n q)
+front-present cs u n q h e = ap (λ (b : Bool). b && (eqb u Pict && eqb n (frontNumber cs))) h ∙ ap (λ (z : ℕ). eqb u Pict && eqb n z) e
+
+-- an entry whose pair stands nowhere else is the one that find gives
+pub find-at : (R : Rules) (cs : List Chunk) (e : List Ref) (p : ℕ) (u n i : ℕ) (rs : List Ref) → refsFault R cs e p rs ≡ accept → i < length rs
+    → same (getD rs i noRef) u n ≡ true → find u n rs ≡ i
+unfolding refsFault find
+find-at R cs e p u n i [] ok l h = absurd (not-suc-le-zero l)
+find-at R cs e p u n zero (r ∷ rs) ok l h = rw h
+find-at R cs e p u n (suc i) (r ∷ rs) ok l h =
+    let rest = then-accept _ _ (then-accept _ _ ok .1) .1 in
+    let ih = find-at R cs (e ++ (r ∷ [])) (p + 12) u n i rs rest (le-of-suc-le-suc l) h in
+    let there : pairIn u n rs ≡ true = pair-found u n rs ∙ rw ih (lt-ltb i (length rs) (le-of-suc-le-suc l)) in
+    rw (first (same r u n) refl (λ x. pairs-once R cs (e ++ (r ∷ [])) (p + 12) rs u n (pair-right u n e r x) rest) there, ih)
+  where
+    first : (b : Bool) → same r u n ≡ b → (same r u n ≡ true → pairIn u n rs ≡ false) → pairIn u n rs ≡ true → same r u n ≡ false
+    first false x f t = x
+    first true x f t = x ∙ sym t ∙ f x
+
+-- an entry's chunk is there, and is one that rule 5 allows
+pub chunk-in : (m : Model) (i : ℕ) → Sound m → i < length (m .refs) → getD (m .refs) i noRef .chunk < length (m .chunks)
+chunk-in m i s h = all-getD (RefOk (length (m .chunks))) (m .refs) i noRef (s .refs-ok) h .chunk-there
+
+pub chunk-plain : (cs : List Chunk) (e : List Ref) (p : ℕ) (rs : List Ref) (i : ℕ) → refsFault plainRules cs e p rs ≡ accept → i < length rs → Plain (getD cs (getD rs i noRef .chunk) noChunk)
+unfolding refsFault refFault
+chunk-plain cs e p [] i ok h = absurd (not-suc-le-zero h)
+chunk-plain cs e p (r ∷ rs) zero ok h = plain-plain (r .usage) (getD cs (r .chunk) noChunk) (check-accept _ _ _ (then-accept _ _ (then-accept _ _ (then-accept _ _ ok .1) .0) .0))
+chunk-plain cs e p (r ∷ rs) (suc i) ok h = chunk-plain cs (e ++ (r ∷ [])) (p + 12) rs i (then-accept _ _ (then-accept _ _ ok .1) .1) (le-of-suc-le-suc h)

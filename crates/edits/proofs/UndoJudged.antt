@@ -1,0 +1,233 @@
+-- Whether the file after an undo is accepted, told from the present file and the record: one test for each kind.
+use mathlib.Core.Path.{_≡_, refl, sym, ap, _∙_}
+use Prim.Native.Nat.{ℕ, suc, _+_, _-_, _≤_, _<_}
+use mathlib.Core.List.{List, [], _∷_, map, append-nil}
+use mathlib.Core.Bool.{Bool, true, false, cond, _&&_, not}
+use native.Mathlib.Omega.{arith}
+use lib.ListN.{length, take, drop-of-length-le}
+use lib.Dec.{eqb, leb, ltb}
+use borrow.Author.Tests.{eqb-true, eq-eqb, le-ltb, ltb-true, not-true}
+use Rattle.blorb.specs.Format.{isStart, placeOf, Ref, Chunk, size}
+use Rattle.blorb.specs.Tags.{RIdx}
+use Rattle.blorb.specs.Verdict.{accept, noChunk, verdict}
+use Rattle.blorb.specs.Tags.{Rect}
+use Rattle.blorb.specs.Rules.{plain, picture, plainRules}
+use Rattle.blorb.specs.Model.{Model, base, model, file}
+use Rattle.blorb.specs.Queries.{find, noRef, refAt, chunkAt, without, shared, start}
+use Rattle.blorb.proofs.All.{All, all-getD, all-take}
+use Rattle.blorb.proofs.Sound.{W, RefOk, Sound}
+use Rattle.blorb.proofs.Places.{startAt-placeOf}
+use Rattle.blorb.proofs.Accept.{Byte, accept-back}
+use Rattle.blorb.proofs.Checks.{then-accept}
+use Rattle.blorb.proofs.ModelLaws.{length-file, size-getD}
+use Rattle.blorb.proofs.VerdictLaws.{verdict-file, modelFault}
+use Rattle.edits.specs.Edit.{replace, edited, lower, replaced, removed, removedBoth, given}
+use Rattle.edits.specs.Journal.{Rec, samePair, fits, fits1, fits2, fits3, fits4, undone, undo1, undo2, undo3, undo4, oldChunk, oldRef, oldPlace}
+use Rattle.edits.specs.Run.{accepted}
+use Rattle.edits.proofs.P13.{length-replaced}
+use Rattle.edits.proofs.BoolLaws.{and-parts}
+use Rattle.edits.proofs.JudgedLaws.{model-parts, isFront, find-at, chunk-in}
+use Rattle.edits.proofs.RemoveJudged.{removed-length, removed-accepted}
+use Rattle.edits.proofs.ReplaceJudged.{replaced-accepted}
+use Rattle.edits.proofs.InsertJudged.{entryTests, entered-length, entered-accepted, inserted-length, inserted-accepted}
+
+-- ---- kind 1
+pub record Fits1 (r : Rec) (m : Model) : Type 0 where
+  pub count : length (m .refs) ≡ suc (r .place)
+  pub usage-is : refAt m (r .place) .usage ≡ r .usage
+  pub number-is : refAt m (r .place) .number ≡ r .number
+  pub last : suc (refAt m (r .place) .chunk) ≡ length (m .chunks)
+  pub alone : shared m (r .place) ≡ false
+
+pub fits1-facts : (r : Rec) (m : Model) → fits1 r m ≡ true → Fits1 r m
+unfolding fits1
+fits1-facts r m h =
+    let e : Ref = refAt m (r .place) in
+    let a : Bool = eqb (length (m .refs)) (suc (r .place)) in
+    let b : Bool = eqb (suc (e .chunk)) (length (m .chunks)) in
+    let p3 = and-parts (a && samePair r e && b) (not (shared m (r .place))) h in
+    let p2 = and-parts (a && samePair r e) b (p3 .0) in
+    let p1 = and-parts a (samePair r e) (p2 .0) in
+    let p0 = and-parts (eqb (e .usage) (r .usage)) (eqb (e .number) (r .number)) (p1 .1) in
+    record {
+      count = eqb-true _ _ (p1 .0);
+      usage-is = eqb-true _ _ (p0 .0);
+      number-is = eqb-true _ _ (p0 .1);
+      last = eqb-true _ _ (p2 .1);
+      alone = not-true _ (p3 .1);
+    }
+
+-- entries on chunks up to k stay as they are when chunk k goes
+lower-none : (k : ℕ) (rs : List Ref) → All (RefOk (suc k)) rs → map (lower k) rs ≡ rs
+unfolding lower
+lower-none k [] ok = refl
+lower-none k (r ∷ rs) ok =
+    let t : ltb k (r .chunk) ≡ false = le-ltb k (r .chunk) (omega (arith, ok .0 .chunk-there)) in
+    λ i. record { usage = r .usage; number = r .number; chunk = cond (t i) (r .chunk - 1) (r .chunk) } ∷ lower-none k rs (ok .1) i
+
+without-end : {A : Type 0} (i : ℕ) (l : List A) → length l ≡ suc i → without i l ≡ take (length l - 1) l
+unfolding without
+without-end i l h =
+    let e : length l - 1 ≡ i = omega arith in
+    let le : length l ≤ suc i = omega arith in
+    rw (drop-of-length-le l le, e) (append-nil (take i l))
+
+pub undo1-removed : (r : Rec) (m : Model) → Sound m → fits1 r m ≡ true → undo1 m ≡ removed m (r .place)
+unfolding undo1 removed removedBoth
+undo1-removed r m s fit =
+    let f = fits1-facts r m fit in
+    let k : ℕ = refAt m (r .place) .chunk in
+    let a = without-end (r .place) (m .refs) (f .count) in
+    let c = without-end k (m .chunks) (sym (f .last)) in
+    let ok : All (RefOk (suc k)) (take (length (m .refs) - 1) (m .refs)) = all-take (RefOk (suc k)) (length (m .refs) - 1) (m .refs) (rw (f .last) (s .refs-ok)) in
+    let b : map (lower k) (without (r .place) (m .refs)) ≡ take (length (m .refs) - 1) (m .refs) = ap (map (lower k)) a ∙ lower-none k (take (length (m .refs) - 1) (m .refs)) ok in
+    rw (f .alone) (λ i. record { refs = sym b i; chunks = sym c i })
+
+pub undo1-length : (r : Rec) (m : Model) → Sound m → modelFault plainRules m ≡ accept → fits1 r m ≡ true
+    → length (file (undo1 m)) + (12 + size (chunkAt m (refAt m (r .place) .chunk))) ≡ length (file m)
+undo1-length r m s ok fit =
+    let f = fits1-facts r m fit in
+    ap (λ (z : Model). length (file z) + (12 + size (chunkAt m (refAt m (r .place) .chunk)))) (undo1-removed r m s fit)
+    ∙ removed-length m (r .place) s ok (omega (arith, f .count)) (f .alone)
+
+-- accepted unless the frontispiece's picture goes
+pub undo1-accepted : (r : Rec) (m : Model) → Sound m → modelFault plainRules m ≡ accept → length (file m) ≤ 16777216 → fits1 r m ≡ true
+    → accepted (verdict plainRules (file (undo1 m))) ≡ not (isFront (m .chunks) (r .usage) (r .number))
+undo1-accepted r m s ok short fit =
+    let f = fits1-facts r m fit in
+    ap (λ (z : Model). accepted (verdict plainRules (file z))) (undo1-removed r m s fit)
+    ∙ removed-accepted m (r .place) s ok (omega (arith, f .count)) (f .alone) short
+    ∙ (λ i. not (isFront (m .chunks) (f .usage-is i) (f .number-is i)))
+
+-- ---- kind 2
+pub record Fits2 (r : Rec) (m : Model) : Type 0 where
+  pub inside : r .place < length (m .refs)
+  pub usage-is : refAt m (r .place) .usage ≡ r .usage
+  pub number-is : refAt m (r .place) .number ≡ r .number
+  pub starts : start m (refAt m (r .place) .chunk) ≡ r .start
+  pub alone : shared m (r .place) ≡ false
+
+pub fits2-facts : (r : Rec) (m : Model) → fits2 r m ≡ true → Fits2 r m
+unfolding fits2
+fits2-facts r m h =
+    let e : Ref = refAt m (r .place) in
+    let a : Bool = ltb (r .place) (length (m .refs)) in
+    let b : Bool = eqb (start m (e .chunk)) (r .start) in
+    let p3 = and-parts (a && samePair r e && b) (not (shared m (r .place))) h in
+    let p2 = and-parts (a && samePair r e) b (p3 .0) in
+    let p1 = and-parts a (samePair r e) (p2 .0) in
+    let p0 = and-parts (eqb (e .usage) (r .usage)) (eqb (e .number) (r .number)) (p1 .1) in
+    record {
+      inside = ltb-true _ _ (p1 .0);
+      usage-is = eqb-true _ _ (p0 .0);
+      number-is = eqb-true _ _ (p0 .1);
+      starts = eqb-true _ _ (p2 .1);
+      alone = not-true _ (p3 .1);
+    }
+
+-- the entry at that place is the one of that pair
+pub found-at : (r : Rec) (m : Model) → modelFault plainRules m ≡ accept → r .place < length (m .refs)
+    → refAt m (r .place) .usage ≡ r .usage → refAt m (r .place) .number ≡ r .number → find (r .usage) (r .number) (m .refs) ≡ r .place
+found-at r m ok h u n =
+    find-at plainRules (m .chunks) [] 24 (r .usage) (r .number) (r .place) (m .refs) (model-parts m ok .entries-fine) h
+    (rw (eq-eqb (refAt m (r .place) .usage) (r .usage) u, eq-eqb (refAt m (r .place) .number) (r .number) n))
+
+module _ (r : Rec) (m : Model) (s : Sound m) (ok : modelFault plainRules m ≡ accept) (fit : fits2 r m ≡ true) where
+  pub undo2-replaced : undo2 r m ≡ edited m (replace (r .usage) (r .number) (r .type) (r .body))
+  unfolding undo2 edited given
+  undo2-replaced =
+      let f = fits2-facts r m fit in
+      ap (λ (i : ℕ). replaced m (refAt m i .chunk) (oldChunk r)) (sym (found-at r m ok (f .inside) (f .usage-is) (f .number-is)))
+
+  pub undo2-length : length (file (undo2 r m)) ≡ length (file m) - size (chunkAt m (refAt m (r .place) .chunk)) + size (oldChunk r)
+  unfolding undo2
+  undo2-length =
+      let f = fits2-facts r m fit in
+      let there = chunk-in m (r .place) s (f .inside) in
+      omega (arith, length-replaced m (refAt m (r .place) .chunk) (oldChunk r) there, size-getD (m .chunks) (refAt m (r .place) .chunk) noChunk there, length-file m)
+
+  -- accepted if it is short enough, the old chunk is no index and one that rule 5 allows, and the frontispiece's picture doesn't become a 'Rect'
+  pub undo2-accepted : r .type < W → accepted (verdict plainRules (file (undo2 r m)))
+      ≡ (leb (length (file m) - size (chunkAt m (refAt m (r .place) .chunk)) + size (oldChunk r)) 16777216
+      && (not (eqb (r .type) RIdx) && (plain (r .usage) (oldChunk r) && not (isFront (m .chunks) (r .usage) (r .number) && eqb (r .type) Rect))))
+  unfolding undo2 given
+  undo2-accepted ht =
+      let f = fits2-facts r m fit in
+      let e : find (r .usage) (r .number) (m .refs) ≡ r .place = found-at r m ok (f .inside) (f .usage-is) (f .number-is) in
+      let g : RefOk (length (m .chunks)) (refAt m (r .place)) = all-getD (RefOk (length (m .chunks))) (m .refs) (r .place) noRef (s .refs-ok) (f .inside) in
+      let hu : r .usage < W = omega (arith, g .usage-fits, f .usage-is) in
+      let hn : r .number < W = omega (arith, g .number-fits, f .number-is) in
+      let h : find (r .usage) (r .number) (m .refs) < length (m .refs) = rw e (f .inside) in
+      let al : shared m (find (r .usage) (r .number) (m .refs)) ≡ false = rw e (f .alone) in
+      ap (λ (i : ℕ). accepted (verdict plainRules (file (replaced m (refAt m i .chunk) (oldChunk r))))) (sym e)
+      ∙ replaced-accepted m (r .usage) (r .number) (r .type) (r .body) s ok h al hu hn ht
+      ∙ ap (λ (i : ℕ). leb (length (file m) - size (chunkAt m (refAt m i .chunk)) + size (oldChunk r)) 16777216
+      && (not (eqb (r .type) RIdx) && (plain (r .usage) (oldChunk r) && not (isFront (m .chunks) (r .usage) (r .number) && eqb (r .type) Rect)))) e
+
+-- ---- kinds 3 and 4
+pub place-le : (x at : ℕ) (cs : List Chunk) → placeOf x at cs ≤ length cs
+unfolding placeOf
+place-le x at [] = omega arith
+place-le x at (c ∷ cs) = go (eqb x at) (place-le x (at + size c) cs)
+  where
+    go : (b : Bool) → placeOf x (at + size c) cs ≤ length cs → cond b 0 (suc (placeOf x (at + size c) cs)) ≤ length (c ∷ cs)
+    go true h = omega arith
+    go false h = omega arith
+
+module _ (r : Rec) (m : Model) (s : Sound m) (ok : modelFault plainRules m ≡ accept) where
+  pub undo3-length : length (file (undo3 r m)) ≡ length (file m) + 12 + size (oldChunk r)
+  unfolding undo3
+  undo3-length = inserted-length m (r .place) (oldPlace r m) (r .usage) (r .number) (oldChunk r) s ok (place-le (r .start - 12) (base (length (m .refs))) (m .chunks))
+
+  pub undo3-accepted : r .usage < W → r .number < W → r .type < W → accepted (verdict plainRules (file (undo3 r m)))
+      ≡ (leb (length (file m) + 12 + size (oldChunk r)) 16777216 && (not (eqb (r .type) RIdx) && (leb (suc (length (m .refs))) 4096
+      && entryTests (r .usage) (r .number) (oldChunk r) (m .refs))))
+  unfolding undo3
+  undo3-accepted hu hn ht = inserted-accepted m (r .place) (oldPlace r m) (r .usage) (r .number) (oldChunk r) s ok (place-le (r .start - 12) (base (length (m .refs))) (m .chunks)) hu hn ht
+
+  module _ (hu : r .usage < W) (hn : r .number < W) (fit : fits4 r m ≡ true) where
+    fits4-start : isStart (r .start - 12) (base (length (m .refs))) (m .chunks) ≡ true
+    unfolding fits4
+    fits4-start = and-parts (leb (r .place) (length (m .refs))) (isStart (r .start - 12) (base (length (m .refs))) (m .chunks)) fit .1
+
+    old-ok : RefOk (length (m .chunks)) (oldRef r m)
+    old-ok = record { usage-fits = hu; number-fits = hn; chunk-there = startAt-placeOf (r .start - 12) (base (length (m .refs))) (m .chunks) fits4-start .1 }
+
+    pub undo4-length : length (file (undo4 r m)) ≡ length (file m) + 12
+    unfolding undo4
+    undo4-length = entered-length m (r .place) (oldRef r m) s ok old-ok
+
+    pub undo4-accepted : accepted (verdict plainRules (file (undo4 r m)))
+        ≡ (leb (length (file m) + 12) 16777216 && (leb (suc (length (m .refs))) 4096 && entryTests (r .usage) (r .number) (chunkAt m (oldPlace r m)) (m .refs)))
+    unfolding undo4
+    undo4-accepted = entered-accepted m (r .place) (oldRef r m) s ok old-ok
+
+-- ---- by kind
+pub kind-1 : (r : Rec) (m : Model) → r .kind ≡ 1 → (fits r m ≡ fits1 r m) × (undone r m ≡ undo1 m)
+unfolding fits undone
+kind-1 r m h = (rw h, rw h)
+
+pub kind-2 : (r : Rec) (m : Model) → r .kind ≡ 2 → (fits r m ≡ fits2 r m) × (undone r m ≡ undo2 r m)
+unfolding fits undone
+kind-2 r m h = (rw h, rw h)
+
+pub kind-3 : (r : Rec) (m : Model) → r .kind ≡ 3 → (fits r m ≡ fits3 r m) × (undone r m ≡ undo3 r m)
+unfolding fits undone
+kind-3 r m h = (rw h, rw h)
+
+pub kind-4 : (r : Rec) (m : Model) → r .kind ≡ 4 → (fits r m ≡ fits4 r m) × (undone r m ≡ undo4 r m)
+unfolding fits undone
+kind-4 r m h = (rw h, rw h)
+
+-- an accepted file's model is as the laws above want it
+pub record Stood (f : List ℕ) : Type 0 where
+  pub sound : Sound (model f)
+  pub judged : modelFault plainRules (model f) ≡ accept
+  pub whole : file (model f) ≡ f
+  pub short : length (file (model f)) ≤ 16777216
+
+pub accepted-stood : (f : List ℕ) → All Byte f → verdict plainRules f ≡ accept → Stood f
+accepted-stood f bytes fine =
+    let g = accept-back plainRules f bytes fine in
+    let old = sym (verdict-file plainRules (model f) (g .1)) ∙ ap (verdict plainRules) (g .0) ∙ fine in
+    record { sound = g .1; judged = then-accept _ _ old .1; whole = g .0; short = omega (arith, ap length (g .0), g .2) }

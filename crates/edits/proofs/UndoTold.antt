@@ -1,0 +1,150 @@
+-- Refusal 21 of an undo, told from the record's numbers and what the reader tells of the present file: one test for each kind.
+-- And the length of the file after it.
+use mathlib.Core.Path.{_≡_, sym, ap, _∙_}
+use Prim.Native.Nat.{ℕ, suc, _+_, _-_, _<_, _%_}
+use mathlib.Core.List.{List}
+use mathlib.Core.Bool.{Bool, true, _&&_, not}
+use lib.ListN.{length, take, drop}
+use lib.Dec.{eqb, leb}
+use Rattle.blorb.specs.Bytes.{rd32}
+use Rattle.blorb.specs.Tags.{RIdx}
+use Rattle.blorb.specs.Verdict.{verdict}
+use Rattle.blorb.specs.Tags.{Rect}
+use Rattle.blorb.specs.Rules.{plain, plainRules}
+use Rattle.blorb.specs.Model.{Model, model, file}
+use Rattle.blorb.specs.Queries.{find, refAt, chunkAt}
+use Rattle.blorb.proofs.All.{All, all-take, all-drop}
+use Rattle.blorb.proofs.Sound.{W}
+use Rattle.blorb.proofs.Accept.{Byte, rd32-small}
+use Rattle.edits.specs.Journal.{Rec, trailer, recIn, lastBody, lastRec, fits, fits1, fits2, fits4, undo2, oldChunk, oldPlace}
+use Rattle.edits.specs.Run.{accepted, undoneFile}
+use Rattle.edits.proofs.BoolLaws.{and-where}
+use Rattle.edits.proofs.JudgedLaws.{isFront}
+use Rattle.edits.proofs.InsertJudged.{entryTests}
+use Rattle.edits.proofs.UndoJudged.{Stood, kind-1, kind-2, kind-3, kind-4, fits2-facts, found-at, undo1-length, undo1-accepted, undo2-length, undo2-accepted, undo3-length, undo3-accepted, undo4-length, undo4-accepted}
+use Rattle.edits.proofs.FitFacts.{size-is, told1, told2, told3, told4, fits1-told, fits2-told, fits3-told, fits4-told}
+
+-- a record read from bytes has numbers of 32 bits
+body-bytes : (j : List ℕ) → All Byte j → All Byte (lastBody j)
+unfolding lastBody
+body-bytes j h = all-drop Byte (length j - (4 + trailer j)) (take (length j - 4) j) (all-take Byte (length j - 4) j h)
+
+pub last-small : (j : List ℕ) → All Byte j → (lastRec j .usage < W) × (lastRec j .number < W) × (lastRec j .type < W)
+unfolding lastRec recIn
+last-small j h = (small 1, small 5, small 17)
+  where
+    small : (k : ℕ) → rd32 (drop k (lastBody j)) < W
+    small k = rd32-small (drop k (lastBody j)) (all-drop Byte k (lastBody j) (body-bytes j h))
+
+-- the bytes of a chunk with n data bytes
+abbrev pub sizeOf : ℕ → ℕ
+sizeOf n = 8 + (n + n % 2)
+
+-- the file after an undo of kind 2, whose entry the reader found at i: its length, and whether it is accepted
+abbrev pub length2 : Rec → Model → ℕ → ℕ → ℕ
+length2 r m L i = L - sizeOf (length (chunkAt m (refAt m i .chunk) .body)) + sizeOf (length (r .body))
+
+abbrev pub accepted2 : Rec → Model → ℕ → ℕ → Bool
+accepted2 r m L i =
+    leb (length2 r m L i) 16777216
+    && (not (eqb (r .type) RIdx) && (plain (r .usage) (oldChunk r) && not (isFront (m .chunks) (r .usage) (r .number) && eqb (r .type) Rect)))
+
+abbrev pub accepted3 : Rec → Model → ℕ → Bool
+accepted3 r m L =
+    leb (L + 12 + sizeOf (length (r .body))) 16777216
+    && (not (eqb (r .type) RIdx) && (leb (suc (length (m .refs))) 4096 && entryTests (r .usage) (r .number) (oldChunk r) (m .refs)))
+
+abbrev pub accepted4 : Rec → Model → ℕ → Bool
+accepted4 r m L = leb (L + 12) 16777216 && (leb (suc (length (m .refs))) 4096 && entryTests (r .usage) (r .number) (chunkAt m (oldPlace r m)) (m .refs))
+
+module _ (f j : List ℕ) (st : Stood f) (bytes : All Byte j) where
+  abbrev m : Model
+  m = model f
+
+  abbrev r : Rec
+  r = lastRec j
+
+  abbrev at : ℕ
+  at = find (lastRec j .usage) (lastRec j .number) (model f .refs)
+
+  abbrev test : Bool
+  test = fits (lastRec j) (model f) && accepted (verdict plainRules (undoneFile f j))
+
+  same-length : length (file (model f)) ≡ length f
+  same-length = ap length (st .whole)
+
+  pub test-1 : lastRec j .kind ≡ 1 → (fits (lastRec j) (model f) && accepted (verdict plainRules (undoneFile f j)))
+      ≡ (told1 (lastRec j) (model f) (length f) (find (lastRec j .usage) (lastRec j .number) (model f .refs)) && not (isFront (model f .chunks) (lastRec j .usage) (lastRec j .number)))
+  unfolding undoneFile
+  test-1 h =
+      let k = kind-1 r m h in
+      let z : Bool = not (isFront (m .chunks) (r .usage) (r .number)) in
+      (λ i. k .0 i && accepted (verdict plainRules (file (k .1 i))))
+      ∙ and-where (fits1 r m) _ z (λ fit. undo1-accepted r m (st .sound) (st .judged) (st .short) fit)
+      ∙ ap (λ (b : Bool). b && z) (fits1-told r m (st .sound) (st .judged) ∙ ap (λ (L : ℕ). told1 r m L at) same-length)
+
+  pub test-2 : lastRec j .kind ≡ 2 → (fits (lastRec j) (model f) && accepted (verdict plainRules (undoneFile f j)))
+      ≡ (told2 (lastRec j) (model f) (find (lastRec j .usage) (lastRec j .number) (model f .refs))
+      && accepted2 (lastRec j) (model f) (length f) (find (lastRec j .usage) (lastRec j .number) (model f .refs)))
+  unfolding undoneFile
+  test-2 h =
+      let k = kind-2 r m h in
+      (λ i. k .0 i && accepted (verdict plainRules (file (k .1 i))))
+      ∙ and-where (fits2 r m) _ (accepted2 r m (length f) at) part
+      ∙ ap (λ (b : Bool). b && accepted2 r m (length f) at) (fits2-told r m (st .sound) (st .judged))
+    where
+      part : fits2 (lastRec j) (model f) ≡ true → accepted (verdict plainRules (file (undo2 (lastRec j) (model f)))) ≡ accepted2 (lastRec j) (model f) (length f) at
+      part fit =
+          let p = fits2-facts r m fit in
+          let i : at ≡ r .place = found-at r m (st .judged) (p .inside) (p .usage-is) (p .number-is) in
+          undo2-accepted r m (st .sound) (st .judged) fit (last-small j bytes .2)
+          ∙ (λ z. leb (same-length z - size-is (chunkAt m (refAt m (r .place) .chunk)) z + size-is (oldChunk r) z) 16777216
+          && (not (eqb (r .type) RIdx) && (plain (r .usage) (oldChunk r) && not (isFront (m .chunks) (r .usage) (r .number) && eqb (r .type) Rect))))
+          ∙ ap (accepted2 r m (length f)) (sym i)
+
+  pub test-3 : lastRec j .kind ≡ 3 → (fits (lastRec j) (model f) && accepted (verdict plainRules (undoneFile f j)))
+      ≡ (told3 (lastRec j) (model f) (length f) && accepted3 (lastRec j) (model f) (length f))
+  unfolding undoneFile
+  test-3 h =
+      let k = kind-3 r m h in
+      let w = last-small j bytes in
+      (λ i. k .0 i && accepted (verdict plainRules (file (k .1 i))))
+      ∙ (λ i. (fits3-told r m ∙ ap (told3 r m) same-length) i && undo3-accepted r m (st .sound) (st .judged) (w .0) (w .1) (w .2) i)
+      ∙ (λ z. told3 r m (length f) && (leb (same-length z + 12 + size-is (oldChunk r) z) 16777216
+      && (not (eqb (r .type) RIdx) && (leb (suc (length (m .refs))) 4096 && entryTests (r .usage) (r .number) (oldChunk r) (m .refs)))))
+
+  pub test-4 : lastRec j .kind ≡ 4 → (fits (lastRec j) (model f) && accepted (verdict plainRules (undoneFile f j)))
+      ≡ (told4 (lastRec j) (model f) && accepted4 (lastRec j) (model f) (length f))
+  unfolding undoneFile
+  test-4 h =
+      let k = kind-4 r m h in
+      let w = last-small j bytes in
+      (λ i. k .0 i && accepted (verdict plainRules (file (k .1 i))))
+      ∙ and-where (fits4 r m) _ (accepted4 r m (length f)) (λ fit. undo4-accepted r m (st .sound) (st .judged) (w .0) (w .1) fit ∙ ap (accepted4 r m) same-length)
+      ∙ ap (λ (b : Bool). b && accepted4 r m (length f)) (fits4-told r m)
+
+  -- the length of the file after it, for 24
+  pub after-1 : lastRec j .kind ≡ 1 → fits1 (lastRec j) (model f) ≡ true
+      → length (undoneFile f j) + (12 + sizeOf (length (chunkAt (model f) (refAt (model f) (lastRec j .place) .chunk) .body))) ≡ length f
+  unfolding undoneFile
+  after-1 h fit =
+      (λ i. length (file (kind-1 r m h .1 i)) + (12 + sym (size-is (chunkAt m (refAt m (r .place) .chunk))) i))
+      ∙ undo1-length r m (st .sound) (st .judged) fit ∙ same-length
+
+  pub after-2 : lastRec j .kind ≡ 2 → fits2 (lastRec j) (model f) ≡ true → length (undoneFile f j) ≡ length2 (lastRec j) (model f) (length f) (lastRec j .place)
+  unfolding undoneFile
+  after-2 h fit =
+      ap (λ (z : Model). length (file z)) (kind-2 r m h .1) ∙ undo2-length r m (st .sound) (st .judged) fit
+      ∙ (λ i. same-length i - size-is (chunkAt m (refAt m (r .place) .chunk)) i + size-is (oldChunk r) i)
+
+  pub after-3 : lastRec j .kind ≡ 3 → length (undoneFile f j) ≡ length f + 12 + sizeOf (length (lastRec j .body))
+  unfolding undoneFile
+  after-3 h =
+      ap (λ (z : Model). length (file z)) (kind-3 r m h .1) ∙ undo3-length r m (st .sound) (st .judged)
+      ∙ (λ i. same-length i + 12 + size-is (oldChunk r) i)
+
+  pub after-4 : lastRec j .kind ≡ 4 → fits4 (lastRec j) (model f) ≡ true → length (undoneFile f j) ≡ length f + 12
+  unfolding undoneFile
+  after-4 h fit =
+      let w = last-small j bytes in
+      ap (λ (z : Model). length (file z)) (kind-4 r m h .1) ∙ undo4-length r m (st .sound) (st .judged) (w .0) (w .1) fit ∙ ap (λ (z : ℕ). z + 12) same-length

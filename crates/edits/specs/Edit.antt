@@ -1,0 +1,53 @@
+-- The edits (01, The edits): what file results.
+use Prim.Native.Nat.{ℕ, zero, suc, _+_, _*_, _-_}
+use mathlib.Core.List.{List, [], _∷_, _++_, map}
+use mathlib.Core.Bool.{Bool, true, false, cond, _&&_, _||_, not}
+use lib.ListN.{length, getD, take, drop, set}
+use lib.Dec.{eqb, leb, ltb}
+use Rattle.blorb.specs.Format.{Ref, Chunk, Entry}
+use Rattle.blorb.specs.Verdict.{noChunk}
+use Rattle.blorb.specs.Model.{Model}
+use Rattle.blorb.specs.Queries.{without, find, refAt, shared}
+
+pub data Edit : Type 0 where
+  add : ℕ → ℕ → ℕ → List ℕ → Edit
+  replace : ℕ → ℕ → ℕ → List ℕ → Edit
+  remove : ℕ → ℕ → Edit
+
+module _ {A : Type 0} where
+  -- the list with x put in at i
+  unfoldable pub with-at : ℕ → A → List A → List A
+  with-at i x l = take i l ++ x ∷ drop i l
+
+-- an entry's chunk by its place after chunk k is gone, and after a chunk has come in at k
+unfoldable pub lower : ℕ → Ref → Ref
+lower k r = record { usage = r .usage; number = r .number; chunk = cond (ltb k (r .chunk)) (r .chunk - 1) (r .chunk) }
+
+unfoldable pub raise : ℕ → Ref → Ref
+raise k r = record { usage = r .usage; number = r .number; chunk = cond (leb k (r .chunk)) (suc (r .chunk)) (r .chunk) }
+
+unfoldable pub added : Model → ℕ → ℕ → Chunk → Model
+added m u n c = record { refs = m .refs ++ (record { usage = u; number = n; chunk = length (m .chunks) } ∷ []); chunks = m .chunks ++ (c ∷ []) }
+
+-- chunk k is now c
+unfoldable pub replaced : Model → ℕ → Chunk → Model
+replaced m k c = record { refs = m .refs; chunks = set (m .chunks) k c }
+
+-- entry i goes and its chunk k
+unfoldable pub removedBoth : Model → ℕ → ℕ → Model
+removedBoth m i k = record { refs = map (lower k) (without i (m .refs)); chunks = without k (m .chunks) }
+
+unfoldable pub removedEntry : Model → ℕ → Model
+removedEntry m i = record { refs = without i (m .refs); chunks = m .chunks }
+
+unfoldable pub removed : Model → ℕ → Model
+removed m i = cond (shared m i) (removedEntry m i) (removedBoth m i (refAt m i .chunk))
+
+-- the chunk that the arguments of add and replace describe (P3 changes this one)
+unfoldable pub given : ℕ → List ℕ → Chunk
+given t d = record { type = t; body = d }
+
+unfoldable pub edited : Model → Edit → Model
+edited m (add u n t d) = added m u n (given t d)
+edited m (replace u n t d) = replaced m (refAt m (find u n (m .refs)) .chunk) (given t d)
+edited m (remove u n) = removed m (find u n (m .refs))

@@ -1,0 +1,123 @@
+-- The undo journal's records (01, The undo journal).
+use Prim.Native.Nat.{ℕ, zero, suc, _+_, _*_, _-_}
+use mathlib.Core.List.{List, [], _∷_, _++_, map}
+use mathlib.Core.Bool.{Bool, true, false, cond, _&&_, _||_, not}
+use lib.ListN.{length, getD, take, drop, set}
+use lib.Dec.{eqb, leb, ltb}
+use Rattle.blorb.specs.Bytes.{be32, rd32}
+use Rattle.blorb.specs.Format.{Ref, Chunk, Entry, isStart, placeOf, total}
+use Rattle.blorb.specs.Queries.{start}
+use Rattle.blorb.specs.Model.{Model, base, startAt}
+use Rattle.edits.specs.Edit.{Edit, add, replace, remove, with-at, raise, replaced}
+use Rattle.blorb.specs.Queries.{find, uses, shared, refAt, chunkAt, without}
+
+pub record Rec : Type 0 where
+  pub kind : ℕ
+  pub usage : ℕ
+  pub number : ℕ
+  pub place : ℕ
+  pub start : ℕ
+  pub type : ℕ
+  pub body : List ℕ
+
+-- what stands before the trailer
+unfoldable pub recBody : Rec → List ℕ
+recBody r =
+    r .kind ∷ (be32 (r .usage) ++ (be32 (r .number) ++ (be32 (r .place) ++ (be32 (r .start) ++ (be32 (r .type) ++ (be32 (length (r .body)) ++ r .body))))))
+
+unfoldable pub recBytes : Rec → List ℕ
+recBytes r = recBody r ++ be32 (25 + length (r .body))
+
+-- the record of an edit, from the file before it
+unfoldable pub removal : Bool → Model → ℕ → ℕ → ℕ → Rec
+removal true m u n i = record { kind = 4; usage = u; number = n; place = i; start = start m (refAt m i .chunk); type = 0; body = [] }
+removal false m u n i = record { kind = 3; usage = u; number = n; place = i; start = start m (refAt m i .chunk); type = chunkAt m (refAt m i .chunk) .type; body = chunkAt m (refAt m i .chunk) .body }
+
+unfoldable pub recOf : Model → Edit → Rec
+recOf m (add u n t d) = record { kind = 1; usage = u; number = n; place = length (m .refs); start = 0; type = 0; body = [] }
+recOf m (replace u n t d) =
+    let i = find u n (m .refs) in
+    let k = refAt m i .chunk in
+    record { kind = 2; usage = u; number = n; place = i; start = start m k; type = chunkAt m k .type; body = chunkAt m k .body }
+recOf m (remove u n) = removal (shared m (find u n (m .refs))) m u n (find u n (m .refs))
+
+-- reading the last record of a journal's first U bytes: t is the trailer
+unfoldable pub trailer : List ℕ → ℕ
+trailer j = rd32 (drop (length j - 4) j)
+
+unfoldable pub recIn : List ℕ → Rec
+recIn s = record
+  { kind = getD s 0 0; usage = rd32 (drop 1 s); number = rd32 (drop 5 s); place = rd32 (drop 9 s); start = rd32 (drop 13 s); type = rd32 (drop 17 s)
+  ; body = drop 25 s }
+
+unfoldable pub lastBody : List ℕ → List ℕ
+lastBody j = drop (length j - (4 + trailer j)) (take (length j - 4) j)
+
+unfoldable pub lastRec : List ℕ → Rec
+lastRec j = recIn (lastBody j)
+
+-- the fields that the kind names zero
+unfoldable pub zeros : Rec → Bool
+zeros r =
+    (not (eqb (r .kind) 1) || (eqb (r .start) 0 && eqb (r .type) 0 && eqb (length (r .body)) 0))
+    && (not (eqb (r .kind) 4) || (eqb (r .type) 0 && eqb (length (r .body)) 0))
+
+unfoldable pub wellFormed : List ℕ → Bool
+wellFormed j =
+    leb 29 (length j) && leb 25 (trailer j) && leb (trailer j) (length j - 4)
+    && eqb (25 + rd32 (drop 21 (lastBody j))) (trailer j)
+    && leb 1 (lastRec j .kind) && leb (lastRec j .kind) 4 && zeros (lastRec j)
+
+-- the record fits this file
+abbrev pub samePair : Rec → Ref → Bool
+samePair r e = eqb (e .usage) (r .usage) && eqb (e .number) (r .number)
+
+unfoldable pub fits1 : Rec → Model → Bool
+fits1 r m =
+    eqb (length (m .refs)) (suc (r .place)) && samePair r (refAt m (r .place))
+    && eqb (suc (refAt m (r .place) .chunk)) (length (m .chunks)) && not (shared m (r .place))
+
+unfoldable pub fits2 : Rec → Model → Bool
+fits2 r m =
+    ltb (r .place) (length (m .refs)) && samePair r (refAt m (r .place))
+    && eqb (start m (refAt m (r .place) .chunk)) (r .start) && not (shared m (r .place))
+
+-- a chunk's beginning behind the index, or the file's end
+unfoldable pub fits3 : Rec → Model → Bool
+fits3 r m =
+    leb (r .place) (length (m .refs))
+    && (isStart (r .start - 12) (base (length (m .refs))) (m .chunks) || eqb (r .start - 12) (start m (length (m .chunks))))
+
+unfoldable pub fits4 : Rec → Model → Bool
+fits4 r m = leb (r .place) (length (m .refs)) && isStart (r .start - 12) (base (length (m .refs))) (m .chunks)
+
+abbrev pub byKind {ℓ} : {A : Type ℓ} → ℕ → A → A → A → A → A
+byKind k a b c d = cond (eqb k 1) a (cond (eqb k 2) b (cond (eqb k 3) c d))
+
+unfoldable pub fits : Rec → Model → Bool
+fits r m = byKind (r .kind) (fits1 r m) (fits2 r m) (fits3 r m) (fits4 r m)
+
+-- the model after the undo
+unfoldable pub undo1 : Model → Model
+undo1 m = record { refs = take (length (m .refs) - 1) (m .refs); chunks = take (length (m .chunks) - 1) (m .chunks) }
+
+abbrev pub oldChunk : Rec → Chunk
+oldChunk r = record { type = r .type; body = r .body }
+
+abbrev pub oldPlace : Rec → Model → ℕ
+oldPlace r m = placeOf (r .start - 12) (base (length (m .refs))) (m .chunks)
+
+abbrev pub oldRef : Rec → Model → Ref
+oldRef r m = record { usage = r .usage; number = r .number; chunk = oldPlace r m }
+
+unfoldable pub undo2 : Rec → Model → Model
+undo2 r m = replaced m (refAt m (r .place) .chunk) (oldChunk r)
+
+unfoldable pub undo3 : Rec → Model → Model
+undo3 r m = record { refs = with-at (r .place) (oldRef r m) (map (raise (oldPlace r m)) (m .refs)); chunks = with-at (oldPlace r m) (oldChunk r) (m .chunks) }
+
+unfoldable pub undo4 : Rec → Model → Model
+undo4 r m = record { refs = with-at (r .place) (oldRef r m) (m .refs); chunks = m .chunks }
+
+unfoldable pub undone : Rec → Model → Model
+undone r m = byKind (r .kind) (undo1 m) (undo2 r m) (undo3 r m) (undo4 r m)

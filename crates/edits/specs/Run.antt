@@ -1,0 +1,171 @@
+-- The calls on the lent buffers, the ledger, and whole runs (01, Whole runs).
+use Prim.Native.Nat.{ℕ, zero, suc, _+_, _*_, _-_, _<_, max}
+use mathlib.Core.List.{List, [], _∷_, _++_, map}
+use mathlib.Core.Bool.{Bool, true, false, cond, _&&_, _||_, not}
+use lib.ListN.{length, getD, take, drop, replicate}
+use lib.Dec.{eqb, leb, ltb}
+use Rattle.blorb.specs.Format.{Chunk, Entry}
+use Rattle.blorb.specs.Verdict.{Rules, Verdict, accept, refuse, _then_, check, verdict}
+use Rattle.blorb.specs.Model.{Model, model, file}
+use Rattle.edits.specs.Edit.{Edit, add, replace, remove, edited}
+use Rattle.blorb.specs.Queries.{find, shared}
+use Rattle.edits.specs.Journal.{Rec, recOf, recBytes, lastRec, wellFormed, fits, undone}
+
+-- the lent buffers and what counts of them
+pub record State : Type 0 where
+  pub buffer : List ℕ
+  pub L : ℕ
+  pub journal : List ℕ
+  pub U : ℕ
+
+pub data Call : Type 0 where
+  edit : Edit → Call
+  undo : Call
+
+-- the arguments are numbers of 32 bits
+abbrev pub ArgsOk : Edit → Type 0
+ArgsOk (add u n t d) = (u < 4294967296) × (n < 4294967296) × (t < 4294967296)
+ArgsOk (replace u n t d) = (u < 4294967296) × (n < 4294967296) × (t < 4294967296)
+ArgsOk (remove u n) = (u < 4294967296) × (n < 4294967296)
+
+-- a call's arguments are numbers of 32 bits
+abbrev pub CallOk : Call → Type 0
+CallOk (edit e) = ArgsOk e
+CallOk undo = Unit {0}
+
+-- a call's answer: success or a refusal, and L and U after it
+pub record Answer : Type 0 where
+  pub result : Verdict
+  pub L : ℕ
+  pub U : ℕ
+
+abbrev pub accepted : Verdict → Bool
+accepted accept = true
+accepted (refuse k p) = false
+
+-- the refusal of a resulting file
+abbrev pub hundred : Verdict → Verdict
+hundred accept = accept
+hundred (refuse k p) = refuse (100 + k) p
+
+-- a whole file f written over one of L bytes
+unfoldable pub written : List ℕ → ℕ → List ℕ → List ℕ
+written buffer L f = f ++ (replicate (L - length f) 0 ++ drop (max L (length f)) buffer)
+
+-- a record written at U
+unfoldable pub noted : List ℕ → ℕ → List ℕ → List ℕ
+noted journal U r = take U journal ++ (r ++ drop (U + length r) journal)
+
+-- 22 and 23
+unfoldable pub targetFault : Model → Edit → Verdict
+targetFault m (add u n t d) = accept
+targetFault m (replace u n t d) = check (ltb (find u n (m .refs)) (length (m .refs))) 22 0 then check (not (shared m (find u n (m .refs)))) 23 0
+targetFault m (remove u n) = check (ltb (find u n (m .refs)) (length (m .refs))) 22 0
+
+-- the file after an edit, and the edit's record
+unfoldable pub editedFile : List ℕ → Edit → List ℕ
+editedFile f e = file (edited (model f) e)
+
+unfoldable pub editRecord : List ℕ → Edit → List ℕ
+editRecord f e = recBytes (recOf (model f) e)
+
+unfoldable pub undoneFile : List ℕ → List ℕ → List ℕ
+undoneFile f j = file (undone (lastRec j) (model f))
+
+abbrev pub answered : Verdict → State → State → State
+answered accept s t = t
+answered (refuse k p) s t = s
+
+unfoldable pub afterEdit : State → Edit → State
+afterEdit s e =
+    let f = take (s .L) (s .buffer) in
+    record
+    { buffer = written (s .buffer) (s .L) (editedFile f e); L = length (editedFile f e)
+    ; journal = noted (s .journal) (s .U) (editRecord f e); U = s .U + length (editRecord f e) }
+
+unfoldable pub afterUndo : State → State
+afterUndo s =
+    let f = take (s .L) (s .buffer) in
+    let j = take (s .U) (s .journal) in
+    record
+    { buffer = written (s .buffer) (s .L) (undoneFile f j); L = length (undoneFile f j)
+    ; journal = s .journal; U = s .U - (29 + length (lastRec j .body)) }
+
+unfoldable pub after : State → Call → State
+after s (edit e) = afterEdit s e
+after s undo = afterUndo s
+
+-- the ledger's file and records: the edits not taken back stand in the list, the last one first
+module _ (f₀ : List ℕ) where
+  unfoldable pub ledgerFile : List Edit → List ℕ
+  ledgerFile [] = f₀
+  ledgerFile (e ∷ es) = editedFile (ledgerFile es) e
+
+  unfoldable pub ledgerRecords : List Edit → List ℕ
+  ledgerRecords [] = []
+  ledgerRecords (e ∷ es) = ledgerRecords es ++ editRecord (ledgerFile es) e
+
+abbrev pub kept : Verdict → List Edit → List Edit → List Edit
+kept accept es fs = fs
+kept (refuse k p) es fs = es
+
+unfoldable pub ledgerAfter : List Edit → Call → List Edit
+ledgerAfter es (edit e) = e ∷ es
+ledgerAfter [] undo = []
+ledgerAfter (e ∷ es) undo = es
+
+module _ (R : Rules) where
+  -- an edit's refusal, for a file f of length L in a buffer of N bytes and U bytes used of a journal of J
+  unfoldable pub editFault : ℕ → ℕ → List ℕ → ℕ → ℕ → Edit → Verdict
+  editFault N J f L U e =
+      check (leb L N && leb U J) 20 0
+      then verdict R f
+      then targetFault (model f) e
+      then hundred (verdict R (editedFile f e))
+      then check (leb (length (editedFile f e)) N) 24 0
+      then check (leb (U + length (editRecord f e)) J) 25 0
+
+  -- an undo's, j being the journal's first U bytes
+  unfoldable pub undoFault : ℕ → ℕ → List ℕ → ℕ → ℕ → List ℕ → Verdict
+  undoFault N J f L U j =
+      check (leb L N && leb U J) 20 0
+      then verdict R f
+      then check (not (eqb U 0)) 26 0
+      then check (wellFormed j && fits (lastRec j) (model f) && accepted (verdict R (undoneFile f j))) 21 0
+      then check (leb (length (undoneFile f j)) N) 24 0
+
+  unfoldable pub fault : State → Call → Verdict
+  fault s (edit e) = editFault (length (s .buffer)) (length (s .journal)) (take (s .L) (s .buffer)) (s .L) (s .U) e
+  fault s undo = undoFault (length (s .buffer)) (length (s .journal)) (take (s .L) (s .buffer)) (s .L) (s .U) (take (s .U) (s .journal))
+
+  -- a call
+  unfoldable pub step : State → Call → State
+  step s c = answered (fault s c) s (after s c)
+
+  -- the answers of a run, and the state after it
+  unfoldable pub run : State → List Call → State
+  run s [] = s
+  run s (c ∷ cs) = run (step s c) cs
+
+  unfoldable pub answers : State → List Call → List Answer
+  answers s [] = []
+  answers s (c ∷ cs) = record { result = fault s c; L = step s c .L; U = step s c .U } ∷ answers (step s c) cs
+
+  -- the ledger: the starting file, both buffers' lengths, and the edits not taken back, the last one first
+  module _ (f₀ : List ℕ) (N J : ℕ) where
+    unfoldable pub ledgerFault : List Edit → Call → Verdict
+    ledgerFault es (edit e) = editFault N J (ledgerFile f₀ es) (length (ledgerFile f₀ es)) (length (ledgerRecords f₀ es)) e
+    ledgerFault [] undo = refuse 26 0
+    ledgerFault (e ∷ es) undo = accept
+
+    unfoldable pub ledgerStep : List Edit → Call → List Edit
+    ledgerStep es c = kept (ledgerFault es c) es (ledgerAfter es c)
+
+    unfoldable pub ledgerRun : List Edit → List Call → List Edit
+    ledgerRun es [] = es
+    ledgerRun es (c ∷ cs) = ledgerRun (ledgerStep es c) cs
+
+    unfoldable pub ledgerAnswers : List Edit → List Call → List Answer
+    ledgerAnswers es [] = []
+    ledgerAnswers es (c ∷ cs) =
+        record { result = ledgerFault es c; L = length (ledgerFile f₀ (ledgerStep es c)); U = length (ledgerRecords f₀ (ledgerStep es c)) } ∷ ledgerAnswers (ledgerStep es c) cs

@@ -1,0 +1,72 @@
+-- 01's samples, proved in one table under a single statement. The rows marked with a star in 01 are all here; what the code does with
+-- these files follows by its contracts, which are equations with the definitions that the rows compute.
+use mathlib.Core.Path.{_≡_, refl}
+use Prim.Native.Nat.{ℕ}
+use mathlib.Core.List.{List, [], _∷_, _++_}
+use lib.ListN.{take, set}
+use Rattle.blorb.specs.Bytes.{be32, rd32}
+use Rattle.blorb.specs.Tags.{FORM, IFRS, Pict, Data, Rect, TEXT, BINA}
+use Rattle.blorb.specs.declared.Usage.the-variants as usage
+use Rattle.blorb.proofs.All.{All}
+use Rattle.edits.specs.Edit.{Edit, add, replace, remove}
+use Rattle.reader.specs.declared.Reading.the-variants.{Accepted, Refused}
+use Rattle.reader.specs.declared.Asked.the-variants.{Given, Refused as NotGiven}
+use Rattle.reader.specs.declared.Looked.the-variants.{Found, Refused as NotFound}
+use Rattle.samples.specs.Files.{blank, A, B, withoutEel, binary, eel, sides, addedEel, addedRect, removedEel, replacedEel}
+use Rattle.samples.specs.Rows.{Row, reads, asks, looks, edits, undoes, Holds}
+use Rattle.blorb.specs.Format.{sized, size, chunkBytes, chunksBytes, total, fileBytes, chunkIn, chunksIn, chunksOf, entryIn, entriesIn, entryBytes, entriesBytes, indexChunk, entriesOf, isStart, placeOf, refOf}
+use Rattle.blorb.specs.Verdict.{_then_, check, headFault, chunkFault, walkFault, secondIndex, indexFault, pairIn, refFault, entriesFault, restFault, layoutFault, verdict}
+use Rattle.blorb.specs.Rules.{oneOf, plain, picture, typeIn, single, chunkRule, chunkRules, optional, plainVerdict}
+use Rattle.blorb.specs.Model.{base, startAt, entryOf, file, modelOf, model}
+use Rattle.blorb.specs.Queries.{without, find, uses, shared, start, frontPlace}
+use Rattle.blorb.specs.Usages.{usageOf}
+use Rattle.edits.specs.Edit.{with-at, lower, raise, added, replaced, removedBoth, removedEntry, removed, given, edited}
+use Rattle.edits.specs.Journal.{recBody, recBytes, removal, recOf, trailer, recIn, lastBody, lastRec, zeros, wellFormed, fits1, fits2, fits3, fits4, fits, undo1, undo2, undo3, undo4, undone}
+use Rattle.edits.specs.Run.{targetFault, editedFile, editRecord, undoneFile, editFault, undoFault}
+use Rattle.reader.specs.Reading.{indexOf, readOf, entryOf as readerEntryOf, hitIn, lookupOf}
+
+-- opens every definition that a row computes with: a definition opens what its own line names
+computed : ℕ
+unfolding be32 rd32 sized size chunkBytes chunksBytes total fileBytes chunkIn chunksIn chunksOf entryIn entriesIn entryBytes entriesBytes indexChunk entriesOf isStart placeOf refOf _then_ check headFault chunkFault walkFault secondIndex indexFault pairIn refFault entriesFault restFault layoutFault verdict oneOf plain picture typeIn single chunkRule chunkRules optional plainVerdict base startAt entryOf file modelOf model without find uses shared start frontPlace usageOf with-at lower raise added replaced removedBoth removedEntry removed given edited recBody recBytes removal recOf trailer recIn lastBody lastRec zeros wellFormed fits1 fits2 fits3 fits4 fits undo1 undo2 undo3 undo4 undone targetFault editedFile editRecord undoneFile editFault undoFault indexOf readOf readerEntryOf hitIn lookupOf
+computed = 0
+
+unfoldable pub table : List Row
+table =
+    -- A: blank, then add Data 7 'TEXT' "eel"
+    edits blank (add Data 7 TEXT eel) A addedEel ∷ (
+    reads A (Accepted 48 1) ∷ (
+    -- B: A, then add Pict 1 'Rect' 320 by 0
+    edits A (add Pict 1 Rect sides) B addedRect ∷ (
+    reads B (Accepted 76 2) ∷ (
+    -- undo gives A
+    undoes B (addedEel ++ addedRect) A ∷ (
+    -- B without Data 7, and back
+    edits B (remove Data 7) withoutEel removedEel ∷ (
+    undoes withoutEel removedEel B ∷ (
+    -- B with Data 7 as 'BINA', no data, and back
+    edits B (replace Data 7 BINA []) binary replacedEel ∷ (
+    undoes binary replacedEel B ∷ (
+    -- 11 bytes; 'FORM' 4 'IFRS'; blank
+    reads (take 11 blank) (Refused 2 0) ∷ (
+    reads (be32 FORM ++ (be32 4 ++ be32 IFRS)) (Refused 8 12) ∷ (
+    reads blank (Accepted 24 0) ∷ (
+    -- A with padding byte 1; A less its last byte, FORM length 39
+    reads (set A 47 1) (Refused 7 47) ∷ (
+    reads (set (take 47 A) 7 39) (Refused 6 36) ∷ (
+    -- A with start 37, or 12
+    reads (set A 35 37) (Refused 13 32) ∷ (
+    reads (set A 35 12) (Refused 13 32) ∷ (
+    -- A with count 1,073,741,825 and index length 16
+    reads (set (set A 20 64) 23 1) (Refused 10 16) ∷ (
+    -- an entry, and one too far
+    asks A 0 (Given (record { usage = usage.Data; number = 7; start = 36 })) ∷ (
+    asks A 1 (NotGiven 22 0) ∷ (
+    -- lookups
+    looks A Data 7 (Found TEXT 44 3) eel ∷ (
+    looks B Pict 1 (Found Rect 68 8) sides ∷ (
+    looks B Pict 7 (NotFound 22 0) [] ∷ [])))))))))))))))))))))
+
+pub samples : All Holds table
+unfolding computed table
+samples =
+    ((refl, refl, refl), (refl, ((refl, refl, refl), (refl, ((refl, refl), ((refl, refl, refl), ((refl, refl), ((refl, refl, refl), ((refl, refl), (refl, (refl, (refl, (refl, (refl, (refl, (refl, (refl, (refl, (refl, ((refl, refl), ((refl, refl), ((refl, refl), tt))))))))))))))))))))))

@@ -1,0 +1,1 @@
+// 01's sample files as theorems: proofs/Table.antt.
