@@ -17,60 +17,65 @@ use Rattle.blorb.proofs.All.{All, all-take}
 use Rattle.edits.specs.Run.{ArgsOk}
 use Rattle.blorb.proofs.Accept.{Byte, accept-back}
 use Rattle.blorb.proofs.Checks.{then-accept, check-accept, pass, stop, holds-last, accepts, both-true}
-use Rattle.edits.specs.Run.{State, Call, edit, undo, Answer, accepted, hundred, written, noted, editedFile, editRecord, undoneFile, editFault, undoFault, answered, afterEdit, afterUndo, fault, after, step, run, answers, ledgerFile, ledgerRecords, ledgerFault, kept, ledgerAfter, ledgerStep, ledgerRun, ledgerAnswers}
+use Rattle.edits.specs.Run.{State, Call, edit, undo, Answer, accepted, hundred, written, noted, editedFile, editRecord, undoneFile, editFault, undoFault, answered, afterEdit, afterUndo, fault, after, step, run, answers, ledgerFile, ledgerRecords, ledgerUsed, ledgerFault, kept, ledgerAfter, ledgerStep, ledgerRun, ledgerAnswers}
 use Rattle.edits.specs.Run.{CallOk}
 use Rattle.edits.proofs.RunLaws.{length-written, take-written, length-noted, take-noted, Good, Made, made}
+
+-- the sum of the records' lengths is the length of them all
+used-is : (f₀ : List ℕ) (es : List Edit) → ledgerUsed f₀ es ≡ length (ledgerRecords f₀ es)
+unfolding ledgerUsed ledgerRecords
+used-is f₀ [] = refl
+used-is f₀ (e ∷ es) = simp length-append (cong (λ (n : ℕ). n + length (editRecord (ledgerFile f₀ es) e)) (used-is f₀ es))
 
 module _ (R : Rules) (f₀ : List ℕ) (N J : ℕ) where
   -- every edit of the list was made on the file before it
   abbrev Valid : List Edit → Type 0
   Valid [] = Good R f₀ × (length f₀ ≤ N)
-  Valid (e ∷ es) = Valid es × ArgsOk e × (editFault R N J (ledgerFile f₀ es) (length (ledgerFile f₀ es)) (length (ledgerRecords f₀ es)) e ≡ accept)
+  Valid (e ∷ es) = Valid es × ArgsOk e × (editFault R N J (ledgerFile f₀ es) (length (ledgerFile f₀ es)) (ledgerUsed f₀ es) e ≡ accept)
 
   record Holds (es : List Edit) : Type 0 where
     good : Good R (ledgerFile f₀ es)
     room : length (ledgerFile f₀ es) ≤ N
-    used : length (ledgerRecords f₀ es) ≤ J
+    used : ledgerUsed f₀ es ≤ J
 
   holds : (es : List Edit) → Valid es → Holds es
-  unfolding ledgerFile ledgerRecords
+  unfolding ledgerFile ledgerUsed
   holds [] v = record { good = v .0; room = v .1; used = omega arith }
   holds (e ∷ es) v =
       let h = holds es (v .0) in
-      let m = made R N J (ledgerFile f₀ es) (length (ledgerFile f₀ es)) (length (ledgerRecords f₀ es)) e (h .good) (v .1) (v .2) in
-      record { good = m .good; room = m .room; used = rw length-append (m .journal-room) }
+      let m = made R N J (ledgerFile f₀ es) (length (ledgerFile f₀ es)) (ledgerUsed f₀ es) e (h .good) (v .1) (v .2) in
+      record { good = m .good; room = m .room; used = m .journal-room }
 
   pub record Match (s : State) (es : List Edit) : Type 0 where
     pub buffer-length : length (s .buffer) ≡ N
     pub journal-length : length (s .journal) ≡ J
     pub L-is : s .L ≡ length (ledgerFile f₀ es)
-    pub U-is : s .U ≡ length (ledgerRecords f₀ es)
+    pub U-is : s .U ≡ ledgerUsed f₀ es
     pub file-is : take (s .L) (s .buffer) ≡ ledgerFile f₀ es
     pub records-are : take (s .U) (s .journal) ≡ ledgerRecords f₀ es
 
-  last-made : (e : Edit) (es : List Edit) → Valid (e ∷ es) → Made R N J (ledgerFile f₀ es) (length (ledgerRecords f₀ es)) e
-  last-made e es v = made R N J (ledgerFile f₀ es) (length (ledgerFile f₀ es)) (length (ledgerRecords f₀ es)) e (holds es (v .0) .good) (v .1) (v .2)
+  last-made : (e : Edit) (es : List Edit) → Valid (e ∷ es) → Made R N J (ledgerFile f₀ es) (ledgerUsed f₀ es) e
+  last-made e es v = made R N J (ledgerFile f₀ es) (length (ledgerFile f₀ es)) (ledgerUsed f₀ es) e (holds es (v .0) .good) (v .1) (v .2)
 
   -- undo at an empty list, and at any other
-  undo-none : Valid [] → undoFault R N J (ledgerFile f₀ []) (length (ledgerFile f₀ [])) (length (ledgerRecords f₀ [])) (ledgerRecords f₀ []) ≡ refuse 26 0
-  unfolding undoFault ledgerFile ledgerRecords
+  undo-none : Valid [] → undoFault R N J (ledgerFile f₀ []) (length (ledgerFile f₀ [])) (ledgerUsed f₀ []) (ledgerRecords f₀ []) ≡ refuse 26 0
+  unfolding undoFault ledgerFile ledgerUsed ledgerRecords
   undo-none v =
       pass _ _ _ _ (both-true _ _ (le-leb (length f₀) N (v .1)) (le-leb 0 J (omega arith)))
       ∙ accepts _ _ (v .0 .fine)
       ∙ stop _ _ _ _ refl
 
   undo-last : (e : Edit) (es : List Edit) → Valid (e ∷ es)
-      → undoFault R N J (ledgerFile f₀ (e ∷ es)) (length (ledgerFile f₀ (e ∷ es))) (length (ledgerRecords f₀ (e ∷ es))) (ledgerRecords f₀ (e ∷ es)) ≡ accept
-  unfolding undoFault ledgerFile ledgerRecords
+      → undoFault R N J (ledgerFile f₀ (e ∷ es)) (length (ledgerFile f₀ (e ∷ es))) (ledgerUsed f₀ (e ∷ es)) (ledgerRecords f₀ (e ∷ es)) ≡ accept
+  unfolding undoFault ledgerFile ledgerUsed ledgerRecords
   undo-last e es v =
       let m = last-made e es v in
       let p : List ℕ = ledgerRecords f₀ es in
-      let j : List ℕ = p ++ editRecord (ledgerFile f₀ es) e in
-      let l : length j ≡ length p + length (editRecord (ledgerFile f₀ es) e) = length-append p (editRecord (ledgerFile f₀ es) e) in
+      let r : List ℕ = editRecord (ledgerFile f₀ es) e in
       let old = holds es (v .0) in
-      pass _ _ _ _ (both-true _ _ (le-leb (length (editedFile (ledgerFile f₀ es) e)) N (m .room)) (le-leb (length j) J (omega (arith, m .journal-room))))
+      pass _ _ _ _ (both-true _ _ (le-leb (length (editedFile (ledgerFile f₀ es) e)) N (m .room)) (le-leb (ledgerUsed f₀ es + length r) J (m .journal-room)))
       ∙ accepts _ _ (m .good .fine)
-      ∙ pass _ _ _ _ (cong not (ne-eqb (length j) 0 (omega (arith, m .size []))))
+      ∙ pass _ _ _ _ (cong not (ne-eqb (ledgerUsed f₀ es + length r) 0 (omega (arith, m .size []))))
       ∙ pass _ _ _ _ (both-true _ _ (both-true _ _ (m .reads p) (m .fitting p)) (rw (m .back p, old .good .fine)))
       ∙ holds-last _ _ _ (rw (m .back p) (le-leb (length (ledgerFile f₀ es)) N (old .room)))
 
@@ -83,7 +88,7 @@ module _ (R : Rules) (f₀ : List ℕ) (N J : ℕ) where
 
   -- the state after a successful call
   edit-match : (s : State) (es : List Edit) (e : Edit) → Valid (e ∷ es) → Match s es → Match (afterEdit s e) (e ∷ es)
-  unfolding afterEdit ledgerFile ledgerRecords
+  unfolding afterEdit ledgerFile ledgerUsed ledgerRecords
   edit-match s es e v m =
       let d = last-made e es v in
       let h = holds es (v .0) in
@@ -93,12 +98,12 @@ module _ (R : Rules) (f₀ : List ℕ) (N J : ℕ) where
       { buffer-length = rw (m .file-is) (length-written (s .buffer) (s .L) f (omega (arith, m .L-is, m .buffer-length, h .room)) (omega (arith, m .buffer-length, d .room)) ∙ m .buffer-length)
       ; journal-length = rw (m .file-is) (length-noted (s .journal) (s .U) r (omega (arith, m .U-is, m .journal-length, d .journal-room)) ∙ m .journal-length)
       ; L-is = rw (m .file-is)
-      ; U-is = rw (m .file-is, m .U-is) (sym (length-append (ledgerRecords f₀ es) r))
+      ; U-is = rw (m .file-is, m .U-is) refl
       ; file-is = rw (m .file-is) (take-written (s .buffer) (s .L) f)
       ; records-are = rw (m .file-is) (take-noted (s .journal) (s .U) r (omega (arith, m .U-is, m .journal-length, d .journal-room)) ∙ cong (λ (p : List ℕ). p ++ r) (m .records-are)) }
 
   undo-match : (s : State) (es : List Edit) (e : Edit) → Valid (e ∷ es) → Match s (e ∷ es) → Match (afterUndo s) es
-  unfolding afterUndo ledgerFile ledgerRecords
+  unfolding afterUndo ledgerFile ledgerUsed ledgerRecords
   undo-match s es e v m =
       let d = last-made e es v in
       let h = holds es (v .0) in
@@ -106,15 +111,16 @@ module _ (R : Rules) (f₀ : List ℕ) (N J : ℕ) where
       let p : List ℕ = ledgerRecords f₀ es in
       let r : List ℕ = editRecord (ledgerFile f₀ es) e in
       let back : undoneFile (take (s .L) (s .buffer)) (take (s .U) (s .journal)) ≡ f = rw (m .file-is, m .records-are) (d .back p) in
-      let less : s .U - (29 + length (lastRec (take (s .U) (s .journal)) .body)) ≡ length p
-          = rw (m .records-are, m .U-is, d .size p, length-append p r) (omega arith) in
+      let up : ledgerUsed f₀ es ≡ length p = used-is f₀ es in
+      let less : s .U - (29 + length (lastRec (take (s .U) (s .journal)) .body)) ≡ ledgerUsed f₀ es
+          = rw (m .records-are, m .U-is, d .size p) (omega arith) in
       record
       { buffer-length = rw back (length-written (s .buffer) (s .L) f (omega (arith, m .L-is, m .buffer-length, d .room)) (omega (arith, m .buffer-length, h .room)) ∙ m .buffer-length)
       ; journal-length = m .journal-length
       ; L-is = rw back
       ; U-is = less
       ; file-is = rw back (take-written (s .buffer) (s .L) f)
-      ; records-are = rw less (sym (take-take (length p) (s .U) (s .journal) (omega (arith, m .U-is, length-append p r))) ∙ cong (take (length p)) (m .records-are) ∙ take-append-seam p r) }
+      ; records-are = rw (less, up) (sym (take-take (length p) (s .U) (s .journal) (omega (arith, m .U-is))) ∙ cong (take (length p)) (m .records-are) ∙ take-append-seam p r) }
 
   -- a call keeps the two together
   pub record Both (s : State) (es : List Edit) : Type 0 where
@@ -141,9 +147,9 @@ module _ (R : Rules) (f₀ : List ℕ) (N J : ℕ) where
       (λ i. record { result = fault-is s es c (b .valid) (b .match) i; L = n .match .L-is i; U = n .match .U-is i } ∷ r .0 i, r .1)
 
 -- what is left after a run is the ledger's
-pub record Agrees (R : Rules) (s : State) (f : List ℕ) (r : List ℕ) : Type 0 where
+pub record Agrees (R : Rules) (s : State) (f : List ℕ) (u : ℕ) (r : List ℕ) : Type 0 where
   pub L-is : s .L ≡ length f
-  pub U-is : s .U ≡ length r
+  pub U-is : s .U ≡ u
   pub file-is : take (s .L) (s .buffer) ≡ f
   pub accepted-is : verdict R f ≡ accept
   pub records-are : take (s .U) (s .journal) ≡ r
@@ -153,7 +159,7 @@ module _ (R : Rules) (s : State) (cs : List Call)
     (inside : s .L ≤ length (s .buffer)) (fresh : s .U ≡ 0) (fine : verdict R (take (s .L) (s .buffer)) ≡ accept) where
 
   first : Both R (take (s .L) (s .buffer)) (length (s .buffer)) (length (s .journal)) s []
-  unfolding ledgerFile ledgerRecords
+  unfolding ledgerFile ledgerUsed ledgerRecords
   first =
       let f : List ℕ = take (s .L) (s .buffer) in
       let a = accept-back R f (all-take Byte (s .L) (s .buffer) bytes) fine in
@@ -166,6 +172,7 @@ module _ (R : Rules) (s : State) (cs : List Call)
       (answers R s cs ≡ ledgerAnswers R (take (s .L) (s .buffer)) (length (s .buffer)) (length (s .journal)) [] cs)
       × Agrees R (run R s cs)
           (ledgerFile (take (s .L) (s .buffer)) (ledgerRun R (take (s .L) (s .buffer)) (length (s .buffer)) (length (s .journal)) [] cs))
+          (ledgerUsed (take (s .L) (s .buffer)) (ledgerRun R (take (s .L) (s .buffer)) (length (s .buffer)) (length (s .journal)) [] cs))
           (ledgerRecords (take (s .L) (s .buffer)) (ledgerRun R (take (s .L) (s .buffer)) (length (s .buffer)) (length (s .journal)) [] cs))
   demand3 =
       let f : List ℕ = take (s .L) (s .buffer) in

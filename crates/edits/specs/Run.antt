@@ -101,9 +101,15 @@ module _ (f₀ : List ℕ) where
   ledgerFile [] = f₀
   ledgerFile (e ∷ es) = editedFile (ledgerFile es) e
 
+  -- "the records of its list's edits, in order"
   unfoldable pub ledgerRecords : List Edit → List ℕ
   ledgerRecords [] = []
   ledgerRecords (e ∷ es) = ledgerRecords es ++ editRecord (ledgerFile es) e
+
+  -- "its U the sum of the lengths of their records"
+  unfoldable pub ledgerUsed : List Edit → ℕ
+  ledgerUsed [] = 0
+  ledgerUsed (e ∷ es) = ledgerUsed es + length (editRecord (ledgerFile es) e)
 
 abbrev pub kept : Verdict → List Edit → List Edit → List Edit
 kept accept es fs = fs
@@ -154,7 +160,7 @@ module _ (R : Rules) where
   -- the ledger: the starting file, both buffers' lengths, and the edits not taken back, the last one first
   module _ (f₀ : List ℕ) (N J : ℕ) where
     unfoldable pub ledgerFault : List Edit → Call → Verdict
-    ledgerFault es (edit e) = editFault N J (ledgerFile f₀ es) (length (ledgerFile f₀ es)) (length (ledgerRecords f₀ es)) e
+    ledgerFault es (edit e) = editFault N J (ledgerFile f₀ es) (length (ledgerFile f₀ es)) (ledgerUsed f₀ es) e
     ledgerFault [] undo = refuse 26 0
     ledgerFault (e ∷ es) undo = accept
 
@@ -168,4 +174,4 @@ module _ (R : Rules) where
     unfoldable pub ledgerAnswers : List Edit → List Call → List Answer
     ledgerAnswers es [] = []
     ledgerAnswers es (c ∷ cs) =
-        record { result = ledgerFault es c; L = length (ledgerFile f₀ (ledgerStep es c)); U = length (ledgerRecords f₀ (ledgerStep es c)) } ∷ ledgerAnswers (ledgerStep es c) cs
+        record { result = ledgerFault es c; L = length (ledgerFile f₀ (ledgerStep es c)); U = ledgerUsed f₀ (ledgerStep es c) } ∷ ledgerAnswers (ledgerStep es c) cs
