@@ -9,20 +9,18 @@ use lib.ListN.{length, getD, take, drop, replicate, length-append, length-map, l
 use lib.Seq.{drop-drop, take-add, length-take-le, take-suc, getD-drop, take-all}
 use lib.Dec.{eqb, leb, ltb}
 use borrow.Author.Tests.{eqb-true, leb-true}
-use Rattle.blorb.specs.Bytes.{be32, rd32}
+use Rattle.blorb.specs.Bytes.{be32, rd32, Byte}
 use Rattle.blorb.proofs.ByteLaws.{length-be32, be32-rd32}
 use Rattle.blorb.specs.Format.{Ref, refOf, Chunk, Entry, size, sized, total, chunkBytes, chunksBytes, fileBytes, chunkIn, chunksIn, chunksOf, entryIn, entriesIn, entryBytes, entriesBytes, indexChunk, entriesOf, isStart, placeOf}
 use Rattle.blorb.specs.Tags.{tag, FORM, IFRS, RIdx}
 use Rattle.blorb.specs.Verdict.{Rules, Verdict, accept, refuse, _then_, check, headFault, chunkFault, walkFault, secondIndex, indexFault, refFault, entriesFault, restFault, layoutFault, verdict, knownUsage, pairIn, noChunk}
 use Rattle.blorb.specs.Model.{Model, base, startAt, entryOf, file, model, modelOf}
-use Rattle.blorb.proofs.All.{All, all-take, all-drop, all-imp}
+use Rattle.blorb.specs.All.{All}
+use Rattle.blorb.proofs.AllLaws.{all-take, all-drop, all-imp}
 use Rattle.blorb.proofs.Sound.{W, ChunkOk, RefOk, Sound}
 use Rattle.blorb.proofs.Places.{size-pos, startAt-placeOf}
 use Rattle.blorb.proofs.Checks.{then-accept, check-accept, and-both}
 use Rattle.blorb.proofs.Codec.{length-chunksBytes}
-
-abbrev pub Byte : ℕ → Type 0
-Byte b = b < 256
 
 -- Rattle's fact of a slice of u8, at each index
 pub bytes-all : (s : List ℕ) → ((i : ℕ) → getD s i 0 < 256) → All Byte s

@@ -11,7 +11,7 @@ use Rattle.blorb.specs.Bytes.{be32, rd32}
 use Rattle.blorb.proofs.ByteLaws.{length-be32, rd32-be32, drop-be32, drop-two, drop-three}
 use Rattle.blorb.specs.Tags.{FORM, IFRS, RIdx}
 use Rattle.blorb.specs.Format.{Chunk, Entry, size, sized, total, chunkBytes, chunksBytes, fileBytes, chunkIn, chunksIn, chunksOf, entryIn, entriesIn, entryBytes, entriesBytes, indexChunk, entriesOf, isStart, placeOf}
-use Rattle.blorb.proofs.All.{All}
+use Rattle.blorb.specs.All.{All}
 use Rattle.blorb.proofs.Places.{size-pos, body-size}
 use Rattle.blorb.proofs.Sound.{W, ChunkOk, RefOk, Sound}
 

@@ -1,5 +1,5 @@
 pub mod ByteLaws
-pub mod All
+pub mod AllLaws
 pub mod Sound
 pub mod Places
 pub mod Codec

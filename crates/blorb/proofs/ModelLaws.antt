@@ -10,7 +10,8 @@ use Rattle.blorb.proofs.ByteLaws.{length-be32}
 use Rattle.blorb.specs.Format.{Ref, refOf, Chunk, Entry, size, sized, total, fileBytes, chunksOf, entriesBytes, indexChunk, entriesOf, placeOf}
 use Rattle.blorb.specs.Tags.{RIdx}
 use Rattle.blorb.specs.Model.{Model, base, startAt, entryOf, file, model, modelOf}
-use Rattle.blorb.proofs.All.{All, all-map}
+use Rattle.blorb.specs.All.{All}
+use Rattle.blorb.proofs.AllLaws.{all-map}
 use Rattle.blorb.proofs.Sound.{W, ChunkOk, RefOk, Sound}
 use Rattle.blorb.proofs.Places.{size-pos, placeOf-startAt}
 use Rattle.blorb.proofs.Codec.{EntryOk, length-fileBytes, length-entriesBytes, chunksOf-fileBytes, entriesOf-indexChunk}

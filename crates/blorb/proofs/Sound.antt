@@ -3,7 +3,7 @@ use Prim.Native.Nat.{ℕ, _<_}
 use lib.ListN.{length}
 use Rattle.blorb.specs.Format.{Ref, Chunk}
 use Rattle.blorb.specs.Model.{Model}
-use Rattle.blorb.proofs.All.{All}
+use Rattle.blorb.specs.All.{All}
 
 abbrev pub W : ℕ
 W = 4294967296

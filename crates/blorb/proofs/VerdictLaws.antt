@@ -15,7 +15,7 @@ use Rattle.blorb.specs.Format.{Ref, refOf, Chunk, Entry, size, sized, to
 use Rattle.blorb.specs.Tags.{tag, FORM, IFRS, RIdx}
 use Rattle.blorb.specs.Verdict.{Rules, Verdict, accept, refuse, _then_, check, headFault, chunkFault, walkFault, secondIndex, indexFault, refFault, entriesFault, restFault, layoutFault, verdict, knownUsage, pairIn, noChunk}
 use Rattle.blorb.specs.Model.{Model, base, startAt, entryOf, file, model, modelOf}
-use Rattle.blorb.proofs.All.{All}
+use Rattle.blorb.specs.All.{All}
 use Rattle.blorb.proofs.Sound.{W, ChunkOk, RefOk, Sound}
 use Rattle.blorb.proofs.Places.{size-pos, body-size, isStart-startAt}
 use Rattle.blorb.proofs.Codec.{length-chunkBytes, length-chunksBytes, length-fileBytes, length-entriesBytes, first-length, first-rest, drop-header, entriesOf-indexChunk, EntryOk}

@@ -13,7 +13,7 @@ use Rattle.blorb.specs.Tags.{RIdx}
 use Rattle.blorb.specs.Verdict.{Rules, Verdict, accept, refuse, _then_, check, secondIndex, refFault, verdict, knownUsage, pairIn, noChunk}
 use Rattle.blorb.specs.Model.{Model, base, file}
 use Rattle.edits.specs.Edit.{added}
-use Rattle.blorb.proofs.All.{All}
+use Rattle.blorb.specs.All.{All}
 use Rattle.blorb.proofs.Sound.{RefOk, Sound}
 use Rattle.blorb.proofs.Checks.{then-accept, check-accept, pass, accepts}
 use Rattle.blorb.proofs.VerdictLaws.{refsFault, modelFault, verdict-file}
@@ -62,16 +62,22 @@ module _ (R : Rules) where
 
   pub added-verdict : (m : Model) (u n : ℕ) (c : Chunk) → Sound m → modelFault R m ≡ accept
       → modelFault R (added m u n c)
-        ≡ check (not (eqb (c .type) RIdx)) 9 (base (suc (length (m .refs))) + total (m .chunks))
-          then check (leb (suc (length (m .refs))) 4096) 11 20
-          then (check (knownUsage u) 12 (24 + 12 * length (m .refs)) then refFault R (m .chunks ++ (c ∷ [])) (m .refs) (24 + 12 * length (m .refs)) (record { usage = u; number = n; chunk = length (m .chunks) }))
-          then R .single (base (suc (length (m .refs)))) (m .refs ++ (record { usage = u; number = n; chunk = length (m .chunks) } ∷ [])) (m .chunks ++ (c ∷ []))
+      ≡ check (not (eqb (c .type) RIdx)) 9 (base (suc (length (m .refs))) + total (m .chunks))
+      then check (leb (suc (length (m .refs))) 4096) 11 20
+      then (check (knownUsage u) 12 (24 + 12 * length (m .refs)) then refFault R (m .chunks ++ (c ∷ [])) (m .refs) (24 + 12 * length (m .refs)) (record { usage = u; number = n; chunk = length (m .chunks) }))
+      then R .single (base (suc (length (m .refs)))) (m .refs ++ (record { usage = u; number = n; chunk = length (m .chunks) } ∷ [])) (m .chunks ++ (c ∷ []))
   unfolding modelFault added
   added-verdict m u n c s h =
       let x : Ref = record { usage = u; number = n; chunk = length (m .chunks) } in
       let l : length (m .refs ++ (x ∷ [])) ≡ suc (length (m .refs)) = simp length-append (omega arith) in
       let a = then-accept _ _ h in
       let b = then-accept _ _ (then-accept _ _ (a .1) .1) in
-      rw (l, second-append (base (suc (length (m .refs)))) (m .chunks) c, second-any _ (base (suc (length (m .refs)))) (m .chunks) (a .0),
-          refs-append (m .chunks ++ (c ∷ [])) [] 24 (m .refs) x, refs-more (m .chunks) c [] 24 (m .refs) (s .refs-ok), b .0)
+      rw (
+        l,
+        second-append (base (suc (length (m .refs)))) (m .chunks) c,
+        second-any _ (base (suc (length (m .refs)))) (m .chunks) (a .0),
+        refs-append (m .chunks ++ (c ∷ [])) [] 24 (m .refs) x,
+        refs-more (m .chunks) c [] 24 (m .refs) (s .refs-ok),
+        b .0,
+      )
       (unfold _then_ in refl)

@@ -13,12 +13,15 @@ use Rattle.blorb.specs.Verdict.{Rules, Verdict, accept, refuse, _then_, check, 
 use Rattle.blorb.specs.Model.{Model, model, file}
 use Rattle.edits.specs.Edit.{Edit}
 use Rattle.edits.specs.Journal.{Rec, lastRec, wellFormed, fits}
-use Rattle.blorb.proofs.All.{All, all-take}
+use Rattle.blorb.specs.All.{All}
+use Rattle.blorb.proofs.AllLaws.{all-take}
 use Rattle.edits.specs.Run.{ArgsOk}
-use Rattle.blorb.proofs.Accept.{Byte, accept-back}
+use Rattle.blorb.specs.Bytes.{Byte}
+use Rattle.blorb.proofs.Accept.{accept-back}
 use Rattle.blorb.proofs.Checks.{then-accept, check-accept, pass, stop, holds-last, accepts, both-true}
 use Rattle.edits.specs.Run.{State, Call, edit, undo, Answer, accepted, hundred, written, noted, editedFile, editRecord, undoneFile, editFault, undoFault, answered, afterEdit, afterUndo, fault, after, step, run, answers, ledgerFile, ledgerRecords, ledgerUsed, ledgerFault, kept, ledgerAfter, ledgerStep, ledgerRun, ledgerAnswers}
 use Rattle.edits.specs.Run.{CallOk}
+use Rattle.edits.specs.Demand3.{Begins, Demand3}
 use Rattle.edits.proofs.RunLaws.{length-written, take-written, length-noted, take-noted, Good, Made, made}
 
 -- the sum of the records' lengths is the length of them all
@@ -94,13 +97,14 @@ module _ (R : Rules) (f₀ : List ℕ) (N J : ℕ) where
       let h = holds es (v .0) in
       let f : List ℕ = editedFile (ledgerFile f₀ es) e in
       let r : List ℕ = editRecord (ledgerFile f₀ es) e in
-      record
-      { buffer-length = rw (m .file-is) (length-written (s .buffer) (s .L) f (omega (arith, m .L-is, m .buffer-length, h .room)) (omega (arith, m .buffer-length, d .room)) ∙ m .buffer-length)
-      ; journal-length = rw (m .file-is) (length-noted (s .journal) (s .U) r (omega (arith, m .U-is, m .journal-length, d .journal-room)) ∙ m .journal-length)
-      ; L-is = rw (m .file-is)
-      ; U-is = rw (m .file-is, m .U-is) refl
-      ; file-is = rw (m .file-is) (take-written (s .buffer) (s .L) f)
-      ; records-are = rw (m .file-is) (take-noted (s .journal) (s .U) r (omega (arith, m .U-is, m .journal-length, d .journal-room)) ∙ cong (λ (p : List ℕ). p ++ r) (m .records-are)) }
+      record {
+        buffer-length = rw (m .file-is) (length-written (s .buffer) (s .L) f (omega (arith, m .L-is, m .buffer-length, h .room)) (omega (arith, m .buffer-length, d .room)) ∙ m .buffer-length);
+        journal-length = rw (m .file-is) (length-noted (s .journal) (s .U) r (omega (arith, m .U-is, m .journal-length, d .journal-room)) ∙ m .journal-length);
+        L-is = rw (m .file-is);
+        U-is = rw (m .file-is, m .U-is) refl;
+        file-is = rw (m .file-is) (take-written (s .buffer) (s .L) f);
+        records-are = rw (m .file-is) (take-noted (s .journal) (s .U) r (omega (arith, m .U-is, m .journal-length, d .journal-room)) ∙ cong (λ (p : List ℕ). p ++ r) (m .records-are));
+      }
 
   undo-match : (s : State) (es : List Edit) (e : Edit) → Valid (e ∷ es) → Match s (e ∷ es) → Match (afterUndo s) es
   unfolding afterUndo ledgerFile ledgerUsed ledgerRecords
@@ -113,14 +117,15 @@ module _ (R : Rules) (f₀ : List ℕ) (N J : ℕ) where
       let back : undoneFile (take (s .L) (s .buffer)) (take (s .U) (s .journal)) ≡ f = rw (m .file-is, m .records-are) (d .back p) in
       let up : ledgerUsed f₀ es ≡ length p = used-is f₀ es in
       let less : s .U - (29 + length (lastRec (take (s .U) (s .journal)) .body)) ≡ ledgerUsed f₀ es
-          = rw (m .records-are, m .U-is, d .size p) (omega arith) in
-      record
-      { buffer-length = rw back (length-written (s .buffer) (s .L) f (omega (arith, m .L-is, m .buffer-length, d .room)) (omega (arith, m .buffer-length, h .room)) ∙ m .buffer-length)
-      ; journal-length = m .journal-length
-      ; L-is = rw back
-      ; U-is = less
-      ; file-is = rw back (take-written (s .buffer) (s .L) f)
-      ; records-are = rw (less, up) (sym (take-take (length p) (s .U) (s .journal) (omega (arith, m .U-is))) ∙ cong (take (length p)) (m .records-are) ∙ take-append-seam p r) }
+      = rw (m .records-are, m .U-is, d .size p) (omega arith) in
+      record {
+        buffer-length = rw back (length-written (s .buffer) (s .L) f (omega (arith, m .L-is, m .buffer-length, d .room)) (omega (arith, m .buffer-length, h .room)) ∙ m .buffer-length);
+        journal-length = m .journal-length;
+        L-is = rw back;
+        U-is = less;
+        file-is = rw back (take-written (s .buffer) (s .L) f);
+        records-are = rw (less, up) (sym (take-take (length p) (s .U) (s .journal) (omega (arith, m .U-is))) ∙ cong (take (length p)) (m .records-are) ∙ take-append-seam p r);
+      }
 
   -- a call keeps the two together
   pub record Both (s : State) (es : List Edit) : Type 0 where
@@ -146,38 +151,31 @@ module _ (R : Rules) (f₀ : List ℕ) (N J : ℕ) where
       let r = agree (step R s c) (ledgerStep R f₀ N J es c) cs (ok .1) n in
       (λ i. record { result = fault-is s es c (b .valid) (b .match) i; L = n .match .L-is i; U = n .match .U-is i } ∷ r .0 i, r .1)
 
--- what is left after a run is the ledger's
-pub record Agrees (R : Rules) (s : State) (f : List ℕ) (u : ℕ) (r : List ℕ) : Type 0 where
-  pub L-is : s .L ≡ length f
-  pub U-is : s .U ≡ u
-  pub file-is : take (s .L) (s .buffer) ≡ f
-  pub accepted-is : verdict R f ≡ accept
-  pub records-are : take (s .U) (s .journal) ≡ r
-
-module _ (R : Rules) (s : State) (cs : List Call)
-    (bytes : All Byte (s .buffer)) (args : All CallOk cs)
-    (inside : s .L ≤ length (s .buffer)) (fresh : s .U ≡ 0) (fine : verdict R (take (s .L) (s .buffer)) ≡ accept) where
-
+module _ (R : Rules) (s : State) (cs : List Call) (b : Begins R s) (args : All CallOk cs) where
   first : Both R (take (s .L) (s .buffer)) (length (s .buffer)) (length (s .journal)) s []
   unfolding ledgerFile ledgerUsed ledgerRecords
   first =
       let f : List ℕ = take (s .L) (s .buffer) in
-      let a = accept-back R f (all-take Byte (s .L) (s .buffer) bytes) fine in
-      let l : length f ≡ s .L = length-take-le (s .L) (s .buffer) inside in
-      record
-      { valid = (record { fine = fine; whole = a .0; sound = a .1; short = a .2 }, omega arith)
-      ; match = record { buffer-length = refl; journal-length = refl; L-is = sym l; U-is = fresh; file-is = refl; records-are = rw fresh } }
+      let a = accept-back R f (all-take Byte (s .L) (s .buffer) (b .bytes)) (b .fine) in
+      let l : length f ≡ s .L = length-take-le (s .L) (s .buffer) (b .inside) in
+      record {
+        valid = (record { fine = b .fine; whole = a .0; sound = a .1; short = a .2 }, omega arith);
+        match = record { buffer-length = refl; journal-length = refl; L-is = sym l; U-is = b .fresh; file-is = refl; records-are = rw (b .fresh) };
+      }
 
-  pub demand3 :
-      (answers R s cs ≡ ledgerAnswers R (take (s .L) (s .buffer)) (length (s .buffer)) (length (s .journal)) [] cs)
-      × Agrees R (run R s cs)
-          (ledgerFile (take (s .L) (s .buffer)) (ledgerRun R (take (s .L) (s .buffer)) (length (s .buffer)) (length (s .journal)) [] cs))
-          (ledgerUsed (take (s .L) (s .buffer)) (ledgerRun R (take (s .L) (s .buffer)) (length (s .buffer)) (length (s .journal)) [] cs))
-          (ledgerRecords (take (s .L) (s .buffer)) (ledgerRun R (take (s .L) (s .buffer)) (length (s .buffer)) (length (s .journal)) [] cs))
+  -- demand 3
+  pub demand3 : Demand3 R s cs
   demand3 =
       let f : List ℕ = take (s .L) (s .buffer) in
       let N : ℕ = length (s .buffer) in
       let J : ℕ = length (s .journal) in
       let r = agree R f N J s [] cs args first in
       let h = holds R f N J (ledgerRun R f N J [] cs) (r .1 .valid) in
-      (r .0, record { L-is = r .1 .match .L-is; U-is = r .1 .match .U-is; file-is = r .1 .match .file-is; accepted-is = h .good .fine; records-are = r .1 .match .records-are })
+      record {
+        answers-are = r .0;
+        L-is = r .1 .match .L-is;
+        U-is = r .1 .match .U-is;
+        file-is = r .1 .match .file-is;
+        accepted-is = h .good .fine;
+        records-are = r .1 .match .records-are;
+      }

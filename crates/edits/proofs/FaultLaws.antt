@@ -17,10 +17,11 @@ use Rattle.blorb.specs.Tags.{Pict, Snd, Data, Exec}
 use Rattle.blorb.specs.Model.{Model, base, file, model}
 use Rattle.edits.specs.Edit.{Edit, add, added, edited, given}
 use Rattle.blorb.specs.Queries.{find}
-use Rattle.blorb.proofs.All.{All}
+use Rattle.blorb.specs.All.{All}
 use Rattle.blorb.proofs.Sound.{W, RefOk, Sound}
 use Rattle.edits.specs.Run.{ArgsOk}
-use Rattle.blorb.proofs.Accept.{Byte, accept-back}
+use Rattle.blorb.specs.Bytes.{Byte}
+use Rattle.blorb.proofs.Accept.{accept-back}
 use Rattle.blorb.proofs.Checks.{then-accept, check-accept, pass, stop, accepts, holds-last}
 use Rattle.edits.proofs.AddVerdict.{then-assoc, then-end, added-verdict}
 use Rattle.blorb.proofs.VerdictLaws.{refsFault, modelFault, verdict-file}

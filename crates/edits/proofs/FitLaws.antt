@@ -16,7 +16,8 @@ use Rattle.edits.specs.Edit.{Edit, add, replace, remove, with-at, raise,
 use Rattle.blorb.specs.Queries.{find, uses, shared, refAt, noRef, chunkAt, without}
 use Rattle.edits.specs.Journal.{Rec, removal, recOf, oldChunk, oldRef, oldPlace, undo1, undo2, undo3, undo4, undone, fits, fits1, fits2, fits3, fits4}
 use Rattle.blorb.specs.Queries.{start}
-use Rattle.blorb.proofs.All.{All, all-getD, all-append, all-take, all-drop, all-set, all-map, all-imp}
+use Rattle.blorb.specs.All.{All}
+use Rattle.blorb.proofs.AllLaws.{all-getD, all-append, all-take, all-drop, all-set, all-map, all-imp}
 use Rattle.blorb.proofs.Sound.{W, RefOk, ChunkOk, Sound}
 use Rattle.edits.specs.Run.{ArgsOk}
 use Rattle.edits.proofs.Applies.{Applies}
@@ -55,10 +56,15 @@ fit-add : (m : Model) (u n : ℕ) (c : Chunk) (t : ℕ) (b : List ℕ) → Sound
 unfolding fits1 added shared
 fit-add m u n c t b s =
     let x : Ref = record { usage = u; number = n; chunk = length (m .chunks) } in
-    rw (getD-append-seam (m .refs) x [] noRef, without-last (m .refs) x, uses-none (length (m .chunks)) (m .refs) (s .refs-ok),
-        eq-eqb (length (m .refs ++ (x ∷ []))) (suc (length (m .refs))) (simp length-append (omega arith)),
-        eq-eqb u u refl, eq-eqb n n refl,
-        eq-eqb (suc (length (m .chunks))) (length (m .chunks ++ (c ∷ []))) (simp length-append (omega arith)))
+    rw (
+      getD-append-seam (m .refs) x [] noRef,
+      without-last (m .refs) x,
+      uses-none (length (m .chunks)) (m .refs) (s .refs-ok),
+      eq-eqb (length (m .refs ++ (x ∷ []))) (suc (length (m .refs))) (simp length-append (omega arith)),
+      eq-eqb u u refl,
+      eq-eqb n n refl,
+      eq-eqb (suc (length (m .chunks))) (length (m .chunks ++ (c ∷ []))) (simp length-append (omega arith)),
+    )
 
 or-true : (a : Bool) → a || true ≡ true
 or-true true = refl
@@ -73,8 +79,13 @@ fit-replace : (m : Model) (u n i : ℕ) (c : Chunk) (t : ℕ) (b : List ℕ) →
     → fits2 (record { kind = 2; usage = u; number = n; place = i; start = start m (refAt m i .chunk); type = t; body = b }) (replaced m (refAt m i .chunk) c) ≡ true
 unfolding fits2 shared replaced
 fit-replace m u n i c t b h p q alone =
-    rw (lt-ltb i (length (m .refs)) h, eq-eqb (refAt m i .usage) u p, eq-eqb (refAt m i .number) n q,
-        eq-eqb (start (replaced m (refAt m i .chunk) c) (refAt m i .chunk)) (start m (refAt m i .chunk)) (start-replaced m (refAt m i .chunk) c), alone)
+    rw (
+      lt-ltb i (length (m .refs)) h,
+      eq-eqb (refAt m i .usage) u p,
+      eq-eqb (refAt m i .number) n q,
+      eq-eqb (start (replaced m (refAt m i .chunk) c) (refAt m i .chunk)) (start m (refAt m i .chunk)) (start-replaced m (refAt m i .chunk) c),
+      alone,
+    )
 
 -- old start less 12: a chunk's beginning, or the end
 old-fits : (at : ℕ) (cs : List Chunk) (k : ℕ) → k ≤ length cs → (isStart (startAt at cs k) at cs || eqb (startAt at cs k) (startAt at cs (length cs))) ≡ true
@@ -95,8 +106,11 @@ fit-remove-entry : (m : Model) (i u n : ℕ) → i < length (m .refs) → refAt 
     → fits4 (removal true m u n i) (removedEntry m i) ≡ true
 unfolding fits4 removal removedEntry
 fit-remove-entry m i u n h valid =
-    rw (le-leb i (length (without i (m .refs))) (omega (arith, length-without i (m .refs) h)), entry-start m i h valid,
-        isStart-startAt (base (length (without i (m .refs)))) (m .chunks) (refAt m i .chunk) valid)
+    rw (
+      le-leb i (length (without i (m .refs))) (omega (arith, length-without i (m .refs) h)),
+      entry-start m i h valid,
+      isStart-startAt (base (length (without i (m .refs)))) (m .chunks) (refAt m i .chunk) valid,
+    )
 
 valid-at : (m : Model) (i : ℕ) → Sound m → i < length (m .refs) → refAt m i .chunk < length (m .chunks)
 valid-at m i s h = all-getD (RefOk (length (m .chunks))) (m .refs) i noRef (s .refs-ok) h .chunk-there
@@ -104,7 +118,7 @@ valid-at m i s h = all-getD (RefOk (length (m .chunks))) (m .refs) i noRef (s .r
 -- the record of a removal fits, and its undo takes the removal back
 removal-back : (m : Model) (i : ℕ) (b : Bool) → shared m i ≡ b → Sound m → i < length (m .refs)
     → (fits (removal b m (refAt m i .usage) (refAt m i .number) i) (cond b (removedEntry m i) (removedBoth m i (refAt m i .chunk))) ≡ true)
-      × (undone (removal b m (refAt m i .usage) (refAt m i .number) i) (cond b (removedEntry m i) (removedBoth m i (refAt m i .chunk))) ≡ m)
+    × (undone (removal b m (refAt m i .usage) (refAt m i .number) i) (cond b (removedEntry m i) (removedBoth m i (refAt m i .chunk))) ≡ m)
 unfolding fits undone removal
 removal-back m i true e s h = (fit-remove-entry m i (refAt m i .usage) (refAt m i .number) h (valid-at m i s h), undo-remove-entry m i h (valid-at m i s h))
 removal-back m i false e s h = (fit-remove m i (refAt m i .usage) (refAt m i .number) h (valid-at m i s h), undo-remove m i h (valid-at m i s h) e)
@@ -114,14 +128,15 @@ unfolding fits undone recOf edited undo2 removed replaced
 edit-back m (add u n t d) s a = (fit-add m u n (given t d) 0 [] s, undo-add m u n (given t d))
 edit-back m (replace u n t d) s a =
     let i : ℕ = find u n (m .refs) in
-    let p = find-pair u n (m .refs) (a .0) in
-    (fit-replace m u n i (given t d) (chunkAt m (refAt m i .chunk) .type) (chunkAt m (refAt m i .chunk) .body) (a .0) (p .0) (p .1) (a .1),
-     undo-replace m (refAt m i .chunk) (given t d))
+    let p = find-pair u n (m .refs) (a .0) in (
+      fit-replace m u n i (given t d) (chunkAt m (refAt m i .chunk) .type) (chunkAt m (refAt m i .chunk) .body) (a .0) (p .0) (p .1) (a .1),
+      undo-replace m (refAt m i .chunk) (given t d),
+    )
 edit-back m (remove u n) s a =
     let i : ℕ = find u n (m .refs) in
     let p = find-pair u n (m .refs) a in
     let q : (fits (removal (shared m i) m u n i) (removed m i) ≡ true) × (undone (removal (shared m i) m u n i) (removed m i) ≡ m)
-        = rw (p .0, p .1) at (removal-back m i (shared m i) refl s a) in
+    = rw (p .0, p .1) at (removal-back m i (shared m i) refl s a) in
     q
 
 -- an edit keeps a model sound
@@ -154,10 +169,11 @@ sound-removed m i false e s h =
     let k : ℕ = refAt m i .chunk in
     let l = length-without k (m .chunks) (valid-at m i s h) in
     let v = valid-at m i s h in
-    record
-    { refs-ok = lowers-ok k (length (without k (m .chunks))) (without i (m .refs)) e (omega arith)
-          (rw l (all-without (RefOk (length (m .chunks))) i (m .refs) (s .refs-ok)))
-    ; chunks-ok = all-without ChunkOk k (m .chunks) (s .chunks-ok) }
+    record {
+      refs-ok = lowers-ok k (length (without k (m .chunks))) (without i (m .refs)) e (omega arith)
+          (rw l (all-without (RefOk (length (m .chunks))) i (m .refs) (s .refs-ok)));
+      chunks-ok = all-without ChunkOk k (m .chunks) (s .chunks-ok);
+    }
 
 given-ok : (t : ℕ) (d : List ℕ) → t < W → ChunkOk (given t d)
 unfolding given
@@ -165,14 +181,15 @@ given-ok t d h = record { type-fits = h }
 
 pub edit-sound : (m : Model) (e : Edit) → Sound m → ArgsOk e → Applies m e → Sound (edited m e)
 unfolding edited added replaced removed
-edit-sound m (add u n t d) s a ap = 
+edit-sound m (add u n t d) s a ap =
     let c : Chunk = given t d in
     let l : length (m .chunks ++ (c ∷ [])) ≡ suc (length (m .chunks)) = simp length-append (omega arith) in
-    record
-    { refs-ok = rw l (all-append (RefOk (suc (length (m .chunks)))) (m .refs) (record { usage = u; number = n; chunk = length (m .chunks) } ∷ [])
+    record {
+      refs-ok = rw l (all-append (RefOk (suc (length (m .chunks)))) (m .refs) (record { usage = u; number = n; chunk = length (m .chunks) } ∷ [])
           (all-imp (RefOk (length (m .chunks))) (RefOk (suc (length (m .chunks)))) (more-ok (length (m .chunks)) (suc (length (m .chunks))) (omega arith)) (m .refs) (s .refs-ok))
-          (record { usage-fits = a .0; number-fits = a .1; chunk-there = omega arith }, tt))
-    ; chunks-ok = all-append ChunkOk (m .chunks) (c ∷ []) (s .chunks-ok) (given-ok t d (a .2), tt) }
+          (record { usage-fits = a .0; number-fits = a .1; chunk-there = omega arith }, tt));
+      chunks-ok = all-append ChunkOk (m .chunks) (c ∷ []) (s .chunks-ok) (given-ok t d (a .2), tt);
+    }
 edit-sound m (replace u n t d) s a ap =
     let c : Chunk = given t d in
     let k : ℕ = refAt m (find u n (m .refs)) .chunk in

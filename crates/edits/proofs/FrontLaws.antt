@@ -112,14 +112,16 @@ kinds-keep : (e e′ : List Chunk) (c : Chunk) → Kinds e e′ → Kinds (e ++ 
 kinds-keep e e′ c k = record { release = rw (type-append RelN e′ (c ∷ []), type-append RelN e (c ∷ []), k .release); front = rw (type-append Fspc e′ (c ∷ []), type-append Fspc e (c ∷ []), k .front) }
 
 kinds-out : (e e′ : List Chunk) (c : Chunk) → Plain c → Kinds e e′ → Kinds (e ++ (c ∷ [])) e′
-kinds-out e e′ c p k = record
-    { release = rw (type-append RelN e (c ∷ []), one-type RelN c, p .no-release, or-none (typeIn RelN e)) (k .release)
-    ; front = rw (type-append Fspc e (c ∷ []), one-type Fspc c, p .no-front, or-none (typeIn Fspc e)) (k .front) }
+kinds-out e e′ c p k = record {
+  release = rw (type-append RelN e (c ∷ []), one-type RelN c, p .no-release, or-none (typeIn RelN e)) (k .release);
+  front = rw (type-append Fspc e (c ∷ []), one-type Fspc c, p .no-front, or-none (typeIn Fspc e)) (k .front);
+}
 
 kinds-put : (e e′ : List Chunk) (c : Chunk) → Plain c → Kinds e e′ → Kinds e (e′ ++ (c ∷ []))
-kinds-put e e′ c p k = record
-    { release = rw (type-append RelN e′ (c ∷ []), one-type RelN c, p .no-release, or-none (typeIn RelN e′)) (k .release)
-    ; front = rw (type-append Fspc e′ (c ∷ []), one-type Fspc c, p .no-front, or-none (typeIn Fspc e′)) (k .front) }
+kinds-put e e′ c p k = record {
+  release = rw (type-append RelN e′ (c ∷ []), one-type RelN c, p .no-release, or-none (typeIn RelN e′)) (k .release);
+  front = rw (type-append Fspc e′ (c ∷ []), one-type Fspc c, p .no-front, or-none (typeIn Fspc e′)) (k .front);
+}
 
 single-again : (rs rs′ : List Ref) (all all′ : List Chunk) (t n : ℕ) (e e′ : List Chunk) (at at′ : ℕ) (c : Chunk) → typeIn t e′ ≡ typeIn t e → single rs all t n e at c ≡ accept → single rs′ all′ t n e′ at′ c ≡ accept
 unfolding single
@@ -134,10 +136,11 @@ rule-front rs rs′ all all′ e e′ at at′ c k h =
   where
     apart : c .type ≡ RelN → eqb (c .type) Fspc ≡ false
     apart q = rw q
+
     go : (a b : Bool) → eqb (c .type) RelN ≡ a → eqb (c .type) Fspc ≡ b
         → cond a (single rs all RelN 2 e at c) (cond b (single rs all Fspc 4 e at c then check (picture (rd32 (c .body)) all rs) 19 (at + 8)) accept) ≡ accept
         → cond a (single rs′ all′ RelN 2 e′ at′ c) (cond b (single rs′ all′ Fspc 4 e′ at′ c then check (picture (rd32 (c .body)) all′ rs′) 19 (at′ + 8)) accept)
-          ≡ cond b (check (picture (rd32 (c .body)) all′ rs′) 19 (at′ + 8)) accept
+        ≡ cond b (check (picture (rd32 (c .body)) all′ rs′) 19 (at′ + 8)) accept
     go true b q r h =
         let z : b ≡ false = sym r ∙ apart (eqb-true (c .type) RelN q) in
         single-again rs rs′ all all′ RelN 2 e e′ at at′ c (k .release) h ∙ rw z
@@ -240,7 +243,7 @@ front-shape rs all at (c ∷ cs) o = go (eqb (c .type) Fspc) refl (o .0) (front-
     go : (b : Bool) → eqb (c .type) Fspc ≡ b → (eqb (c .type) Fspc ≡ true → typeIn Fspc cs ≡ false)
         → frontFault rs all (at + size c) cs ≡ cond (typeIn Fspc cs) (check (picture (frontNumber cs) all rs) 19 (startAt (at + size c) cs (frontPlace cs) + 8)) accept
         → cond b (check (picture (rd32 (c .body)) all rs) 19 (at + 8)) accept then frontFault rs all (at + size c) cs
-          ≡ cond (b || typeIn Fspc cs) (check (picture (rd32 (getD (c ∷ cs) (cond b 0 (suc (frontPlace cs))) noChunk .body)) all rs) 19 (startAt at (c ∷ cs) (cond b 0 (suc (frontPlace cs))) + 8)) accept
+        ≡ cond (b || typeIn Fspc cs) (check (picture (rd32 (getD (c ∷ cs) (cond b 0 (suc (frontPlace cs))) noChunk .body)) all rs) 19 (startAt at (c ∷ cs) (cond b 0 (suc (frontPlace cs))) + 8)) accept
     go true e f ih =
         ap (λ (v : Verdict). check (picture (rd32 (c .body)) all rs) 19 (at + 8) then v) (front-none rs all (at + size c) cs (f e)) ∙ then-end _
         ∙ ap (λ (p : ℕ). check (picture (rd32 (c .body)) all rs) 19 (p + 8)) (first-start at (c ∷ cs))
@@ -294,8 +297,8 @@ picture-find R cs cs′ e p [] q ok = refl
 picture-find R cs cs′ e p (r ∷ rs) q ok =
     let b = then-accept _ _ (then-accept _ _ ok .1) in
     go (eqb (r .usage) Pict && eqb (r .number) q) refl
-      (λ h. picture-none q cs′ rs (pairs-once R cs (e ++ (r ∷ [])) (p + 12) rs Pict q (pair-right Pict q e r h) (b .1)))
-      (picture-find R cs cs′ (e ++ (r ∷ [])) (p + 12) rs q (b .1))
+    (λ h. picture-none q cs′ rs (pairs-once R cs (e ++ (r ∷ [])) (p + 12) rs Pict q (pair-right Pict q e r h) (b .1)))
+    (picture-find R cs cs′ (e ++ (r ∷ [])) (p + 12) rs q (b .1))
   where
     go : (b : Bool) → (eqb (r .usage) Pict && eqb (r .number) q) ≡ b → (b ≡ true → picture q cs′ rs ≡ false) → picture q cs′ rs ≡ pictureAt q cs′ rs
         → (b && not (eqb (getD cs′ (r .chunk) noChunk .type) Rect)) || picture q cs′ rs ≡ ltb (cond b 0 (suc (find Pict q rs))) (suc (length rs)) && not (eqb (getD cs′ (getD (r ∷ rs) (cond b 0 (suc (find Pict q rs))) noRef .chunk) noChunk .type) Rect)
@@ -329,29 +332,36 @@ picture-replaced R cs rs u n q c ok found alone there old = go (eqb u Pict) (eqb
   where
     i : ℕ
     i = find u n rs
+
     j : ℕ
     j = find Pict q rs
+
     k : ℕ
     k = getD rs (find u n rs) noRef .chunk
+
     new : List Chunk
     new = set cs (getD rs (find u n rs) noRef .chunk) c
+
     was : (ltb j (length rs) ≡ true) × (not (eqb (getD cs (getD rs j noRef .chunk) noChunk .type) Rect) ≡ true)
     was = and-split _ _ (sym (picture-find R cs cs [] 24 rs q ok) ∙ old)
+
     same : u ≡ Pict → n ≡ q → picture q new rs ≡ not (eqb (c .type) Rect)
     same eu en =
         let ej : j ≡ i = λ z. find (sym eu z) (sym en z) rs in
         picture-find R cs new [] 24 rs q ok
         ∙ ap (λ (a : ℕ). ltb a (length rs) && not (eqb (getD new (getD rs a noRef .chunk) noChunk .type) Rect)) ej
         ∙ rw (lt-ltb i (length rs) found, getD-set-same cs k c noChunk there)
+
     other : ((u ≡ Pict) × (n ≡ q) → ⊥) → picture q new rs ≡ true
     other ne =
         let lj : j < length rs = ltb-true _ _ (was .0) in
         let pj = find-pair Pict q rs lj in
         let pi = find-pair u n rs found in
         let off : eqb (getD rs j noRef .chunk) k ≡ false
-            = others-off k i j rs alone lj (λ e. ne (sym (pi .0) ∙ ap (λ (a : ℕ). getD rs a noRef .usage) (sym e) ∙ pj .0, sym (pi .1) ∙ ap (λ (a : ℕ). getD rs a noRef .number) (sym e) ∙ pj .1)) in
+        = others-off k i j rs alone lj (λ e. ne (sym (pi .0) ∙ ap (λ (a : ℕ). getD rs a noRef .usage) (sym e) ∙ pj .0, sym (pi .1) ∙ ap (λ (a : ℕ). getD rs a noRef .number) (sym e) ∙ pj .1)) in
         picture-find R cs new [] 24 rs q ok
         ∙ rw (getD-set-other cs k (getD rs j noRef .chunk) c noChunk (eqb-false _ _ off), was .0, was .1)
+
     go : (x y : Bool) → eqb u Pict ≡ x → eqb n q ≡ y → picture q new rs ≡ not ((x && y) && eqb (c .type) Rect)
     go true true ex ey = same (eqb-true u Pict ex) (eqb-true n q ey)
     go true false ex ey = other (λ e. eqb-false n q ey (e .1))
@@ -362,18 +372,19 @@ pub optional-replaced : (R : Rules) (at at′ : ℕ) (cs : List Chunk) (rs : Lis
     → refsFault R cs [] 24 rs ≡ accept → optional at rs cs ≡ accept → find u n rs < length rs → uses (getD rs (find u n rs) noRef .chunk) (without (find u n rs) rs) ≡ false
     → getD rs (find u n rs) noRef .chunk < length cs → Plain (getD cs (getD rs (find u n rs) noRef .chunk) noChunk) → Plain c
     → optional at′ rs (set cs (getD rs (find u n rs) noRef .chunk) c)
-      ≡ cond (typeIn Fspc cs)
-          (check (not ((eqb u Pict && eqb n (frontNumber cs)) && eqb (c .type) Rect)) 19
-            (startAt at′ (set cs (getD rs (find u n rs) noRef .chunk) c) (frontPlace (set cs (getD rs (find u n rs) noRef .chunk) c)) + 8))
-          accept
+    ≡ cond (typeIn Fspc cs)
+    (check (not ((eqb u Pict && eqb n (frontNumber cs)) && eqb (c .type) Rect)) 19
+    (startAt at′ (set cs (getD rs (find u n rs) noRef .chunk) c) (frontPlace (set cs (getD rs (find u n rs) noRef .chunk) c)) + 8))
+    accept
 optional-replaced R at at′ cs rs u n c ok seven found alone there o p =
     optional-like at at′ rs rs cs (set cs (getD rs (find u n rs) noRef .chunk) c) (like-set cs (getD rs (find u n rs) noRef .chunk) c there o p) seven
     ∙ go (typeIn Fspc cs) refl (λ h. picture-replaced R cs rs u n (frontNumber cs) c ok found alone there (front-picture at rs cs seven h))
   where
     new : List Chunk
     new = set cs (getD rs (find u n rs) noRef .chunk) c
+
     go : (b : Bool) → typeIn Fspc cs ≡ b → (b ≡ true → picture (frontNumber cs) new rs ≡ not ((eqb u Pict && eqb n (frontNumber cs)) && eqb (c .type) Rect))
         → cond b (check (picture (frontNumber cs) new rs) 19 (startAt at′ new (frontPlace new) + 8)) accept
-          ≡ cond b (check (not ((eqb u Pict && eqb n (frontNumber cs)) && eqb (c .type) Rect)) 19 (startAt at′ new (frontPlace new) + 8)) accept
+        ≡ cond b (check (not ((eqb u Pict && eqb n (frontNumber cs)) && eqb (c .type) Rect)) 19 (startAt at′ new (frontPlace new) + 8)) accept
     go true e f = ap (λ (b : Bool). check b 19 (startAt at′ new (frontPlace new) + 8)) (f refl)
     go false e f = refl

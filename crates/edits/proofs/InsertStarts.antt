@@ -90,14 +90,19 @@ starts-inserted m r e =
   where
     k : ℕ
     k = oldPlace r m
+
     n : ℕ
     n = length (m .refs)
+
     x : Ref
     x = oldRef r m
+
     cs′ : List Chunk
     cs′ = with-at (oldPlace r m) (oldChunk r) (m .chunks)
+
     inside : oldPlace r m ≤ length (m .chunks)
     inside = place-inside (r .start - 12) (base (length (m .refs))) (m .chunks)
+
     all : (rs : List Ref) → map (entryOf (base (suc n)) cs′) (map (raise k) rs) ≡ map (moved (risen (startAt (base n) (m .chunks) k) (size (oldChunk r)))) (map (entryOf (base n) (m .chunks)) rs)
     all [] = refl
     all (y ∷ rs) = λ i. record { usage = y .usage; number = y .number; start = rose n (m .chunks) k (oldChunk r) (y .chunk) inside i } ∷ all rs i
@@ -115,10 +120,13 @@ starts-relisted m r e =
   where
     n : ℕ
     n = length (m .refs)
+
     x : Ref
     x = oldRef r m
+
     grown : (j : ℕ) → startAt (base (suc n)) (m .chunks) j ≡ startAt (base n) (m .chunks) j + 12
     grown j = unfold startAt base in omega arith
+
     all : (rs : List Ref) → map (entryOf (base (suc n)) (m .chunks)) rs ≡ map (moved (λ t. t + 12)) (map (entryOf (base n) (m .chunks)) rs)
     all [] = refl
     all (y ∷ rs) = λ i. record { usage = y .usage; number = y .number; start = grown (y .chunk) i } ∷ all rs i
@@ -138,10 +146,13 @@ fit3 m r h = (leb-true (r .place) (length (m .refs)) (p .0), go (isStart (r .sta
   where
     at : ℕ
     at = base (length (m .refs))
+
     p : (leb (r .place) (length (m .refs)) ≡ true) × ((isStart (r .start - 12) (base (length (m .refs))) (m .chunks) || eqb (r .start - 12) (startAt (base (length (m .refs))) (m .chunks) (length (m .chunks)))) ≡ true)
     p = fit-parts (leb (r .place) (length (m .refs))) (isStart (r .start - 12) (base (length (m .refs))) (m .chunks) || eqb (r .start - 12) (startAt (base (length (m .refs))) (m .chunks) (length (m .chunks)))) h
+
     back : startAt at (m .chunks) (oldPlace r m) ≡ r .start - 12 → r .start ≡ startAt at (m .chunks) (oldPlace r m) + 12
     back e = further (length (m .refs)) (m .chunks) (oldPlace r m) (r .start) e
+
     go : (b : Bool) → isStart (r .start - 12) at (m .chunks) ≡ b → b || eqb (r .start - 12) (startAt at (m .chunks) (length (m .chunks))) ≡ true → r .start ≡ startAt at (m .chunks) (oldPlace r m) + 12
     go true e q = back (startAt-placeOf (r .start - 12) at (m .chunks) e .0)
     go false e q =

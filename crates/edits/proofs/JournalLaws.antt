@@ -41,16 +41,18 @@ module _ (r : Rec) (ok : RecOk r) where
       let t5 : List ℕ = be32 (r .type) ++ t6 in
       let t4 : List ℕ = be32 (r .start) ++ t5 in
       let t3 : List ℕ = be32 (r .place) ++ t4 in
-      let t2 : List ℕ = be32 (r .number) ++ t3 in
-      (λ i. record
-        { kind = r .kind
-        ; usage = rd32-be32 (r .usage) t2 (ok .usage-fits) i
-        ; number = rd32-be32 (r .number) t3 (ok .number-fits) i
-        ; place = rd32-be32 (r .place) t4 (ok .place-fits) i
-        ; start = rd32-be32 (r .start) t5 (ok .start-fits) i
-        ; type = rd32-be32 (r .type) t6 (ok .type-fits) i
-        ; body = r .body },
-       rd32-be32 (length (r .body)) (r .body) (omega (arith, ok .body-fits)))
+      let t2 : List ℕ = be32 (r .number) ++ t3 in (
+        λ i. record {
+          kind = r .kind;
+          usage = rd32-be32 (r .usage) t2 (ok .usage-fits) i;
+          number = rd32-be32 (r .number) t3 (ok .number-fits) i;
+          place = rd32-be32 (r .place) t4 (ok .place-fits) i;
+          start = rd32-be32 (r .start) t5 (ok .start-fits) i;
+          type = rd32-be32 (r .type) t6 (ok .type-fits) i;
+          body = r .body;
+        },
+        rd32-be32 (length (r .body)) (r .body) (omega (arith, ok .body-fits)),
+      )
 
   module _ (p : List ℕ) where
     -- the trailer, and what stands before it
@@ -68,14 +70,14 @@ module _ (r : Rec) (ok : RecOk r) where
     unfolding trailer
     trailer-of =
         let e : drop (length (p ++ recBytes r) - 4) (p ++ recBytes r) ≡ be32 (25 + length (r .body)) ++ []
-            = rw (append-nil (be32 (25 + length (r .body))), ← before, split) (drop-at (p ++ recBody r) (be32 (25 + length (r .body))) (length (p ++ recBody r)) refl) in
+        = rw (append-nil (be32 (25 + length (r .body))), ← before, split) (drop-at (p ++ recBody r) (be32 (25 + length (r .body))) (length (p ++ recBody r)) refl) in
         rw e (rd32-be32 (25 + length (r .body)) [] (ok .body-fits))
 
     last-body : lastBody (p ++ recBytes r) ≡ recBody r
     unfolding lastBody
     last-body =
         let e : take (length (p ++ recBytes r) - 4) (p ++ recBytes r) ≡ p ++ recBody r
-            = rw (← before, split) (take-at (p ++ recBody r) (be32 (25 + length (r .body))) (length (p ++ recBody r)) refl) in
+        = rw (← before, split) (take-at (p ++ recBody r) (be32 (25 + length (r .body))) (length (p ++ recBody r)) refl) in
         rw (trailer-of, e) (drop-at p (recBody r) (length (p ++ recBytes r) - (4 + (25 + length (r .body)))) (omega (arith, long)))
 
     pub last-rec : lastRec (p ++ recBytes r) ≡ r
@@ -85,6 +87,16 @@ module _ (r : Rec) (ok : RecOk r) where
     pub well-formed : wellFormed (p ++ recBytes r) ≡ true
     unfolding wellFormed
     well-formed =
-        rw (last-rec, trailer-of, last-body, read-body .1, ok .zeros-ok, le-leb 1 (r .kind) (ok .kind-low), le-leb (r .kind) 4 (ok .kind-high), 
-            le-leb 29 (length (p ++ recBytes r)) (omega (arith, long)), le-leb 25 (25 + length (r .body)) (omega arith),
-            le-leb (25 + length (r .body)) (length (p ++ recBytes r) - 4) (omega (arith, long)), eq-eqb (25 + length (r .body)) (25 + length (r .body)) refl)
+        rw (
+          last-rec,
+          trailer-of,
+          last-body,
+          read-body .1,
+          ok .zeros-ok,
+          le-leb 1 (r .kind) (ok .kind-low),
+          le-leb (r .kind) 4 (ok .kind-high),
+          le-leb 29 (length (p ++ recBytes r)) (omega (arith, long)),
+          le-leb 25 (25 + length (r .body)) (omega arith),
+          le-leb (25 + length (r .body)) (length (p ++ recBytes r) - 4) (omega (arith, long)),
+          eq-eqb (25 + length (r .body)) (25 + length (r .body)) refl,
+        )

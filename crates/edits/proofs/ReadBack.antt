@@ -14,7 +14,7 @@ use Rattle.blorb.specs.Verdict.{Rules, Verdict, accept, refuse, _then_, check, 
 use Rattle.blorb.specs.Model.{Model}
 use Rattle.blorb.specs.Queries.{find, noRef, refAt, chunkAt, without, uses, shared}
 use Rattle.edits.specs.Edit.{lower, added, replaced, removed, removedBoth, removedEntry}
-use Rattle.blorb.proofs.All.{All}
+use Rattle.blorb.specs.All.{All}
 use Rattle.blorb.proofs.Sound.{RefOk, Sound}
 use Rattle.blorb.proofs.Checks.{then-accept, check-accept}
 use Rattle.edits.proofs.UndoLaws.{or-false}
@@ -61,6 +61,7 @@ add-keeps m u n c u′ n′ s ne =
   where
     x : Ref
     x = record { usage = u; number = n; chunk = length (m .chunks) }
+
     go : (b : Bool) → pairIn u′ n′ (m .refs) ≡ b → cond b (lookIn (m .chunks) u′ n′ (m .refs)) (lookIn (m .chunks ++ (c ∷ [])) u′ n′ (x ∷ [])) ≡ lookIn (m .chunks) u′ n′ (m .refs)
     go true e = refl
     go false e = let z : lookIn (m .chunks ++ (c ∷ [])) u′ n′ (x ∷ []) ≡ missing = (unfold lookIn in rw ne) in z ∙ sym (look-missing (m .chunks) u′ n′ (m .refs) e)

@@ -15,7 +15,7 @@ use Rattle.blorb.specs.Tags.{RIdx}
 use Rattle.blorb.specs.Verdict.{Rules, Verdict, accept, refuse, _then_, check, noChunk}
 use Rattle.blorb.specs.Tags.{Pict, Snd, Data, Exec, Rect, RelN, Fspc}
 use Rattle.blorb.specs.Rules.{plain, oneOf, picture, typeIn, single, chunkRule, chunkRules, optional, plainRules}
-use Rattle.blorb.proofs.All.{All}
+use Rattle.blorb.specs.All.{All}
 use Rattle.blorb.proofs.Sound.{RefOk, Sound}
 use Rattle.blorb.proofs.Checks.{then-accept, check-accept, pass, accepts, holds-last}
 use Rattle.edits.proofs.AddVerdict.{then-assoc, then-end}
@@ -44,8 +44,8 @@ unfolding chunkRule
 rule-kept rs rs′ all all′ earlier at at′ c k h =
     cond-accept (eqb (c .type) RelN) _ _ _ _ (single-any rs rs′ all all′ RelN 2 earlier at at′ c)
     (cond-accept (eqb (c .type) Fspc) _ _ _ _
-      (λ g. let a = then-accept _ _ g in accepts _ _ (single-any rs rs′ all all′ Fspc 4 earlier at at′ c (a .0)) ∙ holds-last _ _ _ (k (rd32 (c .body)) (check-accept _ _ _ (a .1))))
-      (λ g. g)) h
+    (λ g. let a = then-accept _ _ g in accepts _ _ (single-any rs rs′ all all′ Fspc 4 earlier at at′ c (a .0)) ∙ holds-last _ _ _ (k (rd32 (c .body)) (check-accept _ _ _ (a .1))))
+    (λ g. g)) h
 
 pub rules-kept : (rs rs′ : List Ref) (all all′ : List Chunk) (earlier : List Chunk) (at at′ : ℕ) (cs : List Chunk) → Kept all rs all′ rs′
     → chunkRules rs all earlier at cs ≡ accept → chunkRules rs′ all′ earlier at′ cs ≡ accept
@@ -90,7 +90,7 @@ pub optional-added : (at at′ : ℕ) (rs : List Ref) (cs : List Chunk) (x : Ref
 unfolding optional
 optional-added at at′ rs cs x c ok p h =
     rules-append (rs ++ (x ∷ [])) (cs ++ (c ∷ [])) [] at′ cs c p
-      (rules-kept rs (rs ++ (x ∷ [])) cs (cs ++ (c ∷ [])) [] at at′ cs (λ n e. picture-more n cs c rs x ok e) h)
+    (rules-kept rs (rs ++ (x ∷ [])) cs (cs ++ (c ∷ [])) [] at at′ cs (λ n e. picture-more n cs c rs x ok e) h)
 
 -- what rule 5 allows is neither 'RelN' nor 'Fspc'
 -- a test that a given type fails

@@ -15,7 +15,8 @@ use Rattle.edits.specs.Edit.{Edit, add, replace, remove, edited}
 use Rattle.blorb.specs.Queries.{find, shared, refAt, noRef, chunkAt}
 use Rattle.edits.specs.Journal.{Rec, recOf, recBytes, removal, lastRec, wellFormed, fits, undone, zeros}
 use Rattle.blorb.specs.Queries.{start}
-use Rattle.blorb.proofs.All.{All, all-getD}
+use Rattle.blorb.specs.All.{All}
+use Rattle.blorb.proofs.AllLaws.{all-getD}
 use Rattle.blorb.proofs.Sound.{W, RefOk, ChunkOk, Sound}
 use Rattle.edits.specs.Run.{ArgsOk}
 use Rattle.edits.proofs.Applies.{Applies}
@@ -23,7 +24,8 @@ use Rattle.edits.proofs.FitLaws.{edit-back, edit-sound}
 use Rattle.blorb.proofs.ModelLaws.{model-file, length-file, total-take, size-getD}
 use Rattle.blorb.proofs.Places.{body-size}
 use Rattle.edits.proofs.JournalLaws.{RecOk, last-rec, well-formed, length-recBytes}
-use Rattle.blorb.proofs.Accept.{Byte, accept-back, accept-short}
+use Rattle.blorb.specs.Bytes.{Byte}
+use Rattle.blorb.proofs.Accept.{accept-back, accept-short}
 use Rattle.blorb.proofs.Checks.{then-accept, check-accept}
 use Rattle.edits.specs.Run.{State, Call, edit, undo, Answer, accepted, hundred, written, noted, targetFault, editedFile, editRecord, undoneFile, editFault, undoFault, answered, afterEdit, afterUndo, fault, after, step, run, answers, ledgerFile, ledgerRecords, ledgerFault, kept, ledgerAfter, ledgerStep, ledgerRun, ledgerAnswers}
 
@@ -80,21 +82,53 @@ module _ (m : Model) (s : Sound m) (small : length (file m) ≤ 16777216) where
 
   removal-ok : (b : Bool) (u n i : ℕ) → u < W → n < W → i < length (m .refs) → RecOk (removal b m u n i)
   unfolding removal zeros
-  removal-ok true u n i hu hn h = record
-      { kind-low = omega arith; kind-high = omega arith; usage-fits = hu; number-fits = hn; place-fits = place-small i (omega arith); start-fits = start-small (refAt m i .chunk)
-      ; type-fits = omega arith; body-fits = omega arith; zeros-ok = refl }
-  removal-ok false u n i hu hn h = record
-      { kind-low = omega arith; kind-high = omega arith; usage-fits = hu; number-fits = hn; place-fits = place-small i (omega arith); start-fits = start-small (refAt m i .chunk)
-      ; type-fits = type-small i h; body-fits = body-small i h; zeros-ok = refl }
+  removal-ok true u n i hu hn h = record {
+    kind-low = omega arith;
+    kind-high = omega arith;
+    usage-fits = hu;
+    number-fits = hn;
+    place-fits = place-small i (omega arith);
+    start-fits = start-small (refAt m i .chunk);
+    type-fits = omega arith;
+    body-fits = omega arith;
+    zeros-ok = refl;
+  }
+  removal-ok false u n i hu hn h = record {
+    kind-low = omega arith;
+    kind-high = omega arith;
+    usage-fits = hu;
+    number-fits = hn;
+    place-fits = place-small i (omega arith);
+    start-fits = start-small (refAt m i .chunk);
+    type-fits = type-small i h;
+    body-fits = body-small i h;
+    zeros-ok = refl;
+  }
 
   pub rec-ok : (e : Edit) → ArgsOk e → Applies m e → RecOk (recOf m e)
   unfolding recOf zeros
-  rec-ok (add u n t d) a h = record
-      { kind-low = omega arith; kind-high = omega arith; usage-fits = a .0; number-fits = a .1; place-fits = place-small (length (m .refs)) (omega arith); start-fits = omega arith
-      ; type-fits = omega arith; body-fits = omega arith; zeros-ok = refl }
-  rec-ok (replace u n t d) a h = record
-      { kind-low = omega arith; kind-high = omega arith; usage-fits = a .0; number-fits = a .1; place-fits = place-small (find u n (m .refs)) (omega (arith, h .0)); start-fits = start-small (refAt m (find u n (m .refs)) .chunk)
-      ; type-fits = type-small (find u n (m .refs)) (h .0); body-fits = body-small (find u n (m .refs)) (h .0); zeros-ok = refl }
+  rec-ok (add u n t d) a h = record {
+    kind-low = omega arith;
+    kind-high = omega arith;
+    usage-fits = a .0;
+    number-fits = a .1;
+    place-fits = place-small (length (m .refs)) (omega arith);
+    start-fits = omega arith;
+    type-fits = omega arith;
+    body-fits = omega arith;
+    zeros-ok = refl;
+  }
+  rec-ok (replace u n t d) a h = record {
+    kind-low = omega arith;
+    kind-high = omega arith;
+    usage-fits = a .0;
+    number-fits = a .1;
+    place-fits = place-small (find u n (m .refs)) (omega (arith, h .0));
+    start-fits = start-small (refAt m (find u n (m .refs)) .chunk);
+    type-fits = type-small (find u n (m .refs)) (h .0);
+    body-fits = body-small (find u n (m .refs)) (h .0);
+    zeros-ok = refl;
+  }
   rec-ok (remove u n) a h = removal-ok (shared m (find u n (m .refs))) u n (find u n (m .refs)) (a .0) (a .1) h
 
 -- a file that a run can stand on
@@ -130,11 +164,12 @@ module _ (R : Rules) where
       let same : model (file (edited (model f) e)) ≡ edited (model f) e = model-file (edited (model f) e) sd (omega arith) in
       let eb = edit-back (model f) e (g .sound) ap in
       let ok : RecOk (recOf (model f) e) = rec-ok (model f) (g .sound) (rw (g .whole) (g .short)) e a ap in
-      record
-      { good = record { fine = new; whole = cong file same; sound = rw same sd; short = len }
-      ; room = leb-true _ _ (check-accept _ _ _ (h5 .0))
-      ; journal-room = leb-true _ _ (check-accept _ _ _ (h5 .1))
-      ; reads = λ p. well-formed (recOf (model f) e) ok p
-      ; size = λ p. rw (last-rec (recOf (model f) e) ok p) (sym (length-recBytes (recOf (model f) e)))
-      ; fitting = λ p. rw (last-rec (recOf (model f) e) ok p, same) (eb .0)
-      ; back = λ p. rw (last-rec (recOf (model f) e) ok p, same, eb .1) (g .whole) }
+      record {
+        good = record { fine = new; whole = cong file same; sound = rw same sd; short = len };
+        room = leb-true _ _ (check-accept _ _ _ (h5 .0));
+        journal-room = leb-true _ _ (check-accept _ _ _ (h5 .1));
+        reads = λ p. well-formed (recOf (model f) e) ok p;
+        size = λ p. rw (last-rec (recOf (model f) e) ok p) (sym (length-recBytes (recOf (model f) e)));
+        fitting = λ p. rw (last-rec (recOf (model f) e) ok p, same) (eb .0);
+        back = λ p. rw (last-rec (recOf (model f) e) ok p, same, eb .1) (g .whole);
+      }

@@ -15,7 +15,7 @@ use Rattle.blorb.specs.Model.{Model, base, startAt, entryOf}
 use Rattle.blorb.specs.Queries.{uses, shared, refAt, noRef, chunkAt, without}
 use Rattle.edits.specs.Edit.{lower, added, replaced, removedBoth, removedEntry}
 use Rattle.blorb.specs.Queries.{start}
-use Rattle.blorb.proofs.All.{All}
+use Rattle.blorb.specs.All.{All}
 use Rattle.blorb.proofs.Sound.{RefOk, ChunkOk, Sound}
 use Rattle.blorb.proofs.Places.{size-pos}
 use Rattle.edits.proofs.UndoLaws.{length-without, length-remaining, or-false}
@@ -76,9 +76,9 @@ starts-added m u n c s =
     let cs : List Chunk = m .chunks ++ (c ∷ []) in
     let l : length (m .refs ++ (x ∷ [])) ≡ suc k = simp length-append (omega arith) in
     let old : map (entryOf (base (suc k)) cs) (m .refs) ≡ map (moved (λ s. s + 12)) (entries m)
-        = ap (map (entryOf (base (suc k)) cs)) (sym (map-id (m .refs)))
-          ∙ moved-all (λ s. s + 12) (λ r. r) (RefOk (length (m .chunks))) (base k) (base (suc k)) (m .chunks) cs (m .refs)
-              (λ r ok i. record { usage = r .usage; number = r .number; start = grown k (m .chunks) c (r .chunk) (omega (arith, ok .chunk-there)) i }) (s .refs-ok) in
+    = ap (map (entryOf (base (suc k)) cs)) (sym (map-id (m .refs)))
+    ∙ moved-all (λ s. s + 12) (λ r. r) (RefOk (length (m .chunks))) (base k) (base (suc k)) (m .chunks) cs (m .refs)
+    (λ r ok i. record { usage = r .usage; number = r .number; start = grown k (m .chunks) c (r .chunk) (omega (arith, ok .chunk-there)) i }) (s .refs-ok) in
     rw (l, map-append (entryOf (base (suc k)) cs) (m .refs) (x ∷ []), old)
     λ i. map (moved (λ s. s + 12)) (entries m) ++ (record { usage = u; number = n; start = grown k (m .chunks) c (length (m .chunks)) (omega arith) i } ∷ [])
 
@@ -105,6 +105,7 @@ starts-replaced m k c h = all (m .refs)
   where
     at : ℕ
     at = base (length (m .refs))
+
     all : (rs : List Ref) → map (entryOf at (set (m .chunks) k c)) rs ≡ map (moved (behind (startAt at (m .chunks) k) (size (chunkAt m k)) (size c))) (map (entryOf at (m .chunks)) rs)
     all [] = refl
     all (r ∷ rs) = λ i. record { usage = r .usage; number = r .number; start = shifted at (m .chunks) k c (r .chunk) h i } ∷ all rs i
@@ -131,6 +132,7 @@ fell n cs k r h ne = go (r .chunk) (ltb k (r .chunk)) refl ne
   where
     B : ℕ
     B = 24 + 12 * n
+
     go : (j : ℕ) (b : Bool) → ltb k j ≡ b → eqb j k ≡ false
         → B + total (take (cond b (j - 1) j) (without k cs)) ≡ fallen (24 + 12 * suc n + total (take k cs)) (size (getD cs k noChunk)) (24 + 12 * suc n + total (take j cs))
     go j true e ne =
@@ -158,8 +160,10 @@ starts-removed m i h valid alone =
   where
     k : ℕ
     k = refAt m i .chunk
+
     n : ℕ
     n = length (without i (m .refs))
+
     all : (rs : List Ref) → uses k rs ≡ false → map (entryOf (base n) (without k (m .chunks))) (map (lower k) rs)
         ≡ map (moved (fallen (startAt (base (suc n)) (m .chunks) k) (size (chunkAt m k)))) (map (entryOf (base (suc n)) (m .chunks)) rs)
     all [] u = refl

@@ -14,10 +14,12 @@ use Rattle.blorb.specs.Tags.{Rect}
 use Rattle.blorb.specs.Rules.{plain, picture, plainRules}
 use Rattle.blorb.specs.Model.{Model, base, model, file}
 use Rattle.blorb.specs.Queries.{find, noRef, refAt, chunkAt, without, shared, start}
-use Rattle.blorb.proofs.All.{All, all-getD, all-take}
+use Rattle.blorb.specs.All.{All}
+use Rattle.blorb.proofs.AllLaws.{all-getD, all-take}
 use Rattle.blorb.proofs.Sound.{W, RefOk, Sound}
 use Rattle.blorb.proofs.Places.{startAt-placeOf}
-use Rattle.blorb.proofs.Accept.{Byte, accept-back}
+use Rattle.blorb.specs.Bytes.{Byte}
+use Rattle.blorb.proofs.Accept.{accept-back}
 use Rattle.blorb.proofs.Checks.{then-accept}
 use Rattle.blorb.proofs.ModelLaws.{length-file, size-getD}
 use Rattle.blorb.proofs.VerdictLaws.{verdict-file, modelFault}

@@ -85,8 +85,11 @@ module _ (m : Model) (i : ℕ) (inside : i < length (m .refs)) (valid : refAt m 
   unfolding undo3 removal removedBoth shared
   undo-remove alone =
       let k : ℕ = refAt m i .chunk in
-      rw (remove-start, placeOf-startAt (base (length (removedBoth m i k .refs))) (without k (m .chunks)) k (omega (arith, length-without k (m .chunks) valid)),
-          raise-lowers k (without i (m .refs)) alone)
+      rw (
+        remove-start,
+        placeOf-startAt (base (length (removedBoth m i k .refs))) (without k (m .chunks)) k (omega (arith, length-without k (m .chunks) valid)),
+        raise-lowers k (without i (m .refs)) alone,
+      )
       λ j. record { refs = with-without i (m .refs) noRef inside j; chunks = with-without k (m .chunks) noChunk valid j }
 
 -- kind 4: the chunk stays, and its old start less 12 is its start now

@@ -13,9 +13,11 @@ use Rattle.blorb.specs.Tags.{Rect}
 use Rattle.blorb.specs.Rules.{plain, plainRules}
 use Rattle.blorb.specs.Model.{Model, model, file}
 use Rattle.blorb.specs.Queries.{find, refAt, chunkAt}
-use Rattle.blorb.proofs.All.{All, all-take, all-drop}
+use Rattle.blorb.specs.All.{All}
+use Rattle.blorb.proofs.AllLaws.{all-take, all-drop}
 use Rattle.blorb.proofs.Sound.{W}
-use Rattle.blorb.proofs.Accept.{Byte, rd32-small}
+use Rattle.blorb.specs.Bytes.{Byte}
+use Rattle.blorb.proofs.Accept.{rd32-small}
 use Rattle.edits.specs.Journal.{Rec, trailer, recIn, lastBody, lastRec, fits, fits1, fits2, fits4, undo2, oldChunk, oldPlace}
 use Rattle.edits.specs.Run.{accepted, undoneFile}
 use Rattle.edits.proofs.BoolLaws.{and-where}

@@ -46,9 +46,15 @@ unfoldable pub trailer : List ℕ → ℕ
 trailer j = rd32 (drop (length j - 4) j)
 
 unfoldable pub recIn : List ℕ → Rec
-recIn s = record
-  { kind = getD s 0 0; usage = rd32 (drop 1 s); number = rd32 (drop 5 s); place = rd32 (drop 9 s); start = rd32 (drop 13 s); type = rd32 (drop 17 s)
-  ; body = drop 25 s }
+recIn s = record {
+  kind = getD s 0 0;
+  usage = rd32 (drop 1 s);
+  number = rd32 (drop 5 s);
+  place = rd32 (drop 9 s);
+  start = rd32 (drop 13 s);
+  type = rd32 (drop 17 s);
+  body = drop 25 s;
+}
 
 unfoldable pub lastBody : List ℕ → List ℕ
 lastBody j = drop (length j - (4 + trailer j)) (take (length j - 4) j)

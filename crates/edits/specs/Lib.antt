@@ -1,3 +1,4 @@
 pub mod Edit
 pub mod Journal
 pub mod Run
+pub mod Demand3

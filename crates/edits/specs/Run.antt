@@ -79,17 +79,23 @@ answered (refuse k p) s t = s
 unfoldable pub afterEdit : State → Edit → State
 afterEdit s e =
     let f = take (s .L) (s .buffer) in
-    record
-    { buffer = written (s .buffer) (s .L) (editedFile f e); L = length (editedFile f e)
-    ; journal = noted (s .journal) (s .U) (editRecord f e); U = s .U + length (editRecord f e) }
+    record {
+      buffer = written (s .buffer) (s .L) (editedFile f e);
+      L = length (editedFile f e);
+      journal = noted (s .journal) (s .U) (editRecord f e);
+      U = s .U + length (editRecord f e);
+    }
 
 unfoldable pub afterUndo : State → State
 afterUndo s =
     let f = take (s .L) (s .buffer) in
     let j = take (s .U) (s .journal) in
-    record
-    { buffer = written (s .buffer) (s .L) (undoneFile f j); L = length (undoneFile f j)
-    ; journal = s .journal; U = s .U - (29 + length (lastRec j .body)) }
+    record {
+      buffer = written (s .buffer) (s .L) (undoneFile f j);
+      L = length (undoneFile f j);
+      journal = s .journal;
+      U = s .U - (29 + length (lastRec j .body));
+    }
 
 unfoldable pub after : State → Call → State
 after s (edit e) = afterEdit s e

@@ -7,7 +7,7 @@ use lib.ListN.{take, set}
 use Rattle.blorb.specs.Bytes.{be32, rd32}
 use Rattle.blorb.specs.Tags.{FORM, IFRS, Pict, Data, Rect, TEXT, BINA}
 use Rattle.blorb.specs.declared.Usage.the-variants as usage
-use Rattle.blorb.proofs.All.{All}
+use Rattle.blorb.specs.All.{All}
 use Rattle.edits.specs.Edit.{Edit, add, replace, remove}
 use Rattle.reader.specs.declared.Reading.the-variants.{Accepted, Refused}
 use Rattle.reader.specs.declared.Asked.the-variants.{Given, Refused as NotGiven}
