@@ -33,17 +33,22 @@ use Rattle.reader.specs.declared.Looked.{Looked}
 use Rattle.reader.specs.declared.Looked.the-variants.{Found, Refused as Missing}
 use Rattle.reader.specs.Reading.{indexOf, readBy, readOf, givenBy, noEntry, entryBy, askedBy, entryOf, hitIn, foundBy, lookedBy, lookupOf}
 use Rattle.reader.specs.Optional.{optionalFault, Judged}
-use Rattle.reader.proofs.Laws.{length-entriesIn, hit-begun}
-use Rattle.reader.proofs.ReadLaws.{whole, layout, first-long, is-judged, index-of, v3, v5}
+use Rattle.reader.specs.Passed.{Passed, modelAt}
+use Rattle.blorb.specs.Model.{model}
+use Rattle.blorb.proofs.Accept.{accept-short}
+use Rattle.reader.proofs.Laws.{length-entriesIn, entry-getD, hit-begun, optional-is}
+use Rattle.reader.proofs.ReadLaws.{whole, layout, first-long, is-judged, index-of, model-of, v3, v5}
 
 -- a file that the reader accepts, with count entries
 pub record Good (f : List ℕ) (count : ℕ) : Type 0 where
   pub verdict : plainVerdict f ≡ accept
-  pub judged : Judged f count
+  pub passed : Passed f count
   pub index : indexOf f ≡ entriesIn count (drop 24 f)
   pub many : length (indexOf f) ≡ count
+  pub model : model f ≡ modelAt f count
 
-good : (f : List ℕ) → plainVerdict f ≡ accept → Good f (rd32 (drop 20 f))
+pub good : (f : List ℕ) → plainVerdict f ≡ accept → Good f (rd32 (drop 20 f))
+unfolding plainVerdict
 good f h =
     let a1 = then-accept _ _ (sym (whole f) ∙ h) in
     let a2 = then-accept _ _ (a1 .1) in
@@ -53,11 +58,13 @@ good f h =
     let count : ℕ = rd32 (drop 20 f) in
     let a6 = then-accept _ _ (sym (v5 f (a1 .0) (a2 .0) (a3 .0) (skipAt f 12) refl (a4 .0) (a5 .0) count refl) ∙ h) in
     let is : indexOf f ≡ entriesIn count (drop 24 f) = index-of f (a1 .0) (a2 .0) (a3 .0) (skipAt f 12) refl (a4 .0) (a5 .0) count refl (a6 .0) in
+    let j : Judged f count = is-judged f (a1 .0) (a2 .0) (a3 .0) (skipAt f 12) refl (a4 .0) (a5 .0) count refl (a6 .0) in
     record {
       verdict = h;
-      judged = is-judged f (a1 .0) (a2 .0) (a3 .0) (skipAt f 12) refl (a4 .0) (a5 .0) count refl (a6 .0);
+      passed = record { judged = j; optional = sym (optional-is f count (j .walks) (j .entries)) ∙ a6 .1; short = accept-short plainRules f h };
       index = is;
       many = ap length is ∙ length-entriesIn count (drop 24 f);
+      model = model-of f (a1 .0) (a2 .0) (a3 .0) (skipAt f 12) refl (a4 .0) (a5 .0) count refl (a6 .0);
     }
 
 read-go : (v : Verdict) (l n a b : ℕ) → readBy v a b ≡ Accepted l n → (v ≡ accept) × (b ≡ n)
@@ -80,15 +87,6 @@ module _ (f : List ℕ) where
   pub refused-as : (k p : ℕ) → readOf f ≡ Refused k p → plainVerdict f ≡ refuse k p
   unfolding readOf
   refused-as k p e = read-no (plainVerdict f) k p (length f) (length (indexOf f)) e
-
--- entry i of the list
-entry-getD : (f : List ℕ) (n i p : ℕ) (d : Entry) → i < n → getD (entriesIn n (drop p f)) i d ≡ entryIn (drop (p + 12 * i) f)
-unfolding entriesIn
-entry-getD f zero i p d h = absurd (not-suc-le-zero h)
-entry-getD f (suc n) zero p d h = let q : p ≡ p + 12 * 0 = omega arith in ap (λ (k : ℕ). entryIn (drop k f)) q
-entry-getD f (suc n) (suc i) p d h =
-    let q : p + 12 + 12 * i ≡ p + 12 * suc i = omega arith in
-    ap (λ (s : List ℕ). getD (entriesIn n s) i d) (drop-drop 12 p f) ∙ entry-getD f n i (p + 12) d (le-of-suc-le-suc h) ∙ ap (λ (k : ℕ). entryIn (drop k f)) q
 
 module _ (f : List ℕ) (i : ℕ) where
   pub entry-no : (k p : ℕ) → plainVerdict f ≡ refuse k p → Withheld k p ≡ entryOf f i
@@ -121,14 +119,14 @@ module _ (f : List ℕ) (u n : ℕ) where
     pub look-found : (x t m : ℕ) → hitIn u n (entriesIn count (drop 24 f)) ≡ At x → t ≡ rd32 (drop x f) → m ≡ rd32 (drop (x + 4) f) → Found t (x + 8) m ≡ lookupOf f u n
     unfolding chunkIn
     look-found x t m e et em =
-        let b = hit-begun f count u n x (g .judged) e in
+        let b = hit-begun f count u n x (g .passed .judged) e in
         let l : length (chunkAt f x .body) ≡ m = fine f x (b .0) (b .1) .bodied ∙ sym em in
         sym (look-on ∙ rw (e, l, ← et))
 
 -- the part that a lookup names lies in the file
 part-go : (f : List ℕ) (u n count t a m : ℕ) (g : Good f count) (x : Hit) → hitIn u n (entriesIn count (drop 24 f)) ≡ x → foundBy f x ≡ Found t a m → a + m ≤ length f
 part-go f u n count t a m g (At x) e q =
-    let b = hit-begun f count u n x (g .judged) e in
+    let b = hit-begun f count u n x (g .passed .judged) e in
     let i = fine f x (b .0) (b .1) in
     let ea : x + 8 ≡ a = cc in
     let em : length (chunkAt f x .body) ≡ m = cc in
@@ -178,6 +176,6 @@ pub entry-given : (f : List ℕ) (i : ℕ) → plainVerdict f ≡ accept → i <
 unfolding entriesFrom earlier
 entry-given f i h l =
     let g = good f h in
-    let es : entriesFault plainRules (place (rd32 (drop 20 f))) (chunksFrom f (place (rd32 (drop 20 f)))) [] 24 (indexOf f) ≡ accept = rw (g .index) (g .judged .entries) in
+    let es : entriesFault plainRules (place (rd32 (drop 20 f))) (chunksFrom f (place (rd32 (drop 20 f)))) [] 24 (indexOf f) ≡ accept = rw (g .index) (g .passed .judged .entries) in
     let k = not-unknown (getD (indexOf f) i noEntry .usage) _ refl (known-at f (place (rd32 (drop 20 f))) (indexOf f) [] 24 i noEntry es l) in
     (k .0, given-as f i h l (k .0) (k .1))
