@@ -67,8 +67,8 @@ good f h =
       model = model-of f (a1 .0) (a2 .0) (a3 .0) (skipAt f 12) refl (a4 .0) (a5 .0) count refl (a6 .0);
     }
 
-read-go : (v : Verdict) (l n a b : ℕ) → readBy v a b ≡ Accepted l n → (v ≡ accept) × (b ≡ n)
-read-go accept l n a b e = (refl, cc)
+pub read-go : (v : Verdict) (l n a b : ℕ) → readBy v a b ≡ Accepted l n → (v ≡ accept) × (a ≡ l) × (b ≡ n)
+read-go accept l n a b e = (refl, cc, cc)
 read-go (refuse k p) l n a b e = let z : _≡_ {A = ℕ} 0 1 = cc in absurd (omega arith)
 
 read-no : (v : Verdict) (k p a b : ℕ) → readBy v a b ≡ Refused k p → v ≡ refuse k p
@@ -81,7 +81,7 @@ module _ (f : List ℕ) where
   accepted l n e =
       let q = read-go (plainVerdict f) l n (length f) (length (indexOf f)) e in
       let g = good f (q .0) in
-      let c : rd32 (drop 20 f) ≡ n = sym (g .many) ∙ q .1 in
+      let c : rd32 (drop 20 f) ≡ n = sym (g .many) ∙ q .2 in
       rw c at g
 
   pub refused-as : (k p : ℕ) → readOf f ≡ Refused k p → plainVerdict f ≡ refuse k p
@@ -109,7 +109,7 @@ module _ (f : List ℕ) (u n : ℕ) where
   look-no k p e = rw e
 
   module _ (count : ℕ) (g : Good f count) where
-    look-on : lookupOf f u n ≡ foundBy f (hitIn u n (entriesIn count (drop 24 f)))
+    pub look-on : lookupOf f u n ≡ foundBy f (hitIn u n (entriesIn count (drop 24 f)))
     unfolding lookupOf
     look-on = rw (g .verdict, g .index)
 
@@ -153,8 +153,8 @@ module _ (f : List ℕ) (i n : ℕ) (g : Good f n) (l : i < n) (u : ℕ) (eu : u
       let q : usageOf (usageAt f (place i)) ≡ Is k = rw eu at e in
       (λ j. Given (record { usage = k; number = ea j; start = ex j })) ∙ (rw q at (entry-there f i n g l))
 
--- an accepted file's entries have a known usage: 12 is no answer of theirs
-known-at : (f : List ℕ) (base : ℕ) (es : List Entry) (earlier : List Ref) (p i : ℕ) (d : Entry)
+-- the entries of an accepted file have a known usage
+pub known-at : (f : List ℕ) (base : ℕ) (es : List Entry) (earlier : List Ref) (p i : ℕ) (d : Entry)
     → entriesFault plainRules base (chunksFrom f base) earlier p es ≡ accept → i < length es → knownUsage (getD es i d .usage) ≡ true
 unfolding entriesFault
 known-at f base [] earlier p i d h l = absurd (not-suc-le-zero l)
@@ -162,20 +162,11 @@ known-at f base (e ∷ es) earlier p zero d h l = check-accept _ _ _ (then-accep
 known-at f base (e ∷ es) earlier p (suc i) d h l =
     known-at f base es (earlier ++ (refOf base (chunksFrom f base) e ∷ [])) (p + 12) i d (then-accept _ _ (then-accept _ _ (then-accept _ _ h .1) .1) .1) (le-of-suc-le-suc l)
 
-not-unknown : (u : ℕ) (k : Known) → usageOf u ≡ k → knownUsage u ≡ true → (x : Usage) × (usageOf u ≡ Is x)
+pub not-unknown : (u : ℕ) (k : Known) → usageOf u ≡ k → knownUsage u ≡ true → (x : Usage) × (usageOf u ≡ Is x)
 not-unknown u (Is x) e h = (x, e)
 not-unknown u Unknown e h = let n : knownUsage u ≡ false = known-not u e in let z : _≡_ {A = ℕ} 0 1 = cc in absurd (omega arith)
 
-given-as : (f : List ℕ) (i : ℕ) → plainVerdict f ≡ accept → i < length (indexOf f) → (x : Usage) → usageOf (getD (indexOf f) i noEntry .usage) ≡ Is x
+pub given-as : (f : List ℕ) (i : ℕ) → plainVerdict f ≡ accept → i < length (indexOf f) → (x : Usage) → usageOf (getD (indexOf f) i noEntry .usage) ≡ Is x
     → entryOf f i ≡ Given (record { usage = x; number = getD (indexOf f) i noEntry .number; start = getD (indexOf f) i noEntry .start })
 unfolding entryOf
 given-as f i h l x e = rw (h, lt-ltb i (length (indexOf f)) l, e)
-
-pub entry-given : (f : List ℕ) (i : ℕ) → plainVerdict f ≡ accept → i < length (indexOf f)
-    → (x : Usage) × (entryOf f i ≡ Given (record { usage = x; number = getD (indexOf f) i noEntry .number; start = getD (indexOf f) i noEntry .start }))
-unfolding entriesFrom earlier
-entry-given f i h l =
-    let g = good f h in
-    let es : entriesFault plainRules (place (rd32 (drop 20 f))) (chunksFrom f (place (rd32 (drop 20 f)))) [] 24 (indexOf f) ≡ accept = rw (g .index) (g .passed .judged .entries) in
-    let k = not-unknown (getD (indexOf f) i noEntry .usage) _ refl (known-at f (place (rd32 (drop 20 f))) (indexOf f) [] 24 i noEntry es l) in
-    (k .0, given-as f i h l (k .0) (k .1))

@@ -361,7 +361,7 @@ not-or true b e = let z : _≡_ {A = ℕ} 0 1 = cc in absurd (omega arith)
 not-or false true e = let z : _≡_ {A = ℕ} 0 1 = cc in absurd (omega arith)
 not-or false false e = (refl, refl)
 
-neither : (a b : Bool) → a || b ≡ false → (a ≡ false) × (b ≡ false)
+pub neither : (a b : Bool) → a || b ≡ false → (a ≡ false) × (b ≡ false)
 neither true b e = let z : _≡_ {A = ℕ} 0 1 = cc in absurd (omega arith)
 neither false b e = (refl, e)
 

@@ -210,7 +210,7 @@ or-true false = refl
 
 -- what the acceptance of entries tells of the first of them
 module _ (f : List ℕ) (base : ℕ) (w : walkFrom f base ≡ accept) where
-  first-entry : (e : Entry) (es : List Entry) (earlier : List Ref) (p : ℕ) → entriesFault plainRules base (chunksFrom f base) earlier p (e ∷ es) ≡ accept
+  pub first-entry : (e : Entry) (es : List Entry) (earlier : List Ref) (p : ℕ) → entriesFault plainRules base (chunksFrom f base) earlier p (e ∷ es) ≡ accept
       → (isStart (e .start) base (chunksFrom f base) ≡ true) × (pairIn (e .usage) (e .number) earlier ≡ false)
       × (entriesFault plainRules base (chunksFrom f base) (earlier ++ (refOf base (chunksFrom f base) e ∷ [])) (p + 12) es ≡ accept)
   unfolding entriesFault refFault refOf

@@ -110,12 +110,13 @@ module _ (at : ℕ) (cs : List Chunk) (x i : ℕ) (s : isStart x at cs ≡ true)
       let n : eqb j i ≡ false = ne-eqb j i (λ r. omega arith) in
       rw (n, same-place (e .start) x at cs (ok .0) s) (ap (λ (b : Bool). eqb (placeOf (e .start) at cs) (placeOf x at cs) || b) (others d (suc j) es (ok .1) (omega arith)))
 
+-- the starts of a passed file's entries
+pub starts : (f : List ℕ) (count : ℕ) → Passed f count → All (λ e. isStart (e .start) (place count) (chunksFrom f (place count)) ≡ true) (entriesIn count (drop 24 f))
+unfolding entriesFrom earlier
+starts f count g = starts-ok plainRules (place count) (chunksFrom f (place count)) [] 24 (entriesIn count (drop 24 f)) (g .judged .entries)
+
 -- entry i of a passed file
 module _ (f : List ℕ) (count i : ℕ) (g : Passed f count) (h : i < count) where
-  starts : All (λ e. isStart (e .start) (place count) (chunksFrom f (place count)) ≡ true) (entriesIn count (drop 24 f))
-  unfolding entriesFrom earlier
-  starts = starts-ok plainRules (place count) (chunksFrom f (place count)) [] 24 (entriesIn count (drop 24 f)) (g .judged .entries)
-
   abbrev nothing : Entry
   nothing = record { usage = 0; number = 0; start = 0 }
 
@@ -123,12 +124,12 @@ module _ (f : List ℕ) (count i : ℕ) (g : Passed f count) (h : i < count) whe
   unfolding entryIn
   start-of = ap (λ (e : Entry). e .start) (entry-getD f count i 24 nothing h) ∙ ap rd32 (drop-drop 8 (place i) f)
 
-  begins-there : isStart (startAt f (place i)) (place count) (chunksFrom f (place count)) ≡ true
+  pub begins-there : isStart (startAt f (place i)) (place count) (chunksFrom f (place count)) ≡ true
   begins-there =
       let l : i < length (entriesIn count (drop 24 f)) = rw (length-entriesIn count (drop 24 f)) h in
-      rw (← start-of) (all-getD (λ e. isStart (e .start) (place count) (chunksFrom f (place count)) ≡ true) (entriesIn count (drop 24 f)) i nothing starts l)
+      rw (← start-of) (all-getD (λ e. isStart (e .start) (place count) (chunksFrom f (place count)) ≡ true) (entriesIn count (drop 24 f)) i nothing (starts f count g) l)
 
-  entry-begun : Begun f (startAt f (place i)) (getD (chunksFrom f (place count)) (placeOf (startAt f (place i)) (place count) (chunksFrom f (place count))) noChunk)
+  pub entry-begun : Begun f (startAt f (place i)) (getD (chunksFrom f (place count)) (placeOf (startAt f (place i)) (place count) (chunksFrom f (place count))) noChunk)
   entry-begun = begun f (startAt f (place i)) (place count) (g .judged .walks) begins-there
 
   pub entry-room : (x : ℕ) → x ≡ startAt f (place i) → x + 8 ≤ length f
@@ -137,7 +138,7 @@ module _ (f : List ℕ) (count i : ℕ) (g : Passed f count) (h : i < count) whe
   ref-of : refAt (modelAt f count) i ≡ refOf (place count) (chunksFrom f (place count)) (getD (entriesIn count (drop 24 f)) i nothing)
   ref-of = getD-map-in (refOf (place count) (chunksFrom f (place count))) (entriesIn count (drop 24 f)) i nothing noRef (rw (length-entriesIn count (drop 24 f)) h)
 
-  chunk-of : refAt (modelAt f count) i .chunk ≡ placeOf (startAt f (place i)) (place count) (chunksFrom f (place count))
+  pub chunk-of : refAt (modelAt f count) i .chunk ≡ placeOf (startAt f (place i)) (place count) (chunksFrom f (place count))
   unfolding refOf
   chunk-of = ap (λ (r : Ref). r .chunk) ref-of ∙ ap (λ (x : ℕ). placeOf x (place count) (chunksFrom f (place count))) start-of
 
@@ -155,11 +156,11 @@ module _ (f : List ℕ) (count i : ℕ) (g : Passed f count) (h : i < count) whe
       let es : x ≡ start (modelAt f count) (refAt (modelAt f count) i .chunk) = rw (k, refs-count f count) (sym (startAt-placeOf x (place count) cs s .0)) in
       let ek : t ≡ getD cs (refAt (modelAt f count) i .chunk) noChunk .type = rw (k, c) et in
       let el : m ≡ length (getD cs (refAt (modelAt f count) i .chunk) noChunk .body) = rw (k, c, fine f x (rw ex (b .below)) (rw ex (b .walks)) .bodied) em in
-      let eg : again ≡ shared (modelAt f count) i = ea ∙ (rw k (others (place count) cs x i s i 0 (entriesIn count (drop 24 f)) starts (omega arith))) in
+      let eg : again ≡ shared (modelAt f count) i = ea ∙ (rw k (others (place count) cs x i s i 0 (entriesIn count (drop 24 f)) (starts f count g) (omega arith))) in
       λ j. record { place = i; start = es j; kind = ek j; length = el j; shared = eg j }
 
 -- the entry of a pair
-find-pair : (at : ℕ) (cs : List Chunk) (u n : ℕ) (es : List Entry) → find u n (map (refOf at cs) es) ≡ pairPlace u n es
+pub find-pair : (at : ℕ) (cs : List Chunk) (u n : ℕ) (es : List Entry) → find u n (map (refOf at cs) es) ≡ pairPlace u n es
 unfolding find pairPlace refOf
 find-pair at cs u n [] = refl
 find-pair at cs u n (e ∷ es) = ap (λ (k : ℕ). cond (eqb (e .usage) u && eqb (e .number) n) 0 (suc k)) (find-pair at cs u n es)

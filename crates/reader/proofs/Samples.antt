@@ -14,9 +14,16 @@ use Rattle.reader.specs.declared.Reading.the-variants.{Accepted, Refused
 use Rattle.reader.specs.declared.Asked.the-variants.{Given, Refused as Withheld}
 use Rattle.reader.specs.declared.Looked.the-variants.{Found, Refused as Missing}
 use Rattle.reader.specs.Reading.{readOf, indexOf, entryOf, lookupOf, hitIn, partOf}
+use mathlib.Core.Bool.{true, false}
+use Rattle.blorb.specs.Model.{model, modelOf, base, startAt}
+use Rattle.blorb.specs.Queries.{find, uses, without, shared, start, frontPlace}
+use Rattle.reader.specs.Inspecting.{inspectionOf, targetOf, frontOf}
+use Rattle.reader.specs.declared.Target.the-variants as target
+use Rattle.reader.specs.declared.Front.the-variants as front
+use Rattle.reader.specs.declared.Inspection.the-variants as inspection
 
 computed : ℕ
-unfolding readOf indexOf entryOf lookupOf hitIn usageOf refOf plainVerdict plain optional oneOf picture typeIn single chunkRule chunkRules headFault verdict _then_ check chunkFault walkFault secondIndex indexFault refFault entriesFault restFault layoutFault pairIn rd32 be32 chunksOf chunksIn chunkIn sized size total entriesOf entriesIn entryIn isStart placeOf fileBytes chunkBytes chunksBytes indexChunk entriesBytes entryBytes
+unfolding readOf indexOf entryOf lookupOf hitIn usageOf targetOf frontOf model modelOf base startAt find uses without shared start frontPlace refOf plainVerdict plain optional oneOf picture typeIn single chunkRule chunkRules headFault verdict _then_ check chunkFault walkFault secondIndex indexFault refFault entriesFault restFault layoutFault pairIn rd32 be32 chunksOf chunksIn chunkIn sized size total entriesOf entriesIn entryIn isStart placeOf fileBytes chunkBytes chunksBytes indexChunk entriesBytes entryBytes
 computed = 0
 
 text : Chunk
@@ -58,3 +65,22 @@ asked : (entryOf A 0 ≡ Given (record { usage = usage.the-variants.Data; number
     × (lookupOf B Pict 7 ≡ Missing 22 0) × (partOf (lookupOf A Data 7) A ≡ 101 ∷ (101 ∷ (108 ∷ [])))
 unfolding computed A B text rect index-a index-b
 asked = (refl, refl, refl, refl, refl)
+
+-- two entries on one picture, and a frontispiece
+jpeg : Chunk
+jpeg = record { type = tag 74 80 69 71; body = 1 ∷ (2 ∷ []) }
+
+index-c : Chunk
+index-c = indexChunk (record { usage = Pict; number = 1; start = 48 } ∷ (record { usage = Pict; number = 2; start = 48 } ∷ []))
+
+C : List ℕ
+C = fileBytes (index-c ∷ (jpeg ∷ (fspc ∷ [])))
+
+inspected : (inspectionOf (plainVerdict B) (model B) Pict 1 60
+    ≡ inspection.Whole (record { count = 2; target = target.At (record { place = 1; start = 60; kind = Rect; length = 8; shared = false }); front = front.Nothing; begins = true }))
+    × (inspectionOf (plainVerdict C) (model C) Pict 2 49
+    ≡ inspection.Whole (record { count = 2; target = target.At (record { place = 1; start = 48; kind = tag 74 80 69 71; length = 2; shared = true }); front = front.At 58 1; begins = false }))
+    × (inspectionOf (plainVerdict A) (model A) Pict 7 12 ≡ inspection.Whole (record { count = 1; target = target.Nothing; front = front.Nothing; begins = false }))
+    × (inspectionOf (plainVerdict (set A 47 1)) (model (set A 47 1)) Pict 7 36 ≡ inspection.Refused 7 47)
+unfolding computed A B C text rect fspc jpeg index-a index-b index-c
+inspected = (refl, refl, refl, refl)
