@@ -1,30 +1,30 @@
 -- The parts of an inspection: from the offsets of a file that the reader has passed to its model.
 use mathlib.Core.Path.{_≡_, refl, sym, ap, _∙_}
-use Prim.Native.Nat.{ℕ, zero, suc, _+_, _*_, _-_, _%_, _≤_, _<_}
-use mathlib.Core.List.{List, [], _∷_, _++_, map}
+use Prim.Native.Nat.{ℕ, zero, suc, _+_, _-_, _≤_, _<_}
+use mathlib.Core.List.{List, [], _∷_, map}
 use mathlib.Core.Bool.{Bool, true, false, cond, _&&_, _||_, not}
 use native.Mathlib.Omega.{arith}
 use native.Mathlib.Numerals.{add-one}
 use native.Mathlib.Nat.{not-suc-le-zero, le-of-suc-le-suc}
-use lib.ListN.{length, getD, take, drop, length-map}
+use lib.ListN.{length, getD, drop, length-map}
 use lib.Seq.{drop-drop}
 use lib.Dec.{eqb, ltb}
 use borrow.Author.Tests.{eq-eqb, ne-eqb, eqb-true, eqb-false, lt-ltb, le-ltb}
 use Rattle.blorb.specs.Bytes.{rd32}
 use Rattle.blorb.specs.Format.{Chunk, Entry, Ref, refOf, size, chunkIn, entryIn, entriesIn, isStart, placeOf}
-use Rattle.blorb.specs.Verdict.{Verdict, accept, refuse, _then_, check, noChunk, entriesFault}
+use Rattle.blorb.specs.Verdict.{accept, refuse, _then_, noChunk}
 use Rattle.blorb.specs.Rules.{plainRules, plainVerdict, typeIn, RelN, Fspc}
-use Rattle.blorb.specs.Model.{Model, base, model}
+use Rattle.blorb.specs.Model.{base, model}
 use Rattle.blorb.specs.Model.{startAt as chunkStart}
-use Rattle.blorb.specs.Queries.{find, uses, without, noRef, refAt, shared, start, frontPlace, frontNumber}
+use Rattle.blorb.specs.Queries.{find, uses, without, noRef, refAt, shared, start, frontPlace}
 use Rattle.blorb.proofs.All.{All, all-getD}
 use Rattle.blorb.proofs.Places.{startAt-zero, startAt-suc, startAt-placeOf}
 use Rattle.blorb.proofs.Accept.{starts-ok}
 use Rattle.blorb.proofs.Checks.{then-accept, check-accept, and-both}
-use Rattle.reader.specs.Walk.{chunkAt, nextAt, skipAt, chunksFrom, walkFrom}
+use Rattle.reader.specs.Walk.{chunkAt, skipAt, chunksFrom, walkFrom}
 use Rattle.reader.specs.Plain.{ordinaryType, allPlain}
 use Rattle.reader.specs.Entries.{startAt, place, entriesFrom, earlier, pairPlace, startAgain}
-use Rattle.reader.specs.Optional.{oneRule, rulesFrom, optionalFault, Judged}
+use Rattle.reader.specs.Optional.{oneRule, rulesFrom, optionalFault}
 use Rattle.reader.specs.Passed.{Judges, Passed, modelAt, Fronts, pickFront, frontFrom}
 use Rattle.reader.specs.Inspecting.{pieceOf, targetBy, targetOf, frontBy, frontOf, factsOf, inspectionOf}
 use Rattle.reader.specs.declared.Piece.{Piece}
@@ -39,7 +39,7 @@ use Rattle.reader.specs.declared.Judgement.the-variants as judgement
 use Rattle.reader.specs.declared.Reading.the-variants.{Accepted, Refused}
 use Rattle.reader.specs.Reading.{readOf}
 use Rattle.reader.proofs.AskLaws.{Good}
-use Rattle.reader.proofs.ChunkLaws.{fine, Fine, begun, Begun, chunks-end, start-ge, ordinary-not}
+use Rattle.reader.proofs.ChunkLaws.{fine, begun, Begun, chunks-end, start-ge, ordinary-not}
 use Rattle.reader.proofs.Laws.{length-entriesIn, entry-getD, body-word}
 
 -- an element of a list and of its image

@@ -1,6 +1,6 @@
 -- What the reader promises to whoever stands above it: laws over the definitions and the public contracts.
 use mathlib.Core.Path.{_≡_, refl, sym, ap, _∙_}
-use Prim.Native.Nat.{ℕ, _+_, _*_, _≤_, _<_}
+use Prim.Native.Nat.{ℕ, _+_, _≤_, _<_}
 use mathlib.Core.List.{List, [], map}
 use mathlib.Core.Bool.{false}
 use native.Mathlib.Omega.{arith}
@@ -33,7 +33,7 @@ use Rattle.reader.proofs.Laws.{hit-start}
 use Rattle.reader.proofs.ReadLaws.{refused}
 use Rattle.reader.proofs.AskLaws.{good, read-go, refused-as, known-at, not-unknown, given-as}
 use Rattle.reader.proofs.PartLaws.{refs-count, starts}
-use Rattle.reader.proofs.LookLaws.{body-at, There, Absent, either, only-hit}
+use Rattle.reader.proofs.LookLaws.{body-at, either, only-hit}
 
 -- the reading of an accepted file: its length and the number of its model's entries; both within the limits
 pub accepted-is : (f : List ℕ) (l n : ℕ) → readOf f ≡ Accepted l n

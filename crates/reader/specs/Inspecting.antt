@@ -20,9 +20,13 @@ use Rattle.reader.specs.declared.Inspection.the-variants.{Whole, Refused
 
 -- entry i and its chunk
 abbrev pub pieceOf : Model → ℕ → Piece
-pieceOf m i = record
-  { place = i; start = start m (refAt m i .chunk); kind = chunkAt m (refAt m i .chunk) .type; length = length (chunkAt m (refAt m i .chunk) .body)
-  ; shared = shared m i }
+pieceOf m i = record {
+  place = i;
+  start = start m (refAt m i .chunk);
+  kind = chunkAt m (refAt m i .chunk) .type;
+  length = length (chunkAt m (refAt m i .chunk) .body);
+  shared = shared m i;
+}
 
 abbrev pub targetBy : Bool → Model → ℕ → Target
 targetBy true m i = target.At (pieceOf m i)
@@ -43,7 +47,7 @@ frontOf m = frontBy (typeIn Fspc (m .chunks)) m
 -- of a model: its count, the entry (u, n), the frontispiece, and whether a chunk behind the index begins at x
 abbrev pub factsOf : Model → ℕ → ℕ → ℕ → Facts
 factsOf m u n x = record
-  { count = length (m .refs); target = targetOf m u n; front = frontOf m; begins = isStart x (base (length (m .refs))) (m .chunks) }
+    { count = length (m .refs); target = targetOf m u n; front = frontOf m; begins = isStart x (base (length (m .refs))) (m .chunks) }
 
 abbrev pub inspectionOf : Verdict → Model → ℕ → ℕ → ℕ → Inspection
 inspectionOf accept m u n x = Whole (factsOf m u n x)

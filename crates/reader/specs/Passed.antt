@@ -34,9 +34,10 @@ pub record Passed (f : List ℕ) (count : ℕ) : Type 0 where
 
 -- the model of such a file
 abbrev pub modelAt : List ℕ → ℕ → Model
-modelAt f count = record
-  { refs = map (refOf (place count) (chunksFrom f (place count))) (entriesIn count (drop 24 f))
-  ; chunks = chunksFrom f (place count) }
+modelAt f count = record {
+  refs = map (refOf (place count) (chunksFrom f (place count))) (entriesIn count (drop 24 f));
+  chunks = chunksFrom f (place count);
+}
 
 -- each frontispiece holds one number
 abbrev pub Fronts : List Chunk → Type 0

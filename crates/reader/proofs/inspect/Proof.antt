@@ -1,5 +1,3 @@
-use native.Mathlib.Omega.{arith}
-use mathlib.Core.Path.{_≡_, refl, sym, ap, _∙_}
 use Rattle.reader.proofs.AskLaws.{accepted, refused-as}
 use Rattle.reader.proofs.PartLaws.{judged-good, judged-no, inspected-no, inspected}
 use borrow.Author.Needs.{needs}
@@ -24,7 +22,7 @@ enum-known-count c = search needs
 
 -- src/lib.rt:221:63
 facts-requires : tie.Need-facts-requires
-facts-requires c κs = 
+facts-requires c κs =
     let j = judged-good _ _ _ _ (c .before .before .before .judge-file .ensures) (c .before .count .given .1) in
     (accepted _ _ _ (j .0) .passed, j .1)
 

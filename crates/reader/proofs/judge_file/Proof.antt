@@ -1,11 +1,11 @@
 use denote.Ref.{now}
 use native.Mathlib.Omega.{arith}
-use mathlib.Core.Path.{_≡_, refl, sym, ap, _∙_}
+use mathlib.Core.Path.{sym, ap, _∙_}
 use Prim.Native.Nat.{ℕ}
 use Rattle.reader.specs.Plain.{allPlain}
 use Rattle.reader.specs.Walk.{verdictOf, chunksFrom}
 use Rattle.reader.proofs.ChunkLaws.{fine, walked}
-use Rattle.reader.proofs.Laws.{Shaped, shaped}
+use Rattle.reader.proofs.Laws.{shaped}
 use Rattle.reader.proofs.ReadLaws.{first-long, is-shaped, is-judged, plain-behind, read-1, read-2, read-3, read-4, read-5, read-6, read-7, read-8}
 use borrow.Author.Needs.{needs}
 use Rattle.reader.proofs.judge_file.Statement.{statement}

@@ -1,5 +1,4 @@
 use denote.Ref.{now}
-use native.Mathlib.Omega.{arith}
 use Rattle.reader.proofs.Laws.{find-at, find-none}
 use borrow.Author.Needs.{needs}
 use Rattle.reader.proofs.entries.find.Statement.{statement}

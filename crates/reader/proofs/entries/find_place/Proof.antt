@@ -1,7 +1,7 @@
 use borrow.Author.Needs.{needs}
 use native.Mathlib.Omega.{arith}
-use mathlib.Core.Path.{_≡_, refl, sym, ap, _∙_}
-use Prim.Native.Nat.{ℕ, _+_, _-_, _≤_, _<_}
+use mathlib.Core.Path.{_≡_, sym, ap, _∙_}
+use Prim.Native.Nat.{ℕ, _+_, _-_, _≤_}
 use lib.ListN.{drop}
 use denote.Ref.{now}
 use Rattle.blorb.specs.Format.{entriesIn}
@@ -21,7 +21,7 @@ abbrev μ-loop : tie.MeasureT-loop
 
 -- src/entries.rt:64:5
 loop-holds : tie.Need-loop-holds Inv-loop μ-loop
-loop-holds c = 
+loop-holds c =
     let a = c .before .args in
     let z : a .count - 0 ≡ a .count = omega arith in
     (search needs, ap (λ (k : ℕ). 0 + pairPlace (a .code) (a .number) (entriesIn k (drop 24 (now (a .s))))) z ∙ omega arith)
@@ -64,7 +64,7 @@ loop-again c = (omega arith, place-next _ _ _ _ _ _ _ (c .before .before .before
 
 -- src/entries.rt:59:1
 returns-2 : tie.Need-returns-2 Inv-loop μ-loop
-returns-2 c = 
+returns-2 c =
     let a = c .before .before .before .args in
     let l = c .before .loop in
     let z : a .count - l .i ≡ 0 = omega arith in

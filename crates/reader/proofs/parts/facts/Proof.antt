@@ -1,4 +1,3 @@
-use native.Mathlib.Omega.{arith}
 use Rattle.reader.proofs.PartLaws.{facts-are}
 use borrow.Author.Needs.{needs}
 use Rattle.reader.proofs.parts.facts.Statement.{statement}

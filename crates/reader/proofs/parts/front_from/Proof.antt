@@ -1,7 +1,7 @@
 use borrow.Author.Needs.{needs}
 use native.Mathlib.Omega.{arith}
 use Prim.Native.Nat.{_-_}
-use mathlib.Core.Path.{_≡_, refl, sym, ap, _∙_}
+use mathlib.Core.Path.{_≡_, refl, _∙_}
 use lib.ListN.{length}
 use Rattle.blorb.specs.Verdict.{accept}
 use Rattle.reader.specs.Walk.{walkFrom, chunksFrom}
@@ -59,7 +59,7 @@ loop-less c = omega (arith, c .skip .ensures)
 
 -- src/parts.rt:70:5
 loop-again : tie.Need-loop-again Inv-loop μ-loop
-loop-again c = 
+loop-again c =
     let l = c .before .before .before .before .loop in
     let n = front-next _ _ (c .before .before .before .loop-test .taken) (l .inv .0) (l .inv .1) _ (c .before .before .be32-at .ensures .0) (c .before .if1 .left) in
     rw (c .skip .ensures) (walked _ _ (c .before .before .before .loop-test .taken) (l .inv .0), n .0, n .1 ∙ l .inv .2)

@@ -1,5 +1,4 @@
-use native.Mathlib.Omega.{arith}
-use mathlib.Core.Path.{_≡_, refl, sym, ap, _∙_}
+use mathlib.Core.Path.{_∙_}
 use Rattle.reader.proofs.PartLaws.{front-is, front-plain, passed-fronts}
 use borrow.Author.Needs.{needs}
 use Rattle.reader.proofs.parts.front_if.Statement.{statement}

@@ -1,5 +1,4 @@
 use native.Mathlib.Omega.{arith}
-use Rattle.reader.proofs.ChunkLaws.{fine}
 use Rattle.reader.proofs.PartLaws.{entry-room, piece-is}
 use borrow.Author.Needs.{needs}
 use Rattle.reader.proofs.parts.piece.Statement.{statement}

@@ -1,7 +1,7 @@
 use borrow.Author.Needs.{needs}
 use native.Mathlib.Omega.{arith}
-use mathlib.Core.Path.{_≡_, refl, sym, ap, _∙_}
-use Prim.Native.Nat.{ℕ, _+_, _-_, _≤_, _<_}
+use mathlib.Core.Path.{_≡_, sym, ap, _∙_}
+use Prim.Native.Nat.{ℕ, _-_, _≤_}
 use lib.ListN.{drop}
 use denote.Ref.{now}
 use Rattle.blorb.specs.Format.{entriesIn}
@@ -21,7 +21,7 @@ abbrev μ-loop : tie.MeasureT-loop
 
 -- src/parts.rt:27:5
 loop-holds : tie.Need-loop-holds Inv-loop μ-loop
-loop-holds c = 
+loop-holds c =
     let a = c .before .args in
     let z : a .count - 0 ≡ a .count = omega arith in
     (search needs, ap (λ (k : ℕ). startAgain (a .start) (a .i) 0 (entriesIn k (drop 24 (now (a .s))))) z)
@@ -60,7 +60,7 @@ loop-again c = (omega arith, again-next _ _ _ _ _ _ (c .before .before .loop-tes
 
 -- src/parts.rt:22:1
 returns-2 : tie.Need-returns-2 Inv-loop μ-loop
-returns-2 c = 
+returns-2 c =
     let a = c .before .before .before .args in
     let l = c .before .loop in
     let z : a .count - l .j ≡ 0 = omega arith in
