@@ -158,7 +158,7 @@ index-back c ok ty fault =
 
 -- the entries' starts
 module _ (R : Rules) where
-  starts-ok : (at : ℕ) (cs : List Chunk) (earlier : List Ref) (p : ℕ) (es : List Entry) → entriesFault R at cs earlier p es ≡ accept → All (λ e. isStart (e .start) at cs ≡ true) es
+  pub starts-ok : (at : ℕ) (cs : List Chunk) (earlier : List Ref) (p : ℕ) (es : List Entry) → entriesFault R at cs earlier p es ≡ accept → All (λ e. isStart (e .start) at cs ≡ true) es
   unfolding entriesFault
   starts-ok at cs earlier p [] h = tt
   starts-ok at cs earlier p (e ∷ es) h =

@@ -310,7 +310,7 @@ begun f x at w =
         let q : x ≡ a = eqb-true x a t in record { chunk = rw q refl; below = omega arith; walks = rw q v }
     by-test a h v cs false t ih e = ih e
 
-start-ge : (g at : ℕ) (cs : List Chunk) → isStart g at cs ≡ true → at ≤ g
+pub start-ge : (g at : ℕ) (cs : List Chunk) → isStart g at cs ≡ true → at ≤ g
 unfolding isStart
 start-ge g at [] e = let z : _≡_ {A = ℕ} 0 1 = cc in absurd (omega arith)
 start-ge g at (c ∷ cs) e = go (eqb g at) refl e (start-ge g (at + size c) cs)
@@ -362,7 +362,7 @@ not-or true b e = let z : _≡_ {A = ℕ} 0 1 = cc in absurd (omega arith)
 not-or false true e = let z : _≡_ {A = ℕ} 0 1 = cc in absurd (omega arith)
 not-or false false e = (refl, refl)
 
-neither : (a b : Bool) → a || b ≡ false → (a ≡ false) × (b ≡ false)
+pub neither : (a b : Bool) → a || b ≡ false → (a ≡ false) × (b ≡ false)
 neither true b e = let z : _≡_ {A = ℕ} 0 1 = cc in absurd (omega arith)
 neither false b e = (refl, e)
 

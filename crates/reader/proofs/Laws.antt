@@ -23,7 +23,7 @@ use Rattle.reader.proofs.ChunkLaws.{ordinary-not, fine, Fine, begun, Be
 use Rattle.blorb.proofs.Checks.{pass, stop, holds-last, fails-last, accepts, refuses, then-accept, check-accept, and-both}
 use Rattle.blorb.proofs.Checks.{then-assoc}
 use Rattle.blorb.specs.Usages.{codeOf, usageOf}
-use Rattle.reader.specs.Entries.{usageAt, numberAt, startAt, place, entryFault, earlier, entriesFrom}
+use Rattle.reader.specs.Entries.{usageAt, numberAt, startAt, place, entryFault, earlier, entriesFrom, pairPlace}
 use Rattle.blorb.proofs.UsageLaws.{rd32-take, or-assoc}
 use Rattle.blorb.proofs.UsageLaws.{or-false}
 use Rattle.reader.proofs.EntryLaws.{pair-snoc}
@@ -136,37 +136,75 @@ module _ (f : List ℕ) (h : 12 < length f) (w : walkFrom f 12 ≡ accept) where
         chunks = rw (← b) (i .chunks);
       }
 
--- the lookup's loop
+-- the loop that looks for a pair
 module _ (f : List ℕ) (u n : ℕ) where
-  hit-on : (k i : ℕ) → hitIn u n (entriesIn (suc k) (drop (place i) f))
-      ≡ pickHit (eqb (usageAt f (place i)) u && eqb (numberAt f (place i)) n) (startAt f (place i)) (hitIn u n (entriesIn k (drop (place (suc i)) f)))
-  unfolding hitIn entriesIn entryIn
-  hit-on k i =
+  pair-on : (k i : ℕ) → pairPlace u n (entriesIn (suc k) (drop (place i) f))
+      ≡ cond (eqb (usageAt f (place i)) u && eqb (numberAt f (place i)) n) 0 (suc (pairPlace u n (entriesIn k (drop (place (suc i)) f))))
+  unfolding pairPlace entriesIn entryIn
+  pair-on k i =
       let q : place i + 12 ≡ place (suc i) = omega arith in
-      rw (drop-drop 4 (place i) f, drop-drop 8 (place i) f, drop-drop 12 (place i) f, q)
+      rw (drop-drop 4 (place i) f, drop-drop 12 (place i) f, q)
 
-  module _ (count i : ℕ) (h : i < count) where
-    left : count - i ≡ suc (count - (i + 1))
-    left = omega arith
-
-    pub hit-here : eqb (usageAt f (place i)) u && eqb (numberAt f (place i)) n ≡ true → At (startAt f (place i)) ≡ hitIn u n (entriesIn (count - i) (drop (place i) f))
-    hit-here e = rw left (sym (hit-on (count - (i + 1)) i ∙ rw e))
-
-    pub hit-next : eqb (usageAt f (place i)) u && eqb (numberAt f (place i)) n ≡ false
-        → hitIn u n (entriesIn (count - (i + 1)) (drop (place (i + 1)) f)) ≡ hitIn u n (entriesIn (count - i) (drop (place i) f))
-    hit-next e = ap (λ (k : ℕ). hitIn u n (entriesIn (count - (i + 1)) (drop (place k) f))) (add-one i) ∙ sym (ap (λ (k : ℕ). hitIn u n (entriesIn k (drop (place i) f))) left ∙ hit-on (count - (i + 1)) i ∙ rw e)
-
-  pub hit-end : (i : ℕ) → hitIn u n (entriesIn 0 (drop (place i) f)) ≡ Nothing
-  unfolding hitIn entriesIn
-  hit-end i = refl
+  pub place-end : (i : ℕ) → i + pairPlace u n (entriesIn 0 (drop (place i) f)) ≡ i
+  unfolding pairPlace entriesIn
+  place-end i = omega arith
 
 -- by the numbers that the code has read
-module _ (f : List ℕ) (u n count i a b x : ℕ) (h : i < count) (ea : a ≡ usageAt f (place i)) (eb : b ≡ numberAt f (place i)) where
-  pub by-hit : x ≡ startAt f (place i) → eqb a u && eqb b n ≡ true → At x ≡ hitIn u n (entriesIn (count - i) (drop (place i) f))
-  by-hit ex e = ap At ex ∙ hit-here f u n count i h (rw (ea, eb) at e)
+module _ (f : List ℕ) (u n count i a b : ℕ) (h : i < count) (ea : a ≡ usageAt f (place i)) (eb : b ≡ numberAt f (place i)) where
+  place-on : pairPlace u n (entriesIn (count - i) (drop (place i) f)) ≡ cond (eqb a u && eqb b n) 0 (suc (pairPlace u n (entriesIn (count - (i + 1)) (drop (place (i + 1)) f))))
+  place-on =
+      let left : count - i ≡ suc (count - (i + 1)) = omega arith in
+      let more : suc i ≡ i + 1 = sym (add-one i) in
+      ap (λ (k : ℕ). pairPlace u n (entriesIn k (drop (place i) f))) left ∙ pair-on f u n (count - (i + 1)) i
+      ∙ ap (λ (k : ℕ). cond (eqb (usageAt f (place i)) u && eqb (numberAt f (place i)) n) 0 (suc (pairPlace u n (entriesIn (count - (i + 1)) (drop (place k) f))))) more
+      ∙ rw (ea, eb) refl
 
-  pub by-next : eqb a u && eqb b n ≡ false → hitIn u n (entriesIn (count - (i + 1)) (drop (place (i + 1)) f)) ≡ hitIn u n (entriesIn (count - i) (drop (place i) f))
-  by-next e = hit-next f u n count i h (rw (ea, eb) at e)
+  pub place-hit : eqb a u && eqb b n ≡ true → i ≡ i + pairPlace u n (entriesIn (count - i) (drop (place i) f))
+  place-hit e = rw (place-on, e) (omega arith)
+
+  pub place-next : eqb a u && eqb b n ≡ false → i + 1 + pairPlace u n (entriesIn (count - (i + 1)) (drop (place (i + 1)) f)) ≡ i + pairPlace u n (entriesIn (count - i) (drop (place i) f))
+  place-next e = rw (place-on, e) (omega arith)
+
+-- entry i of the list
+pub entry-getD : (f : List ℕ) (n i p : ℕ) (d : Entry) → i < n → getD (entriesIn n (drop p f)) i d ≡ entryIn (drop (p + 12 * i) f)
+unfolding entriesIn
+entry-getD f zero i p d h = absurd (not-suc-le-zero h)
+entry-getD f (suc n) zero p d h = let q : p ≡ p + 12 * 0 = omega arith in ap (λ (k : ℕ). entryIn (drop k f)) q
+entry-getD f (suc n) (suc i) p d h =
+    let q : p + 12 + 12 * i ≡ p + 12 * suc i = omega arith in
+    ap (λ (s : List ℕ). getD (entriesIn n s) i d) (drop-drop 12 p f) ∙ entry-getD f n i (p + 12) d (le-of-suc-le-suc h) ∙ ap (λ (k : ℕ). entryIn (drop k f)) q
+
+-- the start of the entry at the place found
+place-start : (u n : ℕ) (es : List Entry) (d : Entry) → pairPlace u n es < length es → hitIn u n es ≡ At (getD es (pairPlace u n es) d .start)
+unfolding pairPlace hitIn
+place-start u n [] d h = absurd (not-suc-le-zero h)
+place-start u n (e ∷ es) d h = go (eqb (e .usage) u && eqb (e .number) n) h (place-start u n es d)
+  where
+    go : (b : Bool) → cond b 0 (suc (pairPlace u n es)) < suc (length es) → (pairPlace u n es < length es → hitIn u n es ≡ At (getD es (pairPlace u n es) d .start))
+        → pickHit b (e .start) (hitIn u n es) ≡ At (getD (e ∷ es) (cond b 0 (suc (pairPlace u n es))) d .start)
+    go true h ih = refl
+    go false h ih = ih (le-of-suc-le-suc h)
+
+place-none : (u n : ℕ) (es : List Entry) → length es ≤ pairPlace u n es → hitIn u n es ≡ Nothing
+unfolding pairPlace hitIn
+place-none u n [] h = refl
+place-none u n (e ∷ es) h = go (eqb (e .usage) u && eqb (e .number) n) h (place-none u n es)
+  where
+    go : (b : Bool) → suc (length es) ≤ cond b 0 (suc (pairPlace u n es)) → (length es ≤ pairPlace u n es → hitIn u n es ≡ Nothing) → pickHit b (e .start) (hitIn u n es) ≡ Nothing
+    go true h ih = absurd (not-suc-le-zero h)
+    go false h ih = ih (le-of-suc-le-suc h)
+
+module _ (f : List ℕ) (u n count i : ℕ) (e : i ≡ pairPlace u n (entriesIn count (drop 24 f))) where
+  pub find-at : i < count → (x : ℕ) → x ≡ startAt f (place i) → At x ≡ hitIn u n (entriesIn count (drop 24 f))
+  unfolding entryIn
+  find-at h x ex =
+      let d : Entry = record { usage = 0; number = 0; start = 0 } in
+      let l : pairPlace u n (entriesIn count (drop 24 f)) < length (entriesIn count (drop 24 f)) = rw (length-entriesIn count (drop 24 f)) (omega arith) in
+      let g : getD (entriesIn count (drop 24 f)) i d .start ≡ x = ap (λ (y : Entry). y .start) (entry-getD f count i 24 d h) ∙ ap rd32 (drop-drop 8 (place i) f) ∙ sym ex in
+      sym (place-start u n (entriesIn count (drop 24 f)) d l ∙ ap (λ (k : ℕ). At (getD (entriesIn count (drop 24 f)) k d .start)) (sym e) ∙ ap At g)
+
+  pub find-none : count ≤ i → Nothing ≡ hitIn u n (entriesIn count (drop 24 f))
+  find-none h = sym (place-none u n (entriesIn count (drop 24 f)) (rw (length-entriesIn count (drop 24 f)) (omega arith)))
 
 or-true : (b : Bool) → b || true ≡ true
 or-true true = refl
@@ -174,7 +212,7 @@ or-true false = refl
 
 -- what the acceptance of entries tells of the first of them
 module _ (f : List ℕ) (base : ℕ) (w : walkFrom f base ≡ accept) where
-  first-entry : (e : Entry) (es : List Entry) (earlier : List Ref) (p : ℕ) → entriesFault plainRules base (chunksFrom f base) earlier p (e ∷ es) ≡ accept
+  pub first-entry : (e : Entry) (es : List Entry) (earlier : List Ref) (p : ℕ) → entriesFault plainRules base (chunksFrom f base) earlier p (e ∷ es) ≡ accept
       → (isStart (e .start) base (chunksFrom f base) ≡ true) × (pairIn (e .usage) (e .number) earlier ≡ false)
       × (entriesFault plainRules base (chunksFrom f base) (earlier ++ (refOf base (chunksFrom f base) e ∷ [])) (p + 12) es ≡ accept)
   unfolding entriesFault refFault refOf

@@ -21,7 +21,10 @@ use Rattle.reader.specs.Entries.{place, entriesFrom, earlier}
 use Rattle.reader.specs.declared.Reading.{Reading}
 use Rattle.reader.specs.declared.Reading.the-variants.{Accepted, Refused}
 use Rattle.reader.specs.Reading.{indexOf, readBy, readOf}
+use Rattle.blorb.specs.Model.{base, model, modelOf}
+use Rattle.reader.specs.Plain.{allPlain}
 use Rattle.reader.specs.Optional.{optionalFault, Judged}
+use Rattle.reader.specs.Passed.{modelAt}
 use Rattle.reader.proofs.Laws.{Shaped, shaped, length-entriesIn, optional-is}
 
 module _ (f : List ℕ) where
@@ -101,6 +104,9 @@ module _ (f : List ℕ) where
                 let es : entriesOf (chunkAt f 12) ≡ entriesIn count (drop 24 f) = is-shaped .index in
                 rw (eb2, es) at (v3 ∙ accepts _ _ h4 ∙ accepts _ _ h5)
 
+            pub plain-behind : (plain : Bool) → (plain ≡ true → allPlain (chunksFrom f (skipAt f 12)) ≡ true) → plain ≡ true → allPlain (chunksFrom f (place count)) ≡ true
+            plain-behind plain p e = ap (λ (x : ℕ). allPlain (chunksFrom f x)) (sym (is-shaped .base) ∙ sym en ∙ eb) ∙ p e
+
             pub read-6 : (k p : ℕ) → entriesFrom f (place count) 0 count ≡ refuse k p → Refused k p ≡ readOf f
             read-6 k p e = refused k p (v5 ∙ refuses _ _ _ _ e)
 
@@ -117,6 +123,10 @@ module _ (f : List ℕ) where
               pub index-of : indexOf f ≡ entriesIn count (drop 24 f)
               unfolding indexOf
               index-of = rw (chunks-is, is-shaped .chunks) (is-shaped .index)
+
+              pub model-of : model f ≡ modelAt f count
+              unfolding model modelOf base
+              model-of = rw (chunks-is, is-shaped .chunks, is-shaped .index, length-entriesIn count (drop 24 f))
 
               pub read-8 : optionalFault f count ≡ accept → Accepted (length f) count ≡ readOf f
               unfolding readOf

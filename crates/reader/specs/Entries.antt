@@ -2,13 +2,13 @@
 use Prim.Native.Nat.{ℕ, zero, suc, _+_, _*_, _-_, _/_, _%_, _≤_, _<_}
 use mathlib.Core.Path.{_≡_}
 use mathlib.Core.List.{List, [], _∷_, _++_}
-use mathlib.Core.Bool.{Bool, true, false, _&&_, _||_, not}
+use mathlib.Core.Bool.{Bool, true, false, _&&_, _||_, not, cond}
 use lib.ListN.{length, getD, drop}
 use lib.Dec.{eqb, leb, ltb}
 use Rattle.blorb.specs.Bytes.{rd32}
 use Rattle.blorb.specs.Usages.{codeOf}
 use Rattle.blorb.specs.Tags.{tag}
-use Rattle.blorb.specs.Format.{Chunk, Ref, refOf, entryIn, entriesIn, isStart}
+use Rattle.blorb.specs.Format.{Chunk, Entry, Ref, refOf, entryIn, entriesIn, isStart}
 use Rattle.blorb.specs.Verdict.{Verdict, accept, refuse, _then_, check, knownUsage, entriesFault}
 use Rattle.blorb.specs.Rules.{plain, plainRules}
 use Rattle.reader.specs.Walk.{chunkAt, chunksFrom}
@@ -73,3 +73,13 @@ slotOf u = u / 16777216 % 8
 
 abbrev pub Below : List ℕ → List ℕ → ℕ → Type 0
 Below f tops j = (i : ℕ) → i < j → numberAt f (place i) < getD tops (slotOf (usageAt f (place i))) 0
+
+-- the place of the first entry with this usage and number; their number where there is none
+unfoldable pub pairPlace : ℕ → ℕ → List Entry → ℕ
+pairPlace u n [] = 0
+pairPlace u n (e ∷ es) = cond (eqb (e .usage) u && eqb (e .number) n) 0 (suc (pairPlace u n es))
+
+-- an entry other than entry i has the start x; the entries stand from place j on
+unfoldable pub startAgain : ℕ → ℕ → ℕ → List Entry → Bool
+startAgain x i j [] = false
+startAgain x i j (e ∷ es) = (not (eqb j i) && eqb (e .start) x) || startAgain x i (suc j) es

@@ -3,3 +3,5 @@ pub mod Plain
 pub mod Entries
 pub mod Optional
 pub mod Reading
+pub mod Passed
+pub mod Inspecting

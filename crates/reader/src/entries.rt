@@ -13,7 +13,7 @@ ghost use Rattle.blorb.specs.Format.{isStart, entriesIn};
 ghost use Rattle.blorb.specs.Usages.{codeOf};
 ghost use Rattle.blorb.specs.declared.Usage.the-variants.{Exec};
 ghost use Rattle.reader.specs.Walk.{chunkAt, chunksFrom, walkFrom, verdictOf, Reached};
-ghost use Rattle.reader.specs.Entries.{startAt, place, typedAt, entryFault, judgedBy, samePair, earlier, usageAt, numberAt, Topped, slotOf, entriesFrom};
+ghost use Rattle.reader.specs.Entries.{startAt, place, typedAt, entryFault, judgedBy, samePair, earlier, usageAt, numberAt, Topped, slotOf, entriesFrom, pairPlace};
 ghost use Rattle.reader.specs.Reading.{hitIn};
 
 // An entry's judgement: its start, where a chunk begins, or its fault.
@@ -55,18 +55,30 @@ pub(crate) fn shape(s: &[u8]) -> Check
     Check::Good
 }
 
-// Where the chunk of the entry (code, number) begins, among `count` entries.
-pub(crate) fn find(s: &[u8], count: usize, code: u64, number: u64) -> Hit
+// The place of the entry (code, number) among `count` entries: `count` where there is none.
+pub(crate) fn find_place(s: &[u8], count: usize, code: u64, number: u64) -> usize
     requires { ⌜ (count ≤ 4096) × (place count ≤ length (now s)) ⌝ }
-    ensures { λ r. ⌜ r ≡ hitIn code number (entriesIn count (drop 24 (now (s .entry)))) ⌝ }
+    ensures { λ r. ⌜ (r ≡ pairPlace code number (entriesIn count (drop 24 (now (s .entry))))) × (r ≤ count) ⌝ }
 {
     let mut i: usize = 0;
     while i < count {
         let p = 24 + 12 * i;
         if (blorb::be32_at(s, p) == code) & (blorb::be32_at(s, p + 4) == number) {
-            return Hit::At(blorb::be32_at(s, p + 8) as usize);
+            return i;
         }
         i += 1;
+    }
+    count
+}
+
+// Where its chunk begins.
+pub(crate) fn find(s: &[u8], count: usize, code: u64, number: u64) -> Hit
+    requires { ⌜ (count ≤ 4096) × (place count ≤ length (now s)) ⌝ }
+    ensures { λ r. ⌜ r ≡ hitIn code number (entriesIn count (drop 24 (now (s .entry)))) ⌝ }
+{
+    let i = find_place(s, count, code, number);
+    if i < count {
+        return Hit::At(blorb::be32_at(s, 24 + 12 * i + 8) as usize);
     }
     Hit::Nothing
 }

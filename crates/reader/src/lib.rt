@@ -8,10 +8,15 @@ use entries::Hit;
 mod chunks;
 mod entries;
 mod optional;
+mod parts;
 
 ghost use mathlib.Core.Path.{_≡_};
 ghost use Rattle.blorb.specs.Bytes.{rd32};
+ghost use Rattle.blorb.specs.Rules.{plainVerdict};
+ghost use Rattle.blorb.specs.Model.{model};
 ghost use Rattle.reader.specs.Reading.{readOf, entryOf, lookupOf, partOf};
+ghost use Rattle.reader.specs.Inspecting.{inspectionOf};
+ghost use Rattle.reader.specs.Passed.{Judges};
 
 pub enum Reading {
     Accepted { length: usize, count: usize },
@@ -35,41 +40,93 @@ pub enum Looked {
     },
 }
 
-// The reader's verdict: the file's length and entry count, or the first refusal of the table.
-pub fn read(file: &[u8]) -> Reading
-    ensures { λ r. ⌜ r ≡ readOf (now (file .entry)) ⌝ }
+// An entry's chunk: the entry's place in the index, the chunk's start, type and data length, and whether another entry has it too.
+pub struct Piece {
+    pub place: usize,
+    pub start: u32,
+    pub kind: u32,
+    pub length: u32,
+    pub shared: bool,
+}
+
+pub enum Target {
+    At(Piece),
+    Nothing,
+}
+
+// The frontispiece chunk: where it starts and the picture number in it.
+pub enum Front {
+    At { start: u32, number: u32 },
+    Nothing,
+}
+
+// What an accepted file tells.
+pub struct Facts {
+    pub count: usize,
+    pub target: Target,
+    pub front: Front,
+    pub begins: bool,
+}
+
+pub enum Inspection {
+    Whole(Facts),
+    Refused { number: u64, place: usize },
+}
+
+// The verdict; of an accepted file the entry count, and `plain`, true only where no chunk behind the index is a 'RelN' or an 'Fspc'.
+enum Judgement {
+    Good { count: usize, plain: bool },
+    Refused { number: u64, place: usize },
+}
+
+// The whole table, 1 to 19.
+fn judge_file(file: &[u8]) -> Judgement
+    ensures { λ r. ⌜ Judges r (now (file .entry)) ⌝ }
 {
     if let Check::Refused { number, place } = chunks::head(file) {
-        return Reading::Refused { number, place };
+        return Judgement::Refused { number, place };
     }
     let walked = chunks::walk(file);
     let fault = walked.check;
     if let Check::Refused { number, place } = fault {
-        return Reading::Refused { number, place };
+        return Judgement::Refused { number, place };
     }
     if let Check::Refused { number, place } = chunks::first(file) {
-        return Reading::Refused { number, place };
+        return Judgement::Refused { number, place };
     }
     if let Check::Refused { number, place } = chunks::second_if(
         walked.plain,
         file,
         chunks::skip(file, 12),
     ) {
-        return Reading::Refused { number, place };
+        return Judgement::Refused { number, place };
     }
     if let Check::Refused { number, place } = entries::shape(file) {
-        return Reading::Refused { number, place };
+        return Judgement::Refused { number, place };
     }
     let count = blorb::be32_at(file, 20) as usize;
     if let Check::Refused { number, place } = entries::entries(file, count) {
-        return Reading::Refused { number, place };
+        return Judgement::Refused { number, place };
     }
     if let Check::Refused { number, place } = optional::optional_if(walked.plain, file, count) {
-        return Reading::Refused { number, place };
+        return Judgement::Refused { number, place };
     }
-    Reading::Accepted {
-        length: file.len(),
+    Judgement::Good {
         count,
+        plain: walked.plain,
+    }
+}
+
+// The reader's verdict: the file's length and entry count, or the first refusal of the table.
+pub fn read(file: &[u8]) -> Reading
+    ensures { λ r. ⌜ r ≡ readOf (now (file .entry)) ⌝ }
+{
+    match judge_file(file) {
+        Judgement::Refused { number, place } => Reading::Refused { number, place },
+        Judgement::Good { count, plain: _ } => Reading::Accepted {
+            length: file.len(),
+            count,
+        },
     }
 }
 
@@ -151,5 +208,23 @@ pub fn data(file: &[u8], usage: [u8; 4], number: u32) -> &[u8]
             number: _,
             place: _,
         } => &file[0..0],
+    }
+}
+
+// One reading for whoever changes a file: its verdict and, where it is accepted, its entry count, the chunk of the entry
+// (usage, number), the frontispiece, and whether a chunk behind the index begins at `at`.
+pub fn inspect(file: &[u8], usage: u32, number: u32, at: usize) -> Inspection
+    ensures { λ r. ⌜ r ≡ inspectionOf (plainVerdict (now (file .entry))) (model (now (file .entry))) usage number at ⌝ }
+{
+    match judge_file(file) {
+        Judgement::Refused { number, place } => Inspection::Refused { number, place },
+        Judgement::Good { count, plain } => Inspection::Whole(parts::facts(
+            file,
+            count,
+            plain,
+            usage as u64,
+            number as u64,
+            at,
+        )),
     }
 }

@@ -17,7 +17,7 @@ ghost use Rattle.reader.specs.Optional.{pictured, oneRule, optionalFault
 
 const RELN: u64 = 0x52656c4e;
 
-const FSPC: u64 = 0x46737063;
+pub(crate) const FSPC: u64 = 0x46737063;
 
 const RECT: u64 = 0x52656374;
 

@@ -30,15 +30,15 @@ returns c = entry-22 _ _ _ (accepted _ _ _ (sym (c .before .before .before .befo
 
 -- src/lib.rt:89:26
 mul-p : tie.Need-mul-p
-mul-p c = let g = (accepted _ _ _ (sym (c .before .before .before .before .read .ensures) ∙ c .before .before .count .given .1)) in omega (arith, g .judged .few, c .if1 .left)
+mul-p c = let g = (accepted _ _ _ (sym (c .before .before .before .before .read .ensures) ∙ c .before .before .count .given .1)) in omega (arith, g .passed .judged .few, c .if1 .left)
 
 -- src/lib.rt:89:21
 add-p : tie.Need-add-p
-add-p c = let g = (accepted _ _ _ (sym (c .before .before .before .before .read .ensures) ∙ c .before .before .count .given .1)) in omega (arith, g .judged .few, c .if1 .left)
+add-p c = let g = (accepted _ _ _ (sym (c .before .before .before .before .read .ensures) ∙ c .before .before .count .given .1)) in omega (arith, g .passed .judged .few, c .if1 .left)
 
 -- src/lib.rt:90:51
 be32-at-requires : tie.Need-be32-at-requires
-be32-at-requires c κs = let g = (accepted _ _ _ (sym (c .before .before .before .before .read .ensures) ∙ c .before .before .count .given .1)) in omega (arith, g .judged .room, c .if1 .left)
+be32-at-requires c κs = let g = (accepted _ _ _ (sym (c .before .before .before .before .read .ensures) ∙ c .before .before .count .given .1)) in omega (arith, g .passed .judged .room, c .if1 .left)
 
 -- src/lib.rt:90:36
 of-code-requires : tie.Need-of-code-requires
@@ -58,11 +58,11 @@ returns-2 c = entry-unknown _ _ _ (accepted _ _ _ (sym (c .before .before .befor
 
 -- src/lib.rt:96:47
 add-be32-at : tie.Need-add-be32-at
-add-be32-at c = let g = (accepted _ _ _ (sym (c .before .before .before .before .before .before .before .before .before .read .ensures) ∙ c .before .before .before .before .before .before .before .count .given .1)) in omega (arith, g .judged .few, c .before .before .before .before .before .if1 .left)
+add-be32-at c = let g = (accepted _ _ _ (sym (c .before .before .before .before .before .before .before .before .before .read .ensures) ∙ c .before .before .before .before .before .before .before .count .given .1)) in omega (arith, g .passed .judged .few, c .before .before .before .before .before .if1 .left)
 
 -- src/lib.rt:96:26
 be32-at-requires-2 : tie.Need-be32-at-requires-2
-be32-at-requires-2 c κs = let g = (accepted _ _ _ (sym (c .before .before .before .before .before .before .before .before .before .read .ensures) ∙ c .before .before .before .before .before .before .before .count .given .1)) in omega (arith, g .judged .room, c .before .before .before .before .before .if1 .left)
+be32-at-requires-2 c κs = let g = (accepted _ _ _ (sym (c .before .before .before .before .before .before .before .before .before .read .ensures) ∙ c .before .before .before .before .before .before .before .count .given .1)) in omega (arith, g .passed .judged .room, c .before .before .before .before .before .if1 .left)
 
 -- src/lib.rt:96:26
 cast-number : tie.Need-cast-number
@@ -70,11 +70,11 @@ cast-number c = search needs
 
 -- src/lib.rt:97:46
 add-be32-at-2 : tie.Need-add-be32-at-2
-add-be32-at-2 c = let g = (accepted _ _ _ (sym (c .before .before .before .before .before .before .before .before .before .before .read .ensures) ∙ c .before .before .before .before .before .before .before .before .count .given .1)) in omega (arith, g .judged .few, c .before .before .before .before .before .before .if1 .left)
+add-be32-at-2 c = let g = (accepted _ _ _ (sym (c .before .before .before .before .before .before .before .before .before .before .read .ensures) ∙ c .before .before .before .before .before .before .before .before .count .given .1)) in omega (arith, g .passed .judged .few, c .before .before .before .before .before .before .if1 .left)
 
 -- src/lib.rt:97:25
 be32-at-requires-3 : tie.Need-be32-at-requires-3
-be32-at-requires-3 c κs = let g = (accepted _ _ _ (sym (c .before .before .before .before .before .before .before .before .before .before .read .ensures) ∙ c .before .before .before .before .before .before .before .before .count .given .1)) in omega (arith, g .judged .room, c .before .before .before .before .before .before .if1 .left)
+be32-at-requires-3 c κs = let g = (accepted _ _ _ (sym (c .before .before .before .before .before .before .before .before .before .before .read .ensures) ∙ c .before .before .before .before .before .before .before .before .count .given .1)) in omega (arith, g .passed .judged .room, c .before .before .before .before .before .before .if1 .left)
 
 -- src/lib.rt:97:25
 cast-start : tie.Need-cast-start

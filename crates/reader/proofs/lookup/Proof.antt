@@ -31,7 +31,7 @@ code-requires c κs = search needs
 
 -- src/lib.rt:120:31
 find-requires : tie.Need-find-requires
-find-requires c κs = let g = (accepted _ _ _ (sym (c .before .before .before .before .read .ensures) ∙ c .before .before .count .given .1)) in (g .judged .few, g .judged .room)
+find-requires c κs = let g = (accepted _ _ _ (sym (c .before .before .before .before .read .ensures) ∙ c .before .before .count .given .1)) in (g .passed .judged .few, g .passed .judged .room)
 
 -- src/lib.rt:120:25
 enum-known-at : tie.Need-enum-known-at
@@ -47,7 +47,7 @@ returns c = rw (← c .before .before .before .code .ensures) (look-22 _ _ _ _ (
 
 -- src/lib.rt:126:24
 be32-at-requires : tie.Need-be32-at-requires
-be32-at-requires c κs = let b = (hit-begun _ _ _ _ _ ((accepted _ _ _ (sym (c .before .before .before .before .before .before .before .before .read .ensures) ∙ c .before .before .before .before .before .before .count .given .1)) .judged) (sym (c .before .before .before .find .ensures) ∙ c .before .at .given .1)) in omega (arith, fine _ _ (b .0) (b .1) .header)
+be32-at-requires c κs = let b = (hit-begun _ _ _ _ _ ((accepted _ _ _ (sym (c .before .before .before .before .before .before .before .before .read .ensures) ∙ c .before .before .before .before .before .before .count .given .1)) .passed .judged) (sym (c .before .before .before .find .ensures) ∙ c .before .at .given .1)) in omega (arith, fine _ _ (b .0) (b .1) .header)
 
 -- src/lib.rt:126:24
 cast-kind : tie.Need-cast-kind
@@ -55,15 +55,15 @@ cast-kind c = search needs
 
 -- src/lib.rt:127:47
 add-be32-at : tie.Need-add-be32-at
-add-be32-at c = let b = (hit-begun _ _ _ _ _ ((accepted _ _ _ (sym (c .before .before .before .before .before .before .before .before .before .read .ensures) ∙ c .before .before .before .before .before .before .before .count .given .1)) .judged) (sym (c .before .before .before .before .find .ensures) ∙ c .before .before .at .given .1)) in omega (arith, fine _ _ (b .0) (b .1) .header)
+add-be32-at c = let b = (hit-begun _ _ _ _ _ ((accepted _ _ _ (sym (c .before .before .before .before .before .before .before .before .before .read .ensures) ∙ c .before .before .before .before .before .before .before .count .given .1)) .passed .judged) (sym (c .before .before .before .before .find .ensures) ∙ c .before .before .at .given .1)) in omega (arith, fine _ _ (b .0) (b .1) .header)
 
 -- src/lib.rt:127:26
 be32-at-requires-2 : tie.Need-be32-at-requires-2
-be32-at-requires-2 c κs = let b = (hit-begun _ _ _ _ _ ((accepted _ _ _ (sym (c .before .before .before .before .before .before .before .before .before .read .ensures) ∙ c .before .before .before .before .before .before .before .count .given .1)) .judged) (sym (c .before .before .before .before .find .ensures) ∙ c .before .before .at .given .1)) in omega (arith, fine _ _ (b .0) (b .1) .header)
+be32-at-requires-2 c κs = let b = (hit-begun _ _ _ _ _ ((accepted _ _ _ (sym (c .before .before .before .before .before .before .before .before .before .read .ensures) ∙ c .before .before .before .before .before .before .before .count .given .1)) .passed .judged) (sym (c .before .before .before .before .find .ensures) ∙ c .before .before .at .given .1)) in omega (arith, fine _ _ (b .0) (b .1) .header)
 
 -- src/lib.rt:130:24
 add-t15 : tie.Need-add-t15
-add-t15 c = let b = (hit-begun _ _ _ _ _ ((accepted _ _ _ (sym (c .before .before .before .before .before .before .before .before .before .before .read .ensures) ∙ c .before .before .before .before .before .before .before .before .count .given .1)) .judged) (sym (c .before .before .before .before .before .find .ensures) ∙ c .before .before .before .at .given .1)) in omega (arith, fine _ _ (b .0) (b .1) .header)
+add-t15 c = let b = (hit-begun _ _ _ _ _ ((accepted _ _ _ (sym (c .before .before .before .before .before .before .before .before .before .before .read .ensures) ∙ c .before .before .before .before .before .before .before .before .count .given .1)) .passed .judged) (sym (c .before .before .before .before .before .find .ensures) ∙ c .before .before .before .at .given .1)) in omega (arith, fine _ _ (b .0) (b .1) .header)
 
 -- src/lib.rt:114:1
 returns-2 : tie.Need-returns-2

@@ -1,107 +1,49 @@
-use Rattle.blorb.specs.Format.{entriesIn}
-use Rattle.reader.specs.Entries.{place, usageAt, numberAt}
-use Rattle.reader.specs.declared.entries.Hit.the-variants.{At, Nothing}
-use Rattle.reader.proofs.Laws.{by-hit, by-next}
-use borrow.Author.Needs.{needs}
-use native.Mathlib.Omega.{arith}
-use mathlib.Core.Path.{_≡_, refl, sym, ap, _∙_}
-use Prim.Native.Nat.{ℕ, _+_, _-_, _≤_, _<_}
-use mathlib.Core.Bool.{_&&_}
-use lib.Dec.{eqb}
-use lib.ListN.{drop}
 use denote.Ref.{now}
-use Rattle.blorb.specs.Format.{entriesIn}
-use Rattle.reader.specs.Entries.{place, usageAt, numberAt}
-use Rattle.reader.specs.declared.entries.Hit.the-variants.{At, Nothing}
-use Rattle.reader.specs.Reading.{hitIn}
-use Rattle.reader.proofs.Laws.{hit-here, hit-next, hit-end}
+use Rattle.reader.proofs.Laws.{find-at, find-none}
+use borrow.Author.Needs.{needs}
 use Rattle.reader.proofs.entries.find.Statement.{statement}
 use Rattle.reader.proofs.entries.find.Tie as tie
 use Rattle.reader.proofs.entries.find.Reads as reads
 use Rattle.reader.proofs.entries.find.Lts as lts
 use Rattle.blorb.proofs.be32_at.Reads as be32-at-reads
+use Rattle.reader.proofs.entries.find_place.Reads as find-place-reads
 
-abbrev Inv-loop : tie.InvT-loop
-Inv-loop s count code number i₀ i = (i ≤ count) × (hitIn code number (entriesIn (count - i) (drop (place i) s)) ≡ hitIn code number (entriesIn count (drop 24 s)))
+-- src/entries.rt:79:9
+find-place-requires : tie.Need-find-place-requires
+find-place-requires c κs = search needs
 
-abbrev μ-loop : tie.MeasureT-loop
-μ-loop s count code number i₀ i = count - i
+-- src/entries.rt:81:47
+mul-be32-at : tie.Need-mul-be32-at
+mul-be32-at c = search needs
 
--- src/entries.rt:64:5
-loop-holds : tie.Need-loop-holds Inv-loop μ-loop
-loop-holds c =
-    let a = c .before .args in
-    let z : a .count - 0 ≡ a .count = omega arith in
-    (search needs, ap (λ (k : ℕ). hitIn (a .code) (a .number) (entriesIn k (drop 24 (now (a .s))))) z)
-
--- src/entries.rt:65:22
-mul-p : tie.Need-mul-p Inv-loop μ-loop
-mul-p c = search needs
-
--- src/entries.rt:65:17
-add-p : tie.Need-add-p Inv-loop μ-loop
-add-p c = search needs
-
--- src/entries.rt:66:13
-be32-at-requires : tie.Need-be32-at-requires Inv-loop μ-loop
-be32-at-requires c κs = search needs
-
--- src/entries.rt:66:64
-add-be32-at : tie.Need-add-be32-at Inv-loop μ-loop
+-- src/entries.rt:81:42
+add-be32-at : tie.Need-add-be32-at
 add-be32-at c = search needs
 
--- src/entries.rt:66:46
-be32-at-requires-2 : tie.Need-be32-at-requires-2 Inv-loop μ-loop
-be32-at-requires-2 c κs = search needs
-
--- src/entries.rt:67:46
-add-be32-at-2 : tie.Need-add-be32-at-2 Inv-loop μ-loop
+-- src/entries.rt:81:42
+add-be32-at-2 : tie.Need-add-be32-at-2
 add-be32-at-2 c = search needs
 
--- src/entries.rt:67:28
-be32-at-requires-3 : tie.Need-be32-at-requires-3 Inv-loop μ-loop
-be32-at-requires-3 c κs = search needs
+-- src/entries.rt:81:24
+be32-at-requires : tie.Need-be32-at-requires
+be32-at-requires c κs = search needs
 
--- src/entries.rt:67:13
-returns : tie.Need-returns Inv-loop μ-loop
-returns c = by-hit _ _ _ _ _ _ _ _ (c .before .before .before .before .loop-test .taken) (c .before .before .before .be32-at .ensures .0) (c .before .before .be32-at2 .ensures .0) (c .be32-at3 .ensures .0) (c .before .if1 .taken) ∙ c .before .before .before .before .before .loop .inv .1
+-- src/entries.rt:81:9
+returns : tie.Need-returns
+returns c = find-at _ _ _ _ _ (c .before .before .find-place .ensures .0) (c .before .if1 .taken) _ (c .be32-at .ensures .0)
 
--- src/entries.rt:69:9
-add-i : tie.Need-add-i Inv-loop μ-loop
-add-i c = search needs
-
--- src/entries.rt:64:5
-loop-less : tie.Need-loop-less Inv-loop μ-loop
-loop-less c = search needs
-
--- src/entries.rt:64:5
-loop-again : tie.Need-loop-again Inv-loop μ-loop
-loop-again c = (omega arith, by-next _ _ _ _ _ _ _ 0 (c .before .before .before .loop-test .taken) (c .before .before .be32-at .ensures .0) (c .before .be32-at2 .ensures .0) (c .if1 .left) ∙ c .before .before .before .before .loop .inv .1)
-
--- src/entries.rt:59:1
-returns-2 : tie.Need-returns-2 Inv-loop μ-loop
-returns-2 c =
-    let a = c .before .before .before .args in
-    let l = c .before .loop in
-    let z : a .count - l .i ≡ 0 = omega arith in
-    sym (ap (λ (k : ℕ). hitIn (a .code) (a .number) (entriesIn k (drop (place (l .i)) (now (a .s))))) z ∙ hit-end (now (a .s)) (a .code) (a .number) (l .i)) ∙ l .inv .1
+-- src/entries.rt:75:1
+returns-2 : tie.Need-returns-2
+returns-2 c = find-none (now (c .before .before .before .args .s)) _ _ _ _ (c .before .find-place .ensures .0) (c .if1 .left)
 
 pub find-spec : {M : Type 1} → statement M
 find-spec =
     tie.close
     (tie.spec
-    Inv-loop
-    μ-loop
-    loop-holds
-    mul-p
-    add-p
-    be32-at-requires
+    find-place-requires
+    mul-be32-at
     add-be32-at
-    be32-at-requires-2
     add-be32-at-2
-    be32-at-requires-3
+    be32-at-requires
     returns
-    add-i
-    loop-less
-    loop-again
     returns-2)

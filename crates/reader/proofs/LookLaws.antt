@@ -1,0 +1,158 @@
+-- The lookup of an accepted file and the lookup over its model.
+use mathlib.Core.Path.{_≡_, refl, sym, ap, _∙_}
+use Prim.Native.Nat.{ℕ, zero, suc, _+_, _≤_, _<_}
+use mathlib.Core.List.{List, [], _∷_, _++_}
+use mathlib.Core.Bool.{Bool, true, false, cond, _&&_, _||_}
+use native.Mathlib.Omega.{arith}
+use native.Mathlib.Nat.{not-suc-le-zero, le-of-suc-le-suc}
+use lib.ListN.{length, getD, take, drop}
+use lib.Seq.{drop-drop}
+use lib.Dec.{eqb, ltb}
+use borrow.Author.Tests.{eq-eqb, lt-ltb, le-ltb, ltb-true, ltb-false}
+use Rattle.blorb.specs.Bytes.{rd32}
+use Rattle.blorb.specs.Format.{Entry, Ref, refOf, Chunk, chunkIn, entriesIn, placeOf}
+use Rattle.blorb.specs.Verdict.{accept, noChunk, entriesFault, pairIn}
+use Rattle.blorb.specs.Rules.{plainRules, plainVerdict}
+use Rattle.blorb.specs.Model.{Model, base, model}
+use Rattle.blorb.specs.Queries.{find, noRef, refAt, start}
+use Rattle.blorb.specs.Lookup.{missing, here, lookIn, lookup}
+use Rattle.blorb.proofs.Places.{startAt-placeOf}
+use Rattle.reader.specs.Walk.{chunkAt, chunksFrom, walkFrom}
+use Rattle.reader.specs.Entries.{startAt, place, pairPlace}
+use Rattle.reader.specs.Reading.{hitIn, foundBy, lookupOf, partOf}
+use Rattle.reader.specs.declared.entries.Hit.the-variants.{At}
+use Rattle.reader.specs.declared.Looked.{Looked}
+use Rattle.reader.specs.declared.Looked.the-variants.{Found, Refused as Missing}
+use Rattle.reader.proofs.ChunkLaws.{fine, neither}
+use Rattle.reader.proofs.EntryLaws.{pair-snoc}
+use Rattle.reader.proofs.Laws.{find-at, find-none, first-entry}
+use Rattle.reader.proofs.AskLaws.{good, look-on}
+use Rattle.reader.proofs.PartLaws.{refs-count, entry-begun, begins-there, chunk-of, find-pair}
+
+-- the entry found in the model, or none
+look-at : (cs : List Chunk) (u n : ℕ) (rs : List Ref) → find u n rs < length rs → lookIn cs u n rs ≡ here (getD cs (getD rs (find u n rs) noRef .chunk) noChunk)
+unfolding find lookIn
+look-at cs u n [] h = absurd (not-suc-le-zero h)
+look-at cs u n (r ∷ rs) h = go (eqb (r .usage) u && eqb (r .number) n) h (look-at cs u n rs)
+  where
+    go : (b : Bool) → cond b 0 (suc (find u n rs)) < suc (length rs) → (find u n rs < length rs → lookIn cs u n rs ≡ here (getD cs (getD rs (find u n rs) noRef .chunk) noChunk))
+        → cond b (here (getD cs (r .chunk) noChunk)) (lookIn cs u n rs) ≡ here (getD cs (getD (r ∷ rs) (cond b 0 (suc (find u n rs))) noRef .chunk) noChunk)
+    go true h ih = refl
+    go false h ih = ih (le-of-suc-le-suc h)
+
+look-none : (cs : List Chunk) (u n : ℕ) (rs : List Ref) → length rs ≤ find u n rs → lookIn cs u n rs ≡ missing
+unfolding find lookIn
+look-none cs u n [] h = refl
+look-none cs u n (r ∷ rs) h = go (eqb (r .usage) u && eqb (r .number) n) h (look-none cs u n rs)
+  where
+    go : (b : Bool) → suc (length rs) ≤ cond b 0 (suc (find u n rs)) → (length rs ≤ find u n rs → lookIn cs u n rs ≡ missing)
+        → cond b (here (getD cs (r .chunk) noChunk)) (lookIn cs u n rs) ≡ missing
+    go true h ih = absurd (not-suc-le-zero h)
+    go false h ih = ih (le-of-suc-le-suc h)
+
+ltb-suc : (a b : ℕ) → ltb (suc a) (suc b) ≡ ltb a b
+ltb-suc a b = go (ltb a b) refl
+  where
+    go : (t : Bool) → ltb a b ≡ t → ltb (suc a) (suc b) ≡ t
+    go true e = let h : a < b = ltb-true a b e in lt-ltb (suc a) (suc b) (omega arith)
+    go false e = let h : b ≤ a = ltb-false a b e in le-ltb (suc a) (suc b) (omega arith)
+
+pair-found : (u n : ℕ) (rs : List Ref) → pairIn u n rs ≡ ltb (find u n rs) (length rs)
+unfolding find pairIn
+pair-found u n [] = sym (le-ltb 0 0 (omega arith))
+pair-found u n (r ∷ rs) = go (eqb (r .usage) u && eqb (r .number) n) (pair-found u n rs)
+  where
+    go : (b : Bool) → pairIn u n rs ≡ ltb (find u n rs) (length rs) → b || pairIn u n rs ≡ ltb (cond b 0 (suc (find u n rs))) (suc (length rs))
+    go true ih = sym (lt-ltb 0 (suc (length rs)) (omega arith))
+    go false ih = ih ∙ sym (ltb-suc (find u n rs) (length rs))
+
+-- the data of the chunk at x
+pub body-at : (f : List ℕ) (x m : ℕ) → m ≡ rd32 (drop (x + 4) f) → take m (drop (x + 8) f) ≡ chunkAt f x .body
+unfolding chunkIn
+body-at f x m e = rw (e, drop-drop 4 x f, drop-drop 8 x f)
+
+-- a lookup finds the chunk that starts at x, or nothing
+pub record There (f : List ℕ) (u n x : ℕ) : Type 0 where
+  pub found : lookupOf f u n ≡ Found (chunkAt f x .type) (x + 8) (length (chunkAt f x .body))
+  pub part : partOf (lookupOf f u n) f ≡ chunkAt f x .body
+  pub looked : lookup (model f) u n ≡ here (chunkAt f x)
+  pub begins : start (model f) (refAt (model f) (find u n (model f .refs)) .chunk) ≡ x
+  pub pair : pairIn u n (model f .refs) ≡ true
+
+pub record Absent (f : List ℕ) (u n : ℕ) : Type 0 where
+  pub found : lookupOf f u n ≡ Missing 22 0
+  pub looked : lookup (model f) u n ≡ missing
+  pub pair : pairIn u n (model f .refs) ≡ false
+
+module _ (f : List ℕ) (u n : ℕ) (h : plainVerdict f ≡ accept) where
+  abbrev at-place : ℕ
+  at-place = pairPlace u n (entriesIn (rd32 (drop 20 f)) (drop 24 f))
+
+  find-is : find u n (model f .refs) ≡ at-place
+  find-is = rw (good f h .model) (find-pair (place (rd32 (drop 20 f))) (chunksFrom f (place (rd32 (drop 20 f)))) u n (entriesIn (rd32 (drop 20 f)) (drop 24 f)))
+
+  many-is : length (model f .refs) ≡ rd32 (drop 20 f)
+  many-is = rw (good f h .model) (refs-count f (rd32 (drop 20 f)))
+
+  there : at-place < rd32 (drop 20 f) → There f u n (startAt f (place at-place))
+  unfolding lookup start base
+  there l =
+      let g = good f h in
+      let count : ℕ = rd32 (drop 20 f) in
+      let x : ℕ = startAt f (place at-place) in
+      let b = entry-begun f count at-place (g .passed) l in
+      let found : lookupOf f u n ≡ Found (chunkAt f x .type) (x + 8) (length (chunkAt f x .body))
+      = look-on f u n count g ∙ ap (foundBy f) (sym (find-at f u n count at-place refl l x refl)) in
+      let r : find u n (model f .refs) < length (model f .refs) = rw (find-is, many-is) l in
+      let k : refAt (model f) (find u n (model f .refs)) .chunk ≡ placeOf x (place count) (chunksFrom f (place count)) = rw (find-is, g .model) (chunk-of f count at-place (g .passed) l) in
+      let cs : model f .chunks ≡ chunksFrom f (place count) = ap (λ (m : Model). m .chunks) (g .model) in
+      record {
+        found = found;
+        part = ap (λ (a : Looked). partOf a f) found ∙ body-at f x (length (chunkAt f x .body)) (fine f x (b .below) (b .walks) .bodied);
+        looked = look-at (model f .chunks) u n (model f .refs) r ∙ rw (k, cs) (ap here (b .chunk));
+        begins = rw (k, cs, many-is) (startAt-placeOf x (place count) (chunksFrom f (place count)) (begins-there f count at-place (g .passed) l) .0);
+        pair = pair-found u n (model f .refs) ∙ lt-ltb _ _ r;
+      }
+
+  absent : rd32 (drop 20 f) ≤ at-place → Absent f u n
+  unfolding lookup
+  absent l =
+      let g = good f h in
+      let count : ℕ = rd32 (drop 20 f) in
+      let r : length (model f .refs) ≤ find u n (model f .refs) = rw (find-is, many-is) l in
+      record {
+        found = look-on f u n count g ∙ ap (foundBy f) (sym (find-none f u n count at-place refl l));
+        looked = look-none (model f .chunks) u n (model f .refs) r;
+        pair = pair-found u n (model f .refs) ∙ le-ltb _ _ r;
+      }
+
+  pub either : (P : Type 0) → ((x : ℕ) → There f u n x → P) → (Absent f u n → P) → P
+  either P is none = go (ltb at-place (rd32 (drop 20 f))) refl
+    where
+      go : (b : Bool) → ltb at-place (rd32 (drop 20 f)) ≡ b → P
+      go true e = is (startAt f (place at-place)) (there (ltb-true _ _ e))
+      go false e = none (absent (ltb-false _ _ e))
+
+-- no pair stands twice, so the first entry with a pair is the only one
+module _ (f : List ℕ) (base : ℕ) (w : walkFrom f base ≡ accept) where
+  new-pair : (es : List Entry) (earlier : List Ref) (p i : ℕ) (d : Entry) → entriesFault plainRules base (chunksFrom f base) earlier p es ≡ accept → i < length es
+      → pairIn (getD es i d .usage) (getD es i d .number) earlier ≡ false
+  new-pair [] earlier p i d h l = absurd (not-suc-le-zero l)
+  new-pair (e ∷ es) earlier p zero d h l = first-entry f base w e es earlier p h .1
+  new-pair (e ∷ es) earlier p (suc i) d h l =
+      let r : Ref = refOf base (chunksFrom f base) e in
+      let q = new-pair es (earlier ++ (r ∷ [])) (p + 12) i d (first-entry f base w e es earlier p h .2) (le-of-suc-le-suc l) in
+      neither _ _ (sym (pair-snoc (getD es i d .usage) (getD es i d .number) earlier r) ∙ q) .0
+
+  pub only-hit : (es : List Entry) (earlier : List Ref) (p i : ℕ) (d : Entry) → entriesFault plainRules base (chunksFrom f base) earlier p es ≡ accept → i < length es
+      → hitIn (getD es i d .usage) (getD es i d .number) es ≡ At (getD es i d .start)
+  unfolding hitIn refOf
+  only-hit [] earlier p i d h l = absurd (not-suc-le-zero l)
+  only-hit (e ∷ es) earlier p zero d h l = rw (eq-eqb (e .usage) (e .usage) refl, eq-eqb (e .number) (e .number) refl)
+  only-hit (e ∷ es) earlier p (suc i) d h l =
+      let r : Ref = refOf base (chunksFrom f base) e in
+      let a = first-entry f base w e es earlier p h .2 in
+      let q = new-pair es (earlier ++ (r ∷ [])) (p + 12) i d a (le-of-suc-le-suc l) in
+      let t : eqb (e .usage) (getD es i d .usage) && eqb (e .number) (getD es i d .number) ≡ false
+      = neither (pairIn (getD es i d .usage) (getD es i d .number) earlier) _ (sym (pair-snoc (getD es i d .usage) (getD es i d .number) earlier r) ∙ q) .1 in
+      rw t (only-hit es (earlier ++ (r ∷ [])) (p + 12) i d a (le-of-suc-le-suc l))

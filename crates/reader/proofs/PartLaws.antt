@@ -1,0 +1,298 @@
+-- The parts of an inspection: from the offsets of a file that the reader has passed to its model.
+use mathlib.Core.Path.{_≡_, refl, sym, ap, _∙_}
+use Prim.Native.Nat.{ℕ, zero, suc, _+_, _-_, _≤_, _<_}
+use mathlib.Core.List.{List, [], _∷_, map}
+use mathlib.Core.Bool.{Bool, true, false, cond, _&&_, _||_, not}
+use native.Mathlib.Omega.{arith}
+use native.Mathlib.Numerals.{add-one}
+use native.Mathlib.Nat.{not-suc-le-zero, le-of-suc-le-suc}
+use lib.ListN.{length, getD, drop, length-map}
+use lib.Seq.{drop-drop}
+use lib.Dec.{eqb, ltb}
+use borrow.Author.Tests.{eq-eqb, ne-eqb, eqb-true, eqb-false, lt-ltb, le-ltb}
+use Rattle.blorb.specs.Bytes.{rd32}
+use Rattle.blorb.specs.Format.{Chunk, Entry, Ref, refOf, size, chunkIn, entryIn, entriesIn, isStart, placeOf}
+use Rattle.blorb.specs.Verdict.{accept, refuse, _then_, noChunk}
+use Rattle.blorb.specs.Rules.{plainRules, plainVerdict, typeIn}
+use Rattle.blorb.specs.Tags.{RelN, Fspc}
+use Rattle.blorb.specs.Model.{base, model}
+use Rattle.blorb.specs.Model.{startAt as chunkStart}
+use Rattle.blorb.specs.Queries.{find, uses, without, noRef, refAt, shared, start, frontPlace}
+use Rattle.blorb.specs.All.{All}
+use Rattle.blorb.proofs.AllLaws.{all-getD}
+use Rattle.blorb.proofs.Places.{startAt-zero, startAt-suc, startAt-placeOf}
+use Rattle.blorb.proofs.Accept.{starts-ok}
+use Rattle.blorb.proofs.Checks.{then-accept, check-accept, and-both}
+use Rattle.reader.specs.Walk.{chunkAt, skipAt, chunksFrom, walkFrom}
+use Rattle.reader.specs.Plain.{ordinaryType, allPlain}
+use Rattle.reader.specs.Entries.{startAt, place, entriesFrom, earlier, pairPlace, startAgain}
+use Rattle.reader.specs.Optional.{oneRule, rulesFrom, optionalFault}
+use Rattle.reader.specs.Passed.{Judges, Passed, modelAt, Fronts, pickFront, frontFrom}
+use Rattle.reader.specs.Inspecting.{pieceOf, targetBy, targetOf, frontBy, frontOf, factsOf, inspectionOf}
+use Rattle.reader.specs.declared.Piece.{Piece}
+use Rattle.reader.specs.declared.Target.{Target}
+use Rattle.reader.specs.declared.Target.the-variants as target
+use Rattle.reader.specs.declared.Front.{Front}
+use Rattle.reader.specs.declared.Front.the-variants as front
+use Rattle.reader.specs.declared.Facts.{Facts}
+use Rattle.reader.specs.declared.Inspection.the-variants as inspection
+use Rattle.reader.specs.declared.Judgement.{Judgement}
+use Rattle.reader.specs.declared.Judgement.the-variants as judgement
+use Rattle.reader.specs.declared.Reading.the-variants.{Accepted, Refused}
+use Rattle.reader.specs.Reading.{readOf}
+use Rattle.reader.proofs.AskLaws.{Good}
+use Rattle.reader.proofs.ChunkLaws.{fine, begun, Begun, chunks-end, start-ge, ordinary-not}
+use Rattle.reader.proofs.Laws.{length-entriesIn, entry-getD, body-word}
+
+-- an element of a list and of its image
+getD-map-in : {A B : Type 0} (g : A → B) (l : List A) (i : ℕ) (d : A) (z : B) → i < length l → getD (map g l) i z ≡ g (getD l i d)
+getD-map-in g [] i d z h = absurd (not-suc-le-zero h)
+getD-map-in g (x ∷ l) zero d z h = refl
+getD-map-in g (x ∷ l) (suc i) d z h = getD-map-in g l i d z (le-of-suc-le-suc h)
+
+pub refs-count : (f : List ℕ) (count : ℕ) → length (modelAt f count .refs) ≡ count
+refs-count f count = simp (length-map, length-entriesIn)
+
+-- another entry with the same start: the loop, by the numbers that the code has read
+module _ (f : List ℕ) (x i : ℕ) where
+  again-on : (k j : ℕ) → startAgain x i j (entriesIn (suc k) (drop (place j) f))
+      ≡ (not (eqb j i) && eqb (startAt f (place j)) x) || startAgain x i (suc j) (entriesIn k (drop (place (suc j)) f))
+  unfolding startAgain entriesIn entryIn
+  again-on k j =
+      let q : place j + 12 ≡ place (suc j) = omega arith in
+      rw (drop-drop 8 (place j) f, drop-drop 12 (place j) f, q)
+
+  pub again-end : (j : ℕ) → startAgain x i j (entriesIn 0 (drop (place j) f)) ≡ false
+  unfolding startAgain entriesIn
+  again-end j = refl
+
+  module _ (count j a : ℕ) (h : j < count) (ea : a ≡ startAt f (place j)) where
+    again-turn : startAgain x i j (entriesIn (count - j) (drop (place j) f))
+        ≡ (not (eqb j i) && eqb a x) || startAgain x i (j + 1) (entriesIn (count - (j + 1)) (drop (place (j + 1)) f))
+    again-turn =
+        let left : count - j ≡ suc (count - (j + 1)) = omega arith in
+        let more : suc j ≡ j + 1 = sym (add-one j) in
+        ap (λ (k : ℕ). startAgain x i j (entriesIn k (drop (place j) f))) left ∙ again-on (count - (j + 1)) j
+        ∙ ap (λ (k : ℕ). (not (eqb j i) && eqb (startAt f (place j)) x) || startAgain x i k (entriesIn (count - (j + 1)) (drop (place k) f))) more
+        ∙ rw ea refl
+
+    pub again-hit : not (eqb j i) && eqb a x ≡ true → true ≡ startAgain x i j (entriesIn (count - j) (drop (place j) f))
+    again-hit e = sym (again-turn ∙ rw e)
+
+    pub again-next : not (eqb j i) && eqb a x ≡ false
+        → startAgain x i (j + 1) (entriesIn (count - (j + 1)) (drop (place (j + 1)) f)) ≡ startAgain x i j (entriesIn (count - j) (drop (place j) f))
+    again-next e = sym (again-turn ∙ rw e)
+
+-- two starts are the same exactly if their chunks are
+same-place : (a b at : ℕ) (cs : List Chunk) → isStart a at cs ≡ true → isStart b at cs ≡ true → eqb a b ≡ eqb (placeOf a at cs) (placeOf b at cs)
+same-place a b at cs ha hb = go (eqb a b) refl
+  where
+    go : (t : Bool) → eqb a b ≡ t → t ≡ eqb (placeOf a at cs) (placeOf b at cs)
+    go true e = sym (eq-eqb _ _ (ap (λ (x : ℕ). placeOf x at cs) (eqb-true a b e)))
+    go false e =
+        sym (ne-eqb _ _ (λ q. eqb-false a b e (sym (startAt-placeOf a at cs ha .0) ∙ ap (chunkStart at cs) q ∙ startAt-placeOf b at cs hb .0)))
+
+-- so an entry's chunk is shared exactly if its start stands again
+module _ (at : ℕ) (cs : List Chunk) (x i : ℕ) (s : isStart x at cs ≡ true) where
+  behind : (j : ℕ) (es : List Entry) → All (λ e. isStart (e .start) at cs ≡ true) es → i < j → startAgain x i j es ≡ uses (placeOf x at cs) (map (refOf at cs) es)
+  unfolding startAgain uses refOf
+  behind j [] ok l = refl
+  behind j (e ∷ es) ok l =
+      let n : eqb j i ≡ false = ne-eqb j i (λ q. omega arith) in
+      rw (n, same-place (e .start) x at cs (ok .0) s, behind (suc j) es (ok .1) (omega arith))
+
+  others : (d j : ℕ) (es : List Entry) → All (λ e. isStart (e .start) at cs ≡ true) es → i ≡ j + d → startAgain x i j es ≡ uses (placeOf x at cs) (without d (map (refOf at cs) es))
+  unfolding startAgain uses refOf without
+  others zero j [] ok q = refl
+  others (suc d) j [] ok q = refl
+  others zero j (e ∷ es) ok q =
+      let y : eqb j i ≡ true = eq-eqb j i (omega arith) in
+      rw y (behind (suc j) es (ok .1) (omega arith))
+  others (suc d) j (e ∷ es) ok q =
+      let n : eqb j i ≡ false = ne-eqb j i (λ r. omega arith) in
+      rw (n, same-place (e .start) x at cs (ok .0) s) (ap (λ (b : Bool). eqb (placeOf (e .start) at cs) (placeOf x at cs) || b) (others d (suc j) es (ok .1) (omega arith)))
+
+-- the starts of a passed file's entries
+pub starts : (f : List ℕ) (count : ℕ) → Passed f count → All (λ e. isStart (e .start) (place count) (chunksFrom f (place count)) ≡ true) (entriesIn count (drop 24 f))
+unfolding entriesFrom earlier
+starts f count g = starts-ok plainRules (place count) (chunksFrom f (place count)) [] 24 (entriesIn count (drop 24 f)) (g .judged .entries)
+
+-- entry i of a passed file
+module _ (f : List ℕ) (count i : ℕ) (g : Passed f count) (h : i < count) where
+  abbrev nothing : Entry
+  nothing = record { usage = 0; number = 0; start = 0 }
+
+  start-of : getD (entriesIn count (drop 24 f)) i nothing .start ≡ startAt f (place i)
+  unfolding entryIn
+  start-of = ap (λ (e : Entry). e .start) (entry-getD f count i 24 nothing h) ∙ ap rd32 (drop-drop 8 (place i) f)
+
+  pub begins-there : isStart (startAt f (place i)) (place count) (chunksFrom f (place count)) ≡ true
+  begins-there =
+      let l : i < length (entriesIn count (drop 24 f)) = rw (length-entriesIn count (drop 24 f)) h in
+      rw (← start-of) (all-getD (λ e. isStart (e .start) (place count) (chunksFrom f (place count)) ≡ true) (entriesIn count (drop 24 f)) i nothing (starts f count g) l)
+
+  pub entry-begun : Begun f (startAt f (place i)) (getD (chunksFrom f (place count)) (placeOf (startAt f (place i)) (place count) (chunksFrom f (place count))) noChunk)
+  entry-begun = begun f (startAt f (place i)) (place count) (g .judged .walks) begins-there
+
+  pub entry-room : (x : ℕ) → x ≡ startAt f (place i) → x + 8 ≤ length f
+  entry-room x e = rw e (fine f (startAt f (place i)) (entry-begun .below) (entry-begun .walks) .header)
+
+  ref-of : refAt (modelAt f count) i ≡ refOf (place count) (chunksFrom f (place count)) (getD (entriesIn count (drop 24 f)) i nothing)
+  ref-of = getD-map-in (refOf (place count) (chunksFrom f (place count))) (entriesIn count (drop 24 f)) i nothing noRef (rw (length-entriesIn count (drop 24 f)) h)
+
+  pub chunk-of : refAt (modelAt f count) i .chunk ≡ placeOf (startAt f (place i)) (place count) (chunksFrom f (place count))
+  unfolding refOf
+  chunk-of = ap (λ (r : Ref). r .chunk) ref-of ∙ ap (λ (x : ℕ). placeOf x (place count) (chunksFrom f (place count))) start-of
+
+  -- by the numbers that the code has read
+  pub piece-is : (x t m : ℕ) (again : Bool) → x ≡ startAt f (place i) → t ≡ rd32 (drop x f) → m ≡ rd32 (drop (x + 4) f)
+      → again ≡ startAgain x i 0 (entriesIn count (drop 24 f))
+      → _≡_ {A = Piece} (record { place = i; start = x; kind = t; length = m; shared = again }) (pieceOf (modelAt f count) i)
+  unfolding start base shared chunkIn
+  piece-is x t m again ex et em ea =
+      let cs : List Chunk = chunksFrom f (place count) in
+      let b : Begun f (startAt f (place i)) (getD cs (placeOf (startAt f (place i)) (place count) cs) noChunk) = entry-begun in
+      let k : refAt (modelAt f count) i .chunk ≡ placeOf x (place count) cs = chunk-of ∙ ap (λ (y : ℕ). placeOf y (place count) cs) (sym ex) in
+      let s : isStart x (place count) cs ≡ true = rw ex begins-there in
+      let c : getD cs (placeOf x (place count) cs) noChunk ≡ chunkAt f x = rw ex (b .chunk) in
+      let es : x ≡ start (modelAt f count) (refAt (modelAt f count) i .chunk) = rw (k, refs-count f count) (sym (startAt-placeOf x (place count) cs s .0)) in
+      let ek : t ≡ getD cs (refAt (modelAt f count) i .chunk) noChunk .type = rw (k, c) et in
+      let el : m ≡ length (getD cs (refAt (modelAt f count) i .chunk) noChunk .body) = rw (k, c, fine f x (rw ex (b .below)) (rw ex (b .walks)) .bodied) em in
+      let eg : again ≡ shared (modelAt f count) i = ea ∙ (rw k (others (place count) cs x i s i 0 (entriesIn count (drop 24 f)) (starts f count g) (omega arith))) in
+      λ j. record { place = i; start = es j; kind = ek j; length = el j; shared = eg j }
+
+-- the entry of a pair
+pub find-pair : (at : ℕ) (cs : List Chunk) (u n : ℕ) (es : List Entry) → find u n (map (refOf at cs) es) ≡ pairPlace u n es
+unfolding find pairPlace refOf
+find-pair at cs u n [] = refl
+find-pair at cs u n (e ∷ es) = ap (λ (k : ℕ). cond (eqb (e .usage) u && eqb (e .number) n) 0 (suc k)) (find-pair at cs u n es)
+
+module _ (f : List ℕ) (count u n i : ℕ) (e : i ≡ pairPlace u n (entriesIn count (drop 24 f))) where
+  target-on : targetOf (modelAt f count) u n ≡ targetBy (ltb i count) (modelAt f count) i
+  unfolding targetOf
+  target-on =
+      let k : find u n (modelAt f count .refs) ≡ i = find-pair (place count) (chunksFrom f (place count)) u n (entriesIn count (drop 24 f)) ∙ sym e in
+      rw (k, refs-count f count)
+
+  pub target-there : i < count → (p : Piece) → p ≡ pieceOf (modelAt f count) i → target.At p ≡ targetOf (modelAt f count) u n
+  target-there h p q = sym (target-on ∙ rw (lt-ltb i count h) (ap target.At (sym q)))
+
+  pub target-none : count ≤ i → target.Nothing ≡ targetOf (modelAt f count) u n
+  target-none h = sym (target-on ∙ rw (le-ltb i count h))
+
+-- the frontispiece: the loop
+module _ (f : List ℕ) (at : ℕ) where
+  pub front-end : length f ≤ at → front.Nothing ≡ frontFrom at (chunksFrom f at)
+  unfolding frontFrom
+  front-end h = rw (chunks-end f at h)
+
+  module _ (h : at < length f) (w : walkFrom f at ≡ accept) (r : Fronts (chunksFrom f at)) where
+    fronts-on : (rd32 (drop at f) ≡ Fspc → length (chunkAt f at .body) ≡ 4) × Fronts (chunksFrom f (skipAt f at))
+    unfolding chunkIn
+    fronts-on = let i = fine f at h w in rw (i .next) (rw (i .chunks) at r)
+
+    module _ (t : ℕ) (et : t ≡ rd32 (drop at f)) where
+      pub front-room : t ≡ Fspc → at + 12 ≤ length f
+      front-room e =
+          let i = fine f at h w in
+          let l : length (chunkAt f at .body) ≡ 4 = fronts-on .0 (sym et ∙ e) in
+          omega (arith, i .inside, i .next, i .bodied)
+
+      pub front-hit : t ≡ Fspc → (n : ℕ) → n ≡ rd32 (drop (at + 8) f) → front.At at n ≡ frontFrom at (chunksFrom f at)
+      unfolding frontFrom chunkIn
+      front-hit e n en =
+          let i = fine f at h w in
+          let l : length (chunkAt f at .body) ≡ 4 = fronts-on .0 (sym et ∙ e) in
+          let q : rd32 (chunkAt f at .body) ≡ n = body-word f at (omega (arith, i .bodied)) ∙ sym en in
+          rw (i .chunks, ← et, eq-eqb t Fspc e) (ap (front.At at) (sym q))
+
+      pub front-next : (t ≡ Fspc → ⊥) → (Fronts (chunksFrom f (skipAt f at))) × (frontFrom (skipAt f at) (chunksFrom f (skipAt f at)) ≡ frontFrom at (chunksFrom f at))
+      unfolding frontFrom chunkIn
+      front-next e = let i = fine f at h w in (fronts-on .1, rw (i .chunks, i .next, ← et, ne-eqb t Fspc e))
+
+-- rule 7 has judged the frontispiece's length
+rule-front : (pic : ℕ → Bool) (a b : Bool) (at : ℕ) (c : Chunk) → oneRule pic a b at c ≡ accept → c .type ≡ Fspc → length (c .body) ≡ 4
+unfolding oneRule
+rule-front pic a b at c h e =
+    let q = then-accept _ _ (then-accept _ _ (rw e at h) .0) in
+    eqb-true _ _ (check-accept _ _ _ (q .1))
+
+rules-fronts : (pic : ℕ → Bool) (a b : Bool) (at : ℕ) (cs : List Chunk) → rulesFrom pic a b at cs ≡ accept → Fronts cs
+unfolding rulesFrom
+rules-fronts pic a b at [] h = tt
+rules-fronts pic a b at (c ∷ cs) h =
+    let q = then-accept _ _ h in
+    (rule-front pic a b at c (q .0), rules-fronts pic (a || eqb (c .type) RelN) (b || eqb (c .type) Fspc) (at + size c) cs (q .1))
+
+pub passed-fronts : (f : List ℕ) (count : ℕ) → Passed f count → Fronts (chunksFrom f (place count))
+unfolding optionalFault
+passed-fronts f count g = rules-fronts _ false false (place count) (chunksFrom f (place count)) (g .optional)
+
+-- the first frontispiece is the model's
+abbrev frontIn : Bool → ℕ → List Chunk → ℕ → Front
+frontIn true at cs k = front.At (chunkStart at cs k) (rd32 (getD cs k noChunk .body))
+frontIn false at cs k = front.Nothing
+
+front-first : (at : ℕ) (cs : List Chunk) → frontFrom at cs ≡ frontIn (typeIn Fspc cs) at cs (frontPlace cs)
+unfolding frontFrom typeIn frontPlace
+front-first at [] = refl
+front-first at (c ∷ cs) = go (eqb (c .type) Fspc) (typeIn Fspc cs) (front-first (at + size c) cs)
+  where
+    go : (b t : Bool) → frontFrom (at + size c) cs ≡ frontIn t (at + size c) cs (frontPlace cs)
+        → pickFront b at (rd32 (c .body)) (frontFrom (at + size c) cs) ≡ frontIn (b || t) at (c ∷ cs) (cond b 0 (suc (frontPlace cs)))
+    go true t ih = ap (λ (x : ℕ). front.At x (rd32 (c .body))) (sym (startAt-zero at (c ∷ cs)))
+    go false true ih = ih ∙ ap (λ (x : ℕ). front.At x (rd32 (getD cs (frontPlace cs) noChunk .body))) (sym (startAt-suc at c cs (frontPlace cs)))
+    go false false ih = ih
+
+front-model : (b : Bool) (f : List ℕ) (count : ℕ) → frontIn b (place count) (chunksFrom f (place count)) (frontPlace (chunksFrom f (place count))) ≡ frontBy b (modelAt f count)
+unfolding start base
+front-model true f count = rw (refs-count f count)
+front-model false f count = refl
+
+pub front-is : (f : List ℕ) (count : ℕ) → frontFrom (place count) (chunksFrom f (place count)) ≡ frontOf (modelAt f count)
+unfolding frontOf
+front-is f count = front-first (place count) (chunksFrom f (place count)) ∙ front-model (typeIn Fspc (chunksFrom f (place count))) f count
+
+plain-fronts : (cs : List Chunk) → allPlain cs ≡ true → typeIn Fspc cs ≡ false
+unfolding allPlain typeIn
+plain-fronts [] e = refl
+plain-fronts (c ∷ cs) e =
+    let q = and-both (ordinaryType (c .type)) (allPlain cs) e in
+    rw (ordinary-not (c .type) (q .0) .2) (plain-fronts cs (q .1))
+
+pub front-plain : (f : List ℕ) (count : ℕ) → allPlain (chunksFrom f (place count)) ≡ true → front.Nothing ≡ frontOf (modelAt f count)
+unfolding frontOf
+front-plain f count e = rw (plain-fronts (chunksFrom f (place count)) e)
+
+-- no chunk begins before the first one
+pub before-base : (x at : ℕ) (cs : List Chunk) → x < at → false ≡ isStart x at cs
+before-base x at cs h = go (isStart x at cs) refl
+  where
+    go : (b : Bool) → isStart x at cs ≡ b → false ≡ b
+    go true e = let q : at ≤ x = start-ge x at cs e in absurd (omega arith)
+    go false e = refl
+
+-- all together
+pub facts-are : (f : List ℕ) (count u n x : ℕ) (t : Target) (r : Front) (b : Bool)
+    → t ≡ targetOf (modelAt f count) u n → r ≡ frontOf (modelAt f count) → b ≡ isStart x (place count) (chunksFrom f (place count))
+    → _≡_ {A = Facts} (record { count = count; target = t; front = r; begins = b }) (factsOf (modelAt f count) u n x)
+unfolding base
+facts-are f count u n x t r b et er eb =
+    let c : count ≡ length (modelAt f count .refs) = sym (refs-count f count) in
+    let s : b ≡ isStart x (base (length (modelAt f count .refs))) (chunksFrom f (place count)) = rw (refs-count f count) eb in
+    λ j. record { count = c j; target = et j; front = er j; begins = s j }
+
+-- the verdict of a judgement, and the inspection by it
+module _ (f : List ℕ) where
+  pub judged-good : (r : Judgement) (n : ℕ) (plain : Bool) → Judges r f → r ≡ judgement.Good n plain
+      → (readOf f ≡ Accepted (length f) n) × (plain ≡ true → allPlain (chunksFrom f (place n)) ≡ true)
+  judged-good r n plain j e = let q : Judges (judgement.Good n plain) f = rw e at j in (sym (q .0), q .1)
+
+  pub judged-no : (r : Judgement) (k p : ℕ) → Judges r f → r ≡ judgement.Refused k p → readOf f ≡ Refused k p
+  judged-no r k p j e = let q : Judges (judgement.Refused k p) f = rw e at j in sym q
+
+  pub inspected-no : (u n x k p : ℕ) → plainVerdict f ≡ refuse k p → inspection.Refused k p ≡ inspectionOf (plainVerdict f) (model f) u n x
+  inspected-no u n x k p e = rw e
+
+  pub inspected : (u n x count : ℕ) → Good f count → (t : Facts) → t ≡ factsOf (modelAt f count) u n x → inspection.Whole t ≡ inspectionOf (plainVerdict f) (model f) u n x
+  inspected u n x count g t e = rw (g .verdict, g .model) (ap inspection.Whole e)

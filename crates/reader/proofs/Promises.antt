@@ -1,0 +1,125 @@
+-- What the reader promises to whoever stands above it: laws over the definitions and the public contracts.
+use mathlib.Core.Path.{_≡_, refl, sym, ap, _∙_}
+use Prim.Native.Nat.{ℕ, _+_, _≤_, _<_}
+use mathlib.Core.List.{List, [], map}
+use mathlib.Core.Bool.{false}
+use native.Mathlib.Omega.{arith}
+use lib.ListN.{length, getD, drop}
+use Rattle.blorb.specs.Bytes.{rd32}
+use Rattle.blorb.specs.Format.{Chunk, entriesIn}
+use Rattle.blorb.specs.Verdict.{accept, refuse, entriesFault, pairIn}
+use Rattle.blorb.specs.Rules.{plainRules, plainVerdict}
+use Rattle.blorb.specs.Model as M
+use Rattle.blorb.specs.Model.{base, file, model}
+use Rattle.blorb.specs.Queries.{find, refAt, start}
+use Rattle.blorb.specs.Lookup.{missing, here, lookup}
+use Rattle.blorb.specs.declared.Usage.{Usage}
+use Rattle.blorb.specs.All.{All}
+use Rattle.blorb.proofs.Sound.{Sound}
+use Rattle.blorb.specs.Bytes.{Byte}
+use Rattle.blorb.proofs.Accept.{accept-back, entryOf-refOf}
+use Rattle.blorb.proofs.ModelLaws.{entries}
+use Rattle.reader.specs.Walk.{chunkAt, chunksFrom}
+use Rattle.reader.specs.Entries.{place, entriesFrom, earlier}
+use Rattle.reader.specs.Optional.{Judged}
+use Rattle.reader.specs.Passed.{modelAt}
+use Rattle.reader.specs.Reading.{indexOf, readOf, noEntry, entryOf, hitIn, lookupOf, partOf}
+use Rattle.reader.specs.declared.Reading.the-variants.{Accepted, Refused}
+use Rattle.reader.specs.declared.Asked.the-variants.{Given}
+use Rattle.reader.specs.declared.entries.Hit.the-variants.{At}
+use Rattle.reader.specs.declared.Looked.{Looked}
+use Rattle.reader.specs.declared.Looked.the-variants.{Found, Refused as Missing}
+use Rattle.reader.proofs.ChunkLaws.{fine, begun}
+use Rattle.reader.proofs.Laws.{hit-start}
+use Rattle.reader.proofs.ReadLaws.{refused}
+use Rattle.reader.proofs.AskLaws.{good, read-go, refused-as, known-at, not-unknown, given-as}
+use Rattle.reader.proofs.PartLaws.{refs-count, starts}
+use Rattle.reader.proofs.LookLaws.{body-at, either, only-hit}
+
+-- the reading of an accepted file: its length and the number of its model's entries; both within the limits
+pub accepted-is : (f : List ℕ) (l n : ℕ) → readOf f ≡ Accepted l n
+    → (l ≡ length f) × (n ≡ length (model f .refs)) × (plainVerdict f ≡ accept) × (length f ≤ 16777216) × (n ≤ 4096)
+unfolding readOf
+accepted-is f l n e =
+    let q = read-go (plainVerdict f) l n (length f) (length (indexOf f)) e in
+    let g = good f (q .0) in
+    let c : n ≡ rd32 (drop 20 f) = sym (q .2) ∙ g .many in
+    let m : length (model f .refs) ≡ rd32 (drop 20 f) = rw (g .model) (refs-count f (rd32 (drop 20 f))) in
+    (sym (q .1), c ∙ sym m, q .0, g .passed .short, rw c (g .passed .judged .few))
+
+-- and it is its header, its index and its chunks, and nothing else
+pub accepted-file : (f : List ℕ) (l n : ℕ) → readOf f ≡ Accepted l n → All Byte f → (file (model f) ≡ f) × Sound (model f)
+unfolding plainVerdict
+accepted-file f l n e bytes = let q = accept-back plainRules f bytes (accepted-is f l n e .2) in (q .0, q .1)
+
+-- a file that the verdict accepts is read so
+pub accepted-when : (f : List ℕ) → plainVerdict f ≡ accept → readOf f ≡ Accepted (length f) (length (model f .refs))
+unfolding readOf
+accepted-when f h =
+    let g = good f h in
+    let m : length (indexOf f) ≡ length (model f .refs) = g .many ∙ sym (rw (g .model) (refs-count f (rd32 (drop 20 f)))) in
+    rw h (ap (Accepted (length f)) m)
+
+-- the reader refuses exactly as the verdict does
+pub refused-is : (f : List ℕ) (k p : ℕ) → (readOf f ≡ Refused k p → plainVerdict f ≡ refuse k p) × (plainVerdict f ≡ refuse k p → readOf f ≡ Refused k p)
+refused-is f k p = (λ e. refused-as f k p e, λ e. sym (refused f k p e))
+
+-- the index's entries are the model's
+pub index-is : (f : List ℕ) → plainVerdict f ≡ accept → indexOf f ≡ entries (model f)
+unfolding base
+index-is f h =
+    let g = good f h in
+    let count : ℕ = rd32 (drop 20 f) in
+    let e : map (M.entryOf (place count) (chunksFrom f (place count))) (modelAt f count .refs) ≡ entriesIn count (drop 24 f)
+    = entryOf-refOf (place count) (chunksFrom f (place count)) (entriesIn count (drop 24 f)) (starts f count (g .passed)) in
+    rw (g .model, refs-count f count) (g .index ∙ sym e)
+
+-- entry i of an accepted file is given, with one of the four usages: 12 is no answer of its
+pub entry-given : (f : List ℕ) (i : ℕ) → plainVerdict f ≡ accept → i < length (indexOf f)
+    → (x : Usage) × (entryOf f i ≡ Given (record { usage = x; number = getD (indexOf f) i noEntry .number; start = getD (indexOf f) i noEntry .start }))
+unfolding entriesFrom earlier
+entry-given f i h l =
+    let g = good f h in
+    let es : entriesFault plainRules (place (rd32 (drop 20 f))) (chunksFrom f (place (rd32 (drop 20 f)))) [] 24 (indexOf f) ≡ accept = rw (g .index) (g .passed .judged .entries) in
+    let k = not-unknown (getD (indexOf f) i noEntry .usage) _ refl (known-at f (place (rd32 (drop 20 f))) (indexOf f) [] 24 i noEntry es l) in
+    (k .0, given-as f i h l (k .0) (k .1))
+
+-- an entry of the index with the pair (u, n) and the start x: the lookup gives the chunk at x, and the part is that chunk's data
+pub lookup-found : (f : List ℕ) (u n i x : ℕ) → plainVerdict f ≡ accept → i < length (indexOf f) → getD (indexOf f) i noEntry ≡ record { usage = u; number = n; start = x }
+    → (lookupOf f u n ≡ Found (chunkAt f x .type) (x + 8) (length (chunkAt f x .body))) × (partOf (lookupOf f u n) f ≡ chunkAt f x .body)
+unfolding lookupOf entriesFrom earlier
+lookup-found f u n i x h l e =
+    let g = good f h in
+    let count : ℕ = rd32 (drop 20 f) in
+    let j : Judged f count = g .passed .judged in
+    let es : entriesFault plainRules (place count) (chunksFrom f (place count)) [] 24 (indexOf f) ≡ accept = rw (g .index) (j .entries) in
+    let a : hitIn u n (indexOf f) ≡ At x = rw e at (only-hit f (place count) (j .walks) (indexOf f) [] 24 i noEntry es l) in
+    let b = begun f x (place count) (j .walks) (hit-start f (place count) (j .walks) u n x (indexOf f) [] 24 es a) in
+    let found : lookupOf f u n ≡ Found (chunkAt f x .type) (x + 8) (length (chunkAt f x .body)) = rw (h, a) in
+    (found, ap (λ (r : Looked). partOf r f) found ∙ body-at f x (length (chunkAt f x .body)) (fine f x (b .below) (b .walks) .bodied))
+
+-- a lookup over the model finds the chunk c: the reader's lookup gives its type, where its data starts and how long it is, and the part is its data
+pub lookup-here : (f : List ℕ) (u n : ℕ) → plainVerdict f ≡ accept → (c : Chunk) → lookup (model f) u n ≡ here c
+    → (lookupOf f u n ≡ Found (c .type) (start (model f) (refAt (model f) (find u n (model f .refs)) .chunk) + 8) (length (c .body))) × (partOf (lookupOf f u n) f ≡ c .body)
+lookup-here f u n h c e =
+    either f u n h ((lookupOf f u n ≡ Found (c .type) (start (model f) (refAt (model f) (find u n (model f .refs)) .chunk) + 8) (length (c .body))) × (partOf (lookupOf f u n) f ≡ c .body))
+    (λ x t. let q : chunkAt f x ≡ c = cc (t .looked, e) in (rw (t .begins, ← q) (t .found), t .part ∙ ap (λ (k : Chunk). k .body) q))
+    (λ a. let z : _≡_ {A = ℕ} 0 1 = cc (a .looked, e) in absurd (omega arith))
+
+-- it finds nothing: the reader's lookup is refused with 22
+pub lookup-nowhere : (f : List ℕ) (u n : ℕ) → plainVerdict f ≡ accept → lookup (model f) u n ≡ missing → lookupOf f u n ≡ Missing 22 0
+lookup-nowhere f u n h e =
+    either f u n h (lookupOf f u n ≡ Missing 22 0)
+    (λ x t. let z : _≡_ {A = ℕ} 0 1 = cc (t .looked, e) in absurd (omega arith))
+    (λ a. a .found)
+
+-- the lookup is refused with 22 exactly if no entry has the pair
+pub lookup-missing : (f : List ℕ) (u n : ℕ) → plainVerdict f ≡ accept
+    → (lookupOf f u n ≡ Missing 22 0 → pairIn u n (model f .refs) ≡ false) × (pairIn u n (model f .refs) ≡ false → lookupOf f u n ≡ Missing 22 0)
+lookup-missing f u n h =
+    either f u n h ((lookupOf f u n ≡ Missing 22 0 → pairIn u n (model f .refs) ≡ false) × (pairIn u n (model f .refs) ≡ false → lookupOf f u n ≡ Missing 22 0))
+    (λ x t. (
+      λ e. let z : _≡_ {A = ℕ} 0 1 = cc (t .found, e) in absurd (omega arith),
+      λ e. let z : _≡_ {A = ℕ} 0 1 = cc (t .pair, e) in absurd (omega arith),
+    ))
+    (λ a. (λ e. a .pair, λ e. a .found))

@@ -1,0 +1,22 @@
+use Rattle.reader.proofs.PartLaws.{before-base}
+use borrow.Author.Needs.{needs}
+use Rattle.reader.proofs.parts.begins_at.Statement.{statement}
+use Rattle.reader.proofs.parts.begins_at.Tie as tie
+use Rattle.reader.proofs.parts.begins_at.Reads as reads
+use Rattle.reader.proofs.parts.begins_at.Lts as lts
+use Rattle.reader.proofs.chunks.begins.Reads as begins-reads
+
+-- src/parts.rt:99:9
+returns : tie.Need-returns
+returns c = before-base _ _ _ (c .if1 .taken)
+
+-- src/parts.rt:101:5
+begins-requires : tie.Need-begins-requires
+begins-requires c κs = search needs
+
+-- src/parts.rt:94:1
+returns-2 : tie.Need-returns-2
+returns-2 c = search needs
+
+pub begins-at-spec : {M : Type 1} → statement M
+begins-at-spec = tie.close (tie.spec returns begins-requires returns-2)

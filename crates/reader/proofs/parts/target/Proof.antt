@@ -1,0 +1,28 @@
+use denote.Ref.{now}
+use Rattle.reader.proofs.PartLaws.{target-there, target-none}
+use borrow.Author.Needs.{needs}
+use Rattle.reader.proofs.parts.target.Statement.{statement}
+use Rattle.reader.proofs.parts.target.Tie as tie
+use Rattle.reader.proofs.parts.target.Reads as reads
+use Rattle.reader.proofs.parts.target.Lts as lts
+use Rattle.reader.proofs.entries.find_place.Reads as find-place-reads
+use Rattle.reader.proofs.parts.piece.Reads as piece-reads
+
+-- src/parts.rt:57:9
+find-place-requires : tie.Need-find-place-requires
+find-place-requires c κs = search needs
+
+-- src/parts.rt:59:27
+piece-requires : tie.Need-piece-requires
+piece-requires c κs = search needs
+
+-- src/parts.rt:59:9
+returns : tie.Need-returns
+returns c = target-there (now (c .before .before .before .before .args .s)) _ _ _ _ (c .before .before .find-place .ensures .0) (c .before .if1 .taken) _ (c .piece .ensures)
+
+-- src/parts.rt:53:1
+returns-2 : tie.Need-returns-2
+returns-2 c = target-none (now (c .before .before .before .args .s)) _ _ _ _ (c .before .find-place .ensures .0) (c .if1 .left)
+
+pub target-spec : {M : Type 1} → statement M
+target-spec = tie.close (tie.spec find-place-requires piece-requires returns returns-2)

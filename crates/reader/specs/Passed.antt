@@ -1,0 +1,54 @@
+-- A file that the reader has passed, by its offsets: what is known of it, its model, and its frontispiece.
+use Prim.Native.Nat.{ℕ, _+_, _≤_}
+use mathlib.Core.Path.{_≡_}
+use mathlib.Core.List.{List, [], _∷_, map}
+use mathlib.Core.Bool.{Bool, true, false}
+use lib.ListN.{length, drop}
+use lib.Dec.{eqb}
+use Rattle.blorb.specs.Bytes.{rd32}
+use Rattle.blorb.specs.Format.{Chunk, size, refOf, entriesIn}
+use Rattle.blorb.specs.Verdict.{accept}
+use Rattle.blorb.specs.Tags.{Fspc}
+use Rattle.blorb.specs.Model.{Model}
+use Rattle.reader.specs.Plain.{allPlain}
+use Rattle.reader.specs.Walk.{chunksFrom}
+use Rattle.reader.specs.Entries.{place}
+use Rattle.reader.specs.Optional.{optionalFault, Judged}
+use Rattle.reader.specs.Reading.{readOf}
+use Rattle.reader.specs.declared.Reading.the-variants.{Accepted, Refused}
+use Rattle.reader.specs.declared.Judgement.{Judgement}
+use Rattle.reader.specs.declared.Judgement.the-variants as judgement
+use Rattle.reader.specs.declared.Front.{Front}
+use Rattle.reader.specs.declared.Front.the-variants as front
+
+-- a judgement is the reading of the file; plain is told only where every chunk behind the index is
+abbrev pub Judges : Judgement → List ℕ → Type 0
+Judges (judgement.Good n plain) f = (Accepted (length f) n ≡ readOf f) × (plain ≡ true → allPlain (chunksFrom f (place n)) ≡ true)
+Judges (judgement.Refused k p) f = Refused k p ≡ readOf f
+
+-- what is known once rules 1 to 19 hold of a file with count entries
+pub record Passed (f : List ℕ) (count : ℕ) : Type 0 where
+  pub judged : Judged f count
+  pub optional : optionalFault f count ≡ accept
+  pub short : length f ≤ 16777216
+
+-- the model of such a file
+abbrev pub modelAt : List ℕ → ℕ → Model
+modelAt f count = record {
+  refs = map (refOf (place count) (chunksFrom f (place count))) (entriesIn count (drop 24 f));
+  chunks = chunksFrom f (place count);
+}
+
+-- each frontispiece holds one number
+abbrev pub Fronts : List Chunk → Type 0
+Fronts [] = Unit {0}
+Fronts (c ∷ cs) = (c .type ≡ Fspc → length (c .body) ≡ 4) × Fronts cs
+
+-- the first frontispiece of the chunks that stand from at on
+abbrev pub pickFront : Bool → ℕ → ℕ → Front → Front
+pickFront true x n r = front.At x n
+pickFront false x n r = r
+
+unfoldable pub frontFrom : ℕ → List Chunk → Front
+frontFrom at [] = front.Nothing
+frontFrom at (c ∷ cs) = pickFront (eqb (c .type) Fspc) at (rd32 (c .body)) (frontFrom (at + size c) cs)
