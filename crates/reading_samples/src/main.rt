@@ -9,7 +9,6 @@ use libc::STDOUT_FILENO;
 use reader::Asked;
 use reader::Looked;
 use reader::Reading;
-
 ghost use mathlib.Core.Path.{_≡_};
 ghost use Prim.Native.Nat.{_<_};
 ghost use lib.ListN.{length};

@@ -1,11 +1,9 @@
+-- Each row lies in the rows. Nothing has to hold from turn to turn.
 use borrow.Author.Needs.{needs}
 use native.Mathlib.Omega.{arith}
 use Prim.Native.Nat.{_-_}
 use Rattle.reading_samples.proofs.ask_all.Statement.{statement}
 use Rattle.reading_samples.proofs.ask_all.Tie as tie
-use Rattle.reading_samples.proofs.ask_all.Reads as reads
-use Rattle.reading_samples.proofs.ask_all.Lts as lts
-use Rattle.reading_samples.proofs.ask.Reads as ask-reads
 
 abbrev Inv-loop : tie.InvT-loop
 Inv-loop file rows pair k₀ k-end k = Unit {0}
@@ -13,47 +11,36 @@ Inv-loop file rows pair k₀ k-end k = Unit {0}
 abbrev μ-loop : tie.MeasureT-loop
 μ-loop file rows pair k₀ k-end k = k-end - k
 
--- src/main.rt:144:5
 loop-holds : tie.Need-loop-holds Inv-loop μ-loop
 loop-holds c = search needs
 
--- src/main.rt:145:18
 mul-at : tie.Need-mul-at Inv-loop μ-loop
 mul-at c = search needs
 
--- src/main.rt:146:19
 add-end : tie.Need-add-end Inv-loop μ-loop
 add-end c = search needs
 
--- src/main.rt:147:19
 sub-ask : tie.Need-sub-ask Inv-loop μ-loop
 sub-ask c = search needs
 
--- src/main.rt:147:19
 part-ask-start : tie.Need-part-ask-start Inv-loop μ-loop
 part-ask-start c = search needs
 
--- src/main.rt:147:19
 part-ask-end : tie.Need-part-ask-end Inv-loop μ-loop
 part-ask-end c = search needs
 
--- src/main.rt:147:9
 ask-requires : tie.Need-ask-requires Inv-loop μ-loop
 ask-requires c κs = search needs
 
--- src/main.rt:144:9
 add-k : tie.Need-add-k Inv-loop μ-loop
 add-k c = search needs
 
--- src/main.rt:144:5
 loop-less : tie.Need-loop-less Inv-loop μ-loop
 loop-less c = search needs
 
--- src/main.rt:144:5
 loop-again : tie.Need-loop-again Inv-loop μ-loop
 loop-again c = search needs
 
--- src/main.rt:143:1
 returns : tie.Need-returns Inv-loop μ-loop
 returns c = search needs
 

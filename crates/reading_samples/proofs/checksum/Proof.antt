@@ -1,11 +1,9 @@
+-- Safe whatever the bytes are: the remainder keeps the sum small. Nothing has to hold from turn to turn.
 use borrow.Author.Needs.{needs}
 use native.Mathlib.Omega.{arith}
 use Prim.Native.Nat.{_-_}
 use Rattle.reading_samples.proofs.checksum.Statement.{statement}
 use Rattle.reading_samples.proofs.checksum.Tie as tie
-use Rattle.reading_samples.proofs.checksum.Reads as reads
-use Rattle.reading_samples.proofs.checksum.Lts as lts
-use Rattle.reading_samples.proofs.wide.Reads as wide-reads
 
 abbrev Inv-loop : tie.InvT-loop
 Inv-loop s sum₀ i₀ i-end sum i = Unit {0}
@@ -13,43 +11,33 @@ Inv-loop s sum₀ i₀ i-end sum i = Unit {0}
 abbrev μ-loop : tie.MeasureT-loop
 μ-loop s sum₀ i₀ i-end sum i = i-end - i
 
--- src/main.rt:89:5
 loop-holds : tie.Need-loop-holds Inv-loop μ-loop
 loop-holds c = search needs
 
--- src/main.rt:90:15
 mul-sum : tie.Need-mul-sum Inv-loop μ-loop
 mul-sum c = search needs
 
--- src/main.rt:90:45
 shared-slice-read-wide : tie.Need-shared-slice-read-wide Inv-loop μ-loop
 shared-slice-read-wide c = search needs
 
--- src/main.rt:90:40
 wide-requires : tie.Need-wide-requires Inv-loop μ-loop
 wide-requires c κs = search needs
 
--- src/main.rt:90:15
 add-sum : tie.Need-add-sum Inv-loop μ-loop
 add-sum c = search needs
 
--- src/main.rt:90:15
 add-sum-2 : tie.Need-add-sum-2 Inv-loop μ-loop
 add-sum-2 c = search needs
 
--- src/main.rt:89:9
 add-i : tie.Need-add-i Inv-loop μ-loop
 add-i c = search needs
 
--- src/main.rt:89:5
 loop-less : tie.Need-loop-less Inv-loop μ-loop
 loop-less c = search needs
 
--- src/main.rt:89:5
 loop-again : tie.Need-loop-again Inv-loop μ-loop
 loop-again c = search needs
 
--- src/main.rt:87:1
 returns : tie.Need-returns Inv-loop μ-loop
 returns c = search needs
 

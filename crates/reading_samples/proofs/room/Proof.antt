@@ -5,7 +5,6 @@ use lib.ListN.{length-replicate}
 use Rattle.reading_samples.proofs.room.Statement.{statement}
 use Rattle.reading_samples.proofs.room.Tie as tie
 
--- src/main.rt:17:1
 returns : tie.Need-returns
 returns c = sym (length-replicate {0} {A = ℕ} 1048576 0)
 

@@ -1,13 +1,10 @@
+-- The place of the next sample rises, whatever `sample` answers. Nothing has to hold from turn to turn.
 use borrow.Author.Needs.{needs}
 use native.Mathlib.Omega.{arith}
 use Prim.Native.Nat.{_-_}
 use lib.ListN.{length}
 use Rattle.reading_samples.proofs.samples.Statement.{statement}
 use Rattle.reading_samples.proofs.samples.Tie as tie
-use Rattle.reading_samples.proofs.samples.Reads as reads
-use Rattle.reading_samples.proofs.samples.Lts as lts
-use Rattle.reading_samples.proofs.sample.Reads as sample-reads
-use Rattle.reading_samples.proofs.text.Reads as text-reads
 
 abbrev Inv-loop : tie.InvT-loop
 Inv-loop s at₀ t4 at = Unit {0}
@@ -15,35 +12,27 @@ Inv-loop s at₀ t4 at = Unit {0}
 abbrev μ-loop : tie.MeasureT-loop
 μ-loop s at₀ t4 at = length s - at
 
--- src/main.rt:171:5
 loop-holds : tie.Need-loop-holds Inv-loop μ-loop
 loop-holds c = search needs
 
--- src/main.rt:172:13
 sample-requires : tie.Need-sample-requires Inv-loop μ-loop
 sample-requires c κs = search needs
 
--- src/main.rt:174:18
 slice-aggregate-text : tie.Need-slice-aggregate-text Inv-loop μ-loop
 slice-aggregate-text c = search needs
 
--- src/main.rt:174:13
 text-requires : tie.Need-text-requires Inv-loop μ-loop
 text-requires c κs = search needs
 
--- src/main.rt:175:13
 returns : tie.Need-returns Inv-loop μ-loop
 returns c = search needs
 
--- src/main.rt:171:5
 loop-less : tie.Need-loop-less Inv-loop μ-loop
 loop-less c = search needs
 
--- src/main.rt:171:5
 loop-again : tie.Need-loop-again Inv-loop μ-loop
 loop-again c = search needs
 
--- src/main.rt:169:1
 returns-2 : tie.Need-returns-2 Inv-loop μ-loop
 returns-2 c = search needs
 
