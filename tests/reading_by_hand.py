@@ -317,6 +317,7 @@ sample("17/19 a picture, then a second", pictures(fspc(3), RELN, RELN), (19, 80)
 sample("18/19 in one chunk", pictures((b"Fspc", be(3) + b"x")), (18, 76))
 sample("18/19 a length, then a picture", pictures((b"RelN", b""), fspc(3)), (18, 76))
 sample("18/19 a picture, then a length", pictures(fspc(3), (b"RelN", b"")), (19, 80))
+sample("an unknown usage twice (A9)", rows([(b"data", 7, 48), (b"data", 7, 48)], TEXT), (12, 24))
 sample("A8: 16, then 12", blorb([(DATA, 7, 0), (DATA, 7, 0), (b"data", 1, 0)], [TEXT]), (16, 36))
 
 # ---- 12 to 16: two faults in two entries, in both orders (and twice the same)
