@@ -1,0 +1,194 @@
+// Runs the reader on the sample files that stand packed on standard input, and says what it answers.
+//
+// A packed sample: four numbers of four bytes (the length of its name, the length of its file, how many entries and
+// how many pairs are asked), the name, the file, eight bytes for each entry's number, four bytes of usage and four of
+// number for each pair. The next sample follows at once; tests/make_reading_samples.py writes them.
+use blorb::Entry;
+use libc::STDIN_FILENO;
+use libc::STDOUT_FILENO;
+use reader::Asked;
+use reader::Looked;
+use reader::Reading;
+ghost use mathlib.Core.Path.{_≡_};
+ghost use Prim.Native.Nat.{_<_};
+ghost use lib.ListN.{length};
+
+fn room() -> [u8; 1048576]
+    ensures { λ r. ⌜ 1048576 ≡ length r ⌝ }
+{
+    [0; 1048576]
+}
+
+fn text(s: &[u8]) {
+    io::write_all(STDOUT_FILENO, s);
+}
+
+fn number(n: u64) {
+    io::print_decimal(STDOUT_FILENO, n);
+}
+
+// The four bytes of a usage or a type.
+fn tag(code: u64) {
+    text(
+        &[
+            (code / 16777216 % 256) as u8,
+            (code / 65536 % 256) as u8,
+            (code / 256 % 256) as u8,
+            (code % 256) as u8,
+        ],
+    );
+}
+
+fn refused(k: u64, place: usize) {
+    text(b"refused ");
+    number(k);
+    text(b" at ");
+    number(place as u64);
+}
+
+fn verdict(file: &[u8]) {
+    match reader::read(file) {
+        Reading::Accepted { length, count } => {
+            text(b"accepted ");
+            number(length as u64);
+            text(b" bytes ");
+            number(count as u64);
+            text(b" entries\n");
+        }
+        Reading::Refused { number, place } => {
+            refused(number, place);
+            text(b"\n");
+        }
+    }
+}
+
+fn given(e: Entry) {
+    let u = e.usage;
+    tag(u.code());
+    text(b" ");
+    number(e.number as u64);
+    text(b" at ");
+    number(e.start as u64);
+}
+
+fn ask_entry(file: &[u8], i: usize) {
+    text(b" entry ");
+    number(i as u64);
+    text(b": ");
+    match reader::entry(file, i) {
+        Asked::Given(e) => given(e),
+        Asked::Refused { number, place } => refused(number, place),
+    }
+    text(b"\n");
+}
+
+fn wide(x: u8) -> u64
+    ensures { λ r. ⌜ r < 256 ⌝ }
+{
+    x as u64
+}
+
+// A sum of the bytes that knows their order.
+fn checksum(s: &[u8]) -> u64 {
+    let mut sum = 0;
+    for i in 0..s.len() {
+        sum = sum % 4294967291 * 257 + wide(s[i]) + 1;
+    }
+    sum
+}
+
+fn ask_pair(file: &[u8], usage: [u8; 4], n: u32) {
+    text(b" ");
+    text(&usage);
+    text(b" ");
+    number(n as u64);
+    text(b": ");
+    match reader::lookup(file, usage, n) {
+        Looked::Found {
+            kind,
+            start,
+            length,
+        } => {
+            tag(kind as u64);
+            text(b" at ");
+            number(start as u64);
+            text(b" length ");
+            number(length as u64);
+        }
+        Looked::Refused { number, place } => refused(number, place),
+    }
+    let part = reader::data(file, usage, n);
+    text(b"; part ");
+    number(part.len() as u64);
+    text(b" sum ");
+    number(checksum(part));
+    text(b"\n");
+}
+
+// One row of eight bytes: a pair, or an entry's number.
+fn ask(file: &[u8], row: &[u8], pair: bool) {
+    if row.len() < 8 {
+        return;
+    }
+    let high = blorb::be32_at(row, 0);
+    let low = blorb::be32_at(row, 4);
+    if pair {
+        ask_pair(file, [row[0], row[1], row[2], row[3]], low as u32);
+    } else {
+        ask_entry(file, (high * 4294967296 + low) as usize);
+    }
+}
+
+fn ask_all(file: &[u8], rows: &[u8], pair: bool) {
+    for k in 0..rows.len() / 8 {
+        let at = 8 * k;
+        let end = at + 8;
+        ask(file, &rows[at..end], pair);
+    }
+}
+
+// The sample at `at`. Answers where the next one stands, or 0 where the packing is bad.
+fn sample(s: &[u8], at: usize) -> usize {
+    if s.len() < 16 {
+        return 0;
+    }
+    if s.len() - 16 < at {
+        return 0;
+    }
+    let name = at + 16;
+    let file = name + blorb::be32_at(s, at) as usize;
+    let asked = file + blorb::be32_at(s, at + 4) as usize;
+    let paired = asked + 8 * blorb::be32_at(s, at + 8) as usize;
+    let end = paired + 8 * blorb::be32_at(s, at + 12) as usize;
+    if s.len() < end {
+        return 0;
+    }
+    text(&s[name..file]);
+    text(b": ");
+    verdict(&s[file..asked]);
+    ask_all(&s[file..asked], &s[asked..paired], false);
+    ask_all(&s[file..asked], &s[paired..end], true);
+    end
+}
+
+fn samples(s: &[u8]) {
+    let mut at = 0;
+    while at < s.len() {
+        let next = sample(s, at);
+        if next <= at {
+            text(b"bad packing\n");
+            return;
+        }
+        at = next;
+    }
+}
+
+fn main() {
+    let mut buffer = room();
+    let n = io::read_full(STDIN_FILENO, &mut buffer);
+    if 1048575 < n {
+        text(b"too long\n");
+        return;
+    }
+    samples(&buffer[..n]);
+}
