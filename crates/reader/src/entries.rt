@@ -58,7 +58,7 @@ pub(crate) fn shape(s: &[u8]) -> Check
 // The place of the entry (code, number) among `count` entries: `count` where there is none.
 pub(crate) fn find_place(s: &[u8], count: usize, code: u64, number: u64) -> usize
     requires { ⌜ (count ≤ 4096) × (place count ≤ length (now s)) ⌝ }
-    ensures { λ r. ⌜ (r ≡ pairPlace code number (entriesIn count (drop 24 (now (s .entry))))) × (r ≤ count) ⌝ }
+    ensures { λ r. ⌜ r ≡ pairPlace code number (entriesIn count (drop 24 (now (s .entry)))) ⌝ }
 {
     let mut i: usize = 0;
     while i < count {

@@ -30,11 +30,11 @@ be32-at-requires c κs = search needs
 
 -- src/entries.rt:81:9
 returns : tie.Need-returns
-returns c = find-at _ _ _ _ _ (c .before .before .find-place .ensures .0) (c .before .if1 .taken) _ (c .be32-at .ensures .0)
+returns c = find-at _ _ _ _ _ (c .before .before .find-place .ensures) (c .before .if1 .taken) _ (c .be32-at .ensures .0)
 
 -- src/entries.rt:75:1
 returns-2 : tie.Need-returns-2
-returns-2 c = find-none (now (c .before .before .before .args .s)) _ _ _ _ (c .before .find-place .ensures .0) (c .if1 .left)
+returns-2 c = find-none (now (c .before .before .before .args .s)) _ _ _ _ (c .before .find-place .ensures) (c .if1 .left)
 
 pub find-spec : {M : Type 1} → statement M
 find-spec =

@@ -48,7 +48,7 @@ be32-at-requires-2 c κs = search needs
 
 -- src/entries.rt:67:13
 returns : tie.Need-returns Inv-loop μ-loop
-returns c = (place-hit _ _ _ _ _ _ _ (c .before .before .before .loop-test .taken) (c .before .before .be32-at .ensures .0) (c .before .be32-at2 .ensures .0) (c .if1 .taken) ∙ c .before .before .before .before .loop .inv .1, c .before .before .before .before .loop .inv .0)
+returns c = place-hit _ _ _ _ _ _ _ (c .before .before .before .loop-test .taken) (c .before .before .be32-at .ensures .0) (c .before .be32-at2 .ensures .0) (c .if1 .taken) ∙ c .before .before .before .before .loop .inv .1
 
 -- src/entries.rt:69:9
 add-i : tie.Need-add-i Inv-loop μ-loop
@@ -69,7 +69,7 @@ returns-2 c =
     let l = c .before .loop in
     let z : a .count - l .i ≡ 0 = omega arith in
     let e : l .i ≡ a .count = omega arith in
-    (sym e ∙ sym (ap (λ (k : ℕ). l .i + pairPlace (a .code) (a .number) (entriesIn k (drop (place (l .i)) (now (a .s))))) z ∙ place-end (now (a .s)) (a .code) (a .number) (l .i)) ∙ l .inv .1, omega arith)
+    sym e ∙ sym (ap (λ (k : ℕ). l .i + pairPlace (a .code) (a .number) (entriesIn k (drop (place (l .i)) (now (a .s))))) z ∙ place-end (now (a .s)) (a .code) (a .number) (l .i)) ∙ l .inv .1
 
 pub find-place-spec : {M : Type 1} → statement M
 find-place-spec =
