@@ -18,11 +18,11 @@ piece-requires c κs = search needs
 
 -- src/parts.rt:59:9
 returns : tie.Need-returns
-returns c = target-there (now (c .before .before .before .before .args .s)) _ _ _ _ (c .before .before .find-place .ensures .0) (c .before .if1 .taken) _ (c .piece .ensures)
+returns c = target-there (now (c .before .before .before .before .args .s)) _ _ _ _ (c .before .before .find-place .ensures) (c .before .if1 .taken) _ (c .piece .ensures)
 
 -- src/parts.rt:53:1
 returns-2 : tie.Need-returns-2
-returns-2 c = target-none (now (c .before .before .before .args .s)) _ _ _ _ (c .before .find-place .ensures .0) (c .if1 .left)
+returns-2 c = target-none (now (c .before .before .before .args .s)) _ _ _ _ (c .before .find-place .ensures) (c .if1 .left)
 
 pub target-spec : {M : Type 1} → statement M
 target-spec = tie.close (tie.spec find-place-requires piece-requires returns returns-2)
