@@ -25,3 +25,4 @@ pub mod UndoJudged
 pub mod FitFacts
 pub mod UndoTold
 pub mod InsertStarts
+pub mod BlankLaws

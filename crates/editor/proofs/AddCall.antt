@@ -1,0 +1,137 @@
+-- The ways out of an add.
+use mathlib.Core.Path.{_≡_, refl, sym, ap, _∙_}
+use Prim.Native.Nat.{ℕ, zero, suc, _+_, _*_, _-_, _≤_, _<_, _%_}
+use mathlib.Core.List.{List, [], _∷_, _++_}
+use mathlib.Core.Bool.{Bool, true, false, _&&_}
+use native.Mathlib.Omega.{arith}
+use lib.ListN.{length, take, drop}
+use lib.Seq.{length-take-le, take-length}
+use lib.Dec.{leb}
+use borrow.Author.Tests.{le-leb, lt-leb, leb-true}
+use Rattle.blorb.specs.Verdict.{Verdict, accept, refuse, _then_, check, verdict}
+use Rattle.blorb.specs.Rules.{plainRules}
+use Rattle.blorb.specs.Model.{Model, model, file}
+use Rattle.edits.specs.Edit.{Edit, add, added, edited, given}
+use Rattle.edits.specs.Journal.{recOf, recBytes, Rec}
+use Rattle.edits.proofs.JournalLaws.{length-recBytes}
+use Rattle.blorb.specs.All.{All}
+use Rattle.blorb.specs.Bytes.{Byte}
+use Rattle.blorb.proofs.Checks.{then-accept, check-accept, pass, accepts, stop}
+use Rattle.blorb.proofs.Accept.{accept-back, accept-short}
+use Rattle.edits.proofs.P13.{length-added}
+use Rattle.edits.specs.Run.{State, Call, edit, hundred, targetFault, editFault, editedFile, editRecord, fault, after, afterEdit, step, answered, noted, written}
+use Rattle.editor.specs.Moves.{recordOf}
+use Rattle.editor.specs.declared.moves.Entry.{Entry}
+use Rattle.editor.specs.declared.Outcome.{Outcome}
+use Rattle.editor.specs.declared.Outcome.the-variants as outcome
+use Rattle.editor.specs.declared.Answer.{Answer}
+use Rattle.editor.specs.declared.Plan.{Plan}
+use Rattle.editor.specs.declared.Plan.the-variants.{Go, No}
+use Rattle.reader.specs.declared.Facts.{Facts}
+use Rattle.reader.specs.declared.Inspection.the-variants.{Whole, Refused}
+use Rattle.reader.specs.Inspecting.{targetOf}
+use Rattle.editor.specs.Post.{verdictOf, planOf, state, Called, Stands}
+use Rattle.editor.proofs.OpenLaws.{asked, asked-refused, asked-whole}
+use Rattle.editor.proofs.Writes.{file-length, size-given}
+use Rattle.editor.proofs.CallLaws.{plan-go, hundred-fine, open-stands, stands-part, opening, edit-unopened, edit-judged, edit-no-room, edit-no-journal, edit-fine, called-refused, called-done}
+
+module _ (b : List ℕ) (l J U u n t : ℕ) (d : List ℕ) (bytes : All Byte (take l b)) where
+  abbrev pub f : List ℕ
+  f = take l b
+
+  abbrev pub E : Edit
+  E = add u n t d
+
+  abbrev pub K : ℕ
+  K = length (model f .refs)
+
+  abbrev pub Vd : Verdict
+  Vd = editFault plainRules (length b) J f l U E
+
+  abbrev pub O : Verdict
+  O = check (leb l (length b) && leb U J) 20 0 then verdict plainRules f
+
+  on-target : targetFault (model f) E ≡ accept
+  unfolding targetFault
+  on-target = refl
+
+  record-29 : length (editRecord f E) ≡ 29
+  unfolding editRecord recOf
+  record-29 = length-recBytes _
+
+  pub add-length : O ≡ accept → length (editedFile f E) ≡ l + (20 + (length d + length d % 2))
+  unfolding editedFile edited
+  add-length h =
+      let st = open-stands b l U J K bytes h refl in
+      let g = accept-back plainRules f bytes (st .0 .fine) in
+      let lf : length (file (model f)) ≡ l = ap length (g .0) ∙ length-take-le l b (st .0 .inside) in
+      length-added (model f) u n (given t d) ∙ omega (arith, size-given t d)
+
+  pub plan-unopened : (x k p : ℕ) → asked b l J U u n x ≡ Refused k p → No k p ≡ planOf Vd K
+  plan-unopened x k p e = ap (λ (v : Verdict). planOf v K) (sym (edit-unopened (length b) J f l U E k p (asked-refused b l J U u n x k p e)))
+
+  module _ (x : ℕ) (fs : Facts) (op : asked b l J U u n x ≡ Whole fs) where
+    ok : O ≡ accept
+    ok = asked-whole b l J U u n x fs op .0
+
+    count-is : fs .count ≡ K
+    count-is = ap (λ (z : Facts). z .count) (asked-whole b l J U u n x fs op .1)
+
+    pub told-stands : Stands b l (fs .count) × (U ≤ J)
+    told-stands = open-stands b l U J (fs .count) bytes ok count-is
+
+    -- what add_fault asks
+    pub told-pair : Stands f (length f) (fs .count) × (fs .target ≡ targetOf (model f) u n)
+    told-pair = (stands-part b l (fs .count) (told-stands .0), ap (λ (z : Facts). z .target) (asked-whole b l J U u n x fs op .1))
+
+    module _ (r : Outcome) (judged : verdictOf r ≡ hundred (verdict plainRules (editedFile f E))) where
+      pub plan-judged : (k p : ℕ) → r ≡ outcome.Refused k p → No k p ≡ planOf Vd K
+      plan-judged k p e = ap (λ (v : Verdict). planOf v K) (sym (edit-judged (length b) J f l U E k p ok on-target (sym judged ∙ ap verdictOf e)))
+
+      pub plan-24 : r ≡ outcome.Done → length b - l < 20 + (length d + length d % 2) → No 24 0 ≡ planOf Vd K
+      plan-24 e h =
+          let lt : length b < length (editedFile f E) = omega (arith, add-length ok, told-stands .0 .inside) in
+          ap (λ (v : Verdict). planOf v K) (sym (edit-no-room (length b) J f l U E ok on-target (sym judged ∙ ap verdictOf e) lt))
+
+      pub plan-25 : r ≡ outcome.Done → 20 + (length d + length d % 2) ≤ length b - l → J - U < 29 → No 25 0 ≡ planOf Vd K
+      plan-25 e h g =
+          let le : length (editedFile f E) ≤ length b = omega (arith, add-length ok, told-stands .0 .inside) in
+          let lt : J < U + length (editRecord f E) = omega (arith, record-29, told-stands .1) in
+          ap (λ (v : Verdict). planOf v K) (sym (edit-no-journal (length b) J f l U E ok on-target (sym judged ∙ ap verdictOf e) le lt))
+
+      pub plan-fine : r ≡ outcome.Done → 20 + (length d + length d % 2) ≤ length b - l → 29 ≤ J - U → Go (fs .count) ≡ planOf Vd K
+      plan-fine e h g =
+          let le : length (editedFile f E) ≤ length b = omega (arith, add-length ok, told-stands .0 .inside) in
+          let lt : U + length (editRecord f E) ≤ J = omega (arith, record-29, told-stands .1) in
+          ap Go count-is ∙ ap (λ (v : Verdict). planOf v K) (sym (edit-fine (length b) J f l U E ok on-target (sym judged ∙ ap verdictOf e) le lt))
+
+  -- what a plan to go on tells
+  pub record Ready (k : ℕ) : Type 0 where
+    pub stands : Stands b l k
+    pub room : l + (20 + (length d + length d % 2)) ≤ length b
+    pub short : l + (20 + (length d + length d % 2)) ≤ 16777216
+    pub journal-room : U + 29 ≤ J
+    pub fine : Vd ≡ accept
+    pub new-length : l + (20 + (length d + length d % 2)) ≡ length (editedFile f E)
+    pub new-record : 29 ≡ length (editRecord f E)
+
+  pub ready : (k : ℕ) → planOf Vd K ≡ Go k → Ready k
+  unfolding editFault
+  ready k e =
+      let q = plan-go Vd K k e in
+      let h1 = then-accept _ _ (q .0) in
+      let h2 = then-accept _ _ (h1 .1) in
+      let h3 = then-accept _ _ (h2 .1) in
+      let h4 = then-accept _ _ (h3 .1) in
+      let h5 = then-accept _ _ (h4 .1) in
+      let o : O ≡ accept = accepts _ _ (h1 .0) ∙ h2 .0 in
+      let room : length (editedFile f E) ≤ length b = leb-true _ _ (check-accept _ _ _ (h5 .0)) in
+      let jr : U + length (editRecord f E) ≤ J = leb-true _ _ (check-accept _ _ _ (h5 .1)) in
+      let sh = accept-short plainRules (editedFile f E) (hundred-fine _ (h4 .0)) in
+      let len = add-length o in
+      let r29 = record-29 in
+      record { stands = open-stands b l U J k bytes o (q .1) .0; room = omega arith; short = omega arith; journal-room = omega arith; fine = q .0; new-length = sym len; new-record = sym r29 }
+
+  pub record-written : (j : List ℕ) (k : ℕ) → k ≡ K → noted j U (recBytes (recordOf 1 (record { usage = u; number = n; start = 0 }) k 0 [])) ≡ noted j U (editRecord f E)
+  unfolding recordOf editRecord recOf
+  record-written j k e = rw e

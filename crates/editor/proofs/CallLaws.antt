@@ -1,0 +1,131 @@
+-- From plans to the promise of a call.
+use mathlib.Core.Path.{_≡_, refl, sym, ap, subst, _∙_}
+use Prim.Native.Nat.{ℕ, zero, suc, _+_, _*_, _-_, _≤_, _<_, _%_}
+use mathlib.Core.List.{List, [], _∷_, _++_}
+use mathlib.Core.Bool.{Bool, true, false, _&&_}
+use native.Mathlib.Omega.{arith}
+use lib.ListN.{length, take, drop, length-drop}
+use lib.Seq.{length-take-le, take-length, take-all}
+use lib.Dec.{leb}
+use borrow.Author.Tests.{le-leb, lt-leb, leb-true}
+use Rattle.blorb.specs.Verdict.{Verdict, accept, refuse, _then_, check, verdict}
+use Rattle.blorb.specs.Rules.{plainRules}
+use Rattle.blorb.specs.Model.{Model, model, file}
+use Rattle.edits.specs.Edit.{Edit, add, added, edited, given}
+use Rattle.edits.specs.Journal.{recOf, recBytes, Rec}
+use Rattle.edits.proofs.JournalLaws.{length-recBytes}
+use Rattle.blorb.specs.All.{All}
+use Rattle.blorb.specs.Bytes.{Byte}
+use Rattle.blorb.proofs.Checks.{then-accept, check-accept, pass, accepts, stop}
+use Rattle.blorb.proofs.Accept.{accept-back}
+use Rattle.edits.proofs.AddVerdict.{then-assoc}
+use Rattle.edits.proofs.P13.{length-added}
+use Rattle.edits.specs.Run.{State, Call, edit, hundred, targetFault, editFault, editedFile, editRecord, fault, after, afterEdit, step, answered}
+use Rattle.editor.specs.declared.Outcome.the-variants.{Done, Refused}
+use Rattle.editor.specs.declared.Answer.{Answer}
+use Rattle.editor.specs.declared.Plan.{Plan}
+use Rattle.editor.specs.declared.Plan.the-variants.{Go, No}
+use Rattle.editor.specs.Post.{verdictOf, planOf, Called, Stands, blankAnswer}
+use Rattle.editor.proofs.Writes.{file-length, size-given}
+
+and-parts : (a b : Bool) → a && b ≡ true → (a ≡ true) × (b ≡ true)
+and-parts true b h = (refl, h)
+and-parts false b h = (h, cc)
+
+pub plan-no : (v : Verdict) (k n p : ℕ) → planOf v k ≡ No n p → v ≡ refuse n p
+plan-no accept k n p e = let z : _≡_ {A = ℕ} 0 1 = cc in absurd (omega arith)
+plan-no (refuse a b) k n p e = cc
+
+pub plan-go : (v : Verdict) (k i : ℕ) → planOf v k ≡ Go i → (v ≡ accept) × (i ≡ k)
+plan-go accept k i e = (refl, cc)
+plan-go (refuse a b) k i e = let z : _≡_ {A = ℕ} 0 1 = cc in absurd (omega arith)
+
+pub hundred-fine : (v : Verdict) → hundred v ≡ accept → v ≡ accept
+hundred-fine accept h = refl
+hundred-fine (refuse k p) h = cc
+
+-- what is known once 20 and the reader's refusals are past
+pub open-stands : (b : List ℕ) (l u J k : ℕ) → All Byte (take l b) → check (leb l (length b) && leb u J) 20 0 then verdict plainRules (take l b) ≡ accept → k ≡ length (model (take l b) .refs)
+    → Stands b l k × (u ≤ J)
+open-stands b l u J k bytes h e =
+    let a = then-accept _ _ h in
+    let p = and-parts _ _ (check-accept _ _ _ (a .0)) in
+    let inside : l ≤ length b = leb-true _ _ (p .0) in
+    let g = accept-back plainRules (take l b) bytes (a .1) in
+    let len : length (take l b) ≡ l = length-take-le l b inside in
+    let fl : length (file (model (take l b))) ≡ length (take l b) = ap length (g .0) in
+    (record { inside = inside; fine = a .1; entries = e; index = omega (arith, file-length (model (take l b))); short = omega (arith, g .2) }, leb-true _ _ (p .1))
+
+-- the file by itself
+pub stands-part : (b : List ℕ) (l k : ℕ) → Stands b l k → Stands (take l b) (length (take l b)) k
+stands-part b l k s =
+    let len : length (take l b) ≡ l = length-take-le l b (s .inside) in
+    let e : take (length (take l b)) (take l b) ≡ take l b = take-length (take l b) in
+    record { inside = omega arith; fine = ap (verdict plainRules) e ∙ s .fine; entries = s .entries ∙ ap (λ (z : List ℕ). length (model z .refs)) (sym e); index = omega (arith, s .index); short = omega (arith, s .short) }
+
+-- an edit's refusals in their order
+module _ (N J : ℕ) (f : List ℕ) (L U : ℕ) (e : Edit) where
+  abbrev pub opening : Verdict
+  opening = check (leb L N && leb U J) 20 0 then verdict plainRules f
+
+  edit-split : editFault plainRules N J f L U e ≡ opening then (targetFault (model f) e then (hundred (verdict plainRules (editedFile f e)) then (check (leb (length (editedFile f e)) N) 24 0 then check (leb (U + length (editRecord f e)) J) 25 0)))
+  unfolding editFault
+  edit-split = sym (then-assoc _ _ _)
+
+  pub edit-unopened : (n p : ℕ) → opening ≡ refuse n p → editFault plainRules N J f L U e ≡ refuse n p
+  edit-unopened n p h = edit-split ∙ ap (λ (v : Verdict). v then (targetFault (model f) e then (hundred (verdict plainRules (editedFile f e)) then (check (leb (length (editedFile f e)) N) 24 0 then check (leb (U + length (editRecord f e)) J) 25 0)))) h ∙ (unfold _then_ in refl)
+
+  pub edit-off-target : (n p : ℕ) → opening ≡ accept → targetFault (model f) e ≡ refuse n p → editFault plainRules N J f L U e ≡ refuse n p
+  edit-off-target n p h t = edit-split ∙ accepts _ _ h ∙ ap (λ (v : Verdict). v then (hundred (verdict plainRules (editedFile f e)) then (check (leb (length (editedFile f e)) N) 24 0 then check (leb (U + length (editRecord f e)) J) 25 0))) t ∙ (unfold _then_ in refl)
+
+  pub edit-judged : (n p : ℕ) → opening ≡ accept → targetFault (model f) e ≡ accept → hundred (verdict plainRules (editedFile f e)) ≡ refuse n p → editFault plainRules N J f L U e ≡ refuse n p
+  edit-judged n p h t j = edit-split ∙ accepts _ _ h ∙ accepts _ _ t ∙ ap (λ (v : Verdict). v then (check (leb (length (editedFile f e)) N) 24 0 then check (leb (U + length (editRecord f e)) J) 25 0)) j ∙ (unfold _then_ in refl)
+
+  pub edit-room : opening ≡ accept → targetFault (model f) e ≡ accept → hundred (verdict plainRules (editedFile f e)) ≡ accept
+      → editFault plainRules N J f L U e ≡ check (leb (length (editedFile f e)) N) 24 0 then check (leb (U + length (editRecord f e)) J) 25 0
+  edit-room h t j = edit-split ∙ accepts _ _ h ∙ accepts _ _ t ∙ accepts _ _ j
+
+  pub edit-no-room : opening ≡ accept → targetFault (model f) e ≡ accept → hundred (verdict plainRules (editedFile f e)) ≡ accept
+      → N < length (editedFile f e) → editFault plainRules N J f L U e ≡ refuse 24 0
+  edit-no-room h t j lt = edit-room h t j ∙ stop _ _ _ _ (lt-leb _ _ lt)
+
+  pub edit-no-journal : opening ≡ accept → targetFault (model f) e ≡ accept → hundred (verdict plainRules (editedFile f e)) ≡ accept
+      → length (editedFile f e) ≤ N → J < U + length (editRecord f e) → editFault plainRules N J f L U e ≡ refuse 25 0
+  unfolding check
+  edit-no-journal h t j le lt = edit-room h t j ∙ pass _ _ _ _ (le-leb _ _ le) ∙ rw (lt-leb (U + length (editRecord f e)) J lt)
+
+  pub edit-fine : opening ≡ accept → targetFault (model f) e ≡ accept → hundred (verdict plainRules (editedFile f e)) ≡ accept
+      → length (editedFile f e) ≤ N → U + length (editRecord f e) ≤ J → editFault plainRules N J f L U e ≡ accept
+  unfolding check
+  edit-fine h t j le lt = edit-room h t j ∙ pass _ _ _ _ (le-leb _ _ le) ∙ rw (le-leb (U + length (editRecord f e)) J lt)
+
+-- a call's promise
+pub called-refused : (s : State) (c : Call) (n p : ℕ) → fault plainRules s c ≡ refuse n p
+    → Called s c (record { outcome = Refused n p; len = s .L; used = s .U }) (s .buffer) (s .journal)
+called-refused s c n p h =
+    let e : step plainRules s c ≡ s = (unfold step in ap (λ (v : Verdict). answered v s (after s c)) h) in
+    record { outcome = sym h; len = ap (λ (z : State). z .L) (sym e); used = ap (λ (z : State). z .U) (sym e); file = ap (λ (z : State). z .buffer) (sym e); journal = ap (λ (z : State). z .journal) (sym e) }
+
+pub called-done : (s : State) (c : Call) (l u : ℕ) (b j : List ℕ) → fault plainRules s c ≡ accept
+    → l ≡ after s c .L → u ≡ after s c .U → b ≡ after s c .buffer → j ≡ after s c .journal
+    → Called s c (record { outcome = Done; len = l; used = u }) b j
+called-done s c l u b j h el eu eb ej =
+    let e : step plainRules s c ≡ after s c = (unfold step in ap (λ (v : Verdict). answered v s (after s c)) h) in
+    record { outcome = sym h; len = el ∙ ap (λ (z : State). z .L) (sym e); used = eu ∙ ap (λ (z : State). z .U) (sym e); file = eb ∙ ap (λ (z : State). z .buffer) (sym e); journal = ej ∙ ap (λ (z : State). z .journal) (sym e) }
+
+pub called-as : (s : State) (c c′ : Call) (r : Answer) (b j : List ℕ) → c ≡ c′ → Called s c r b j → Called s c′ r b j
+called-as s c c′ r b j e h = subst (λ (z : Call). Called s z r b j) e h
+
+-- blank's two answers
+pub blank-refused : (N : ℕ) → N < 24 → _≡_ {A = Answer} (record { outcome = Refused 24 0; len = 0; used = 0 }) (blankAnswer (leb 24 N))
+blank-refused N h = rw (lt-leb 24 N h)
+
+pub blank-done : (N l u : ℕ) → 24 ≤ N → l ≡ 24 → u ≡ 0 → _≡_ {A = Answer} (record { outcome = Done; len = l; used = u }) (blankAnswer (leb 24 N))
+blank-done N l u h el eu = rw (le-leb 24 N h) (λ i. record { outcome = Done; len = el i; used = eu i })
+
+-- a part of n bytes from x on
+pub part-size : (x n : ℕ) → x + n - x ≡ n
+part-size x n = omega arith
+
+pub part-length : (b : List ℕ) (x n : ℕ) → x + n ≤ length b → length (take (x + n - x) (drop x b)) ≡ n
+part-length b x n h = let e : length (drop x b) ≡ length b - x = length-drop x b in length-take-le (x + n - x) (drop x b) (omega arith) ∙ part-size x n

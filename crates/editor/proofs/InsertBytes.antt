@@ -1,0 +1,292 @@
+-- The bytes of the undo of a removal, with the chunk or without.
+use mathlib.Core.Path.{_≡_, refl, sym, ap, _∙_}
+use Prim.Native.Nat.{ℕ, suc, _+_, _*_, _-_, _≤_, _%_}
+use mathlib.Core.List.{List, [], _∷_, _++_, map, append-assoc}
+use mathlib.Core.Bool.{true, cond}
+use native.Mathlib.Omega.{arith}
+use native.Mathlib.Nat.{sub-zero}
+use lib.ListN.{length, take, drop, length-append, length-map, length-drop, take-append-drop}
+use lib.Seq.{length-take-le, drop-append-le, drop-drop}
+use lib.Dec.{leb}
+use Rattle.blorb.specs.Bytes.{be32}
+use Rattle.blorb.specs.Format.{Chunk, Entry, size, entryBytes, entriesBytes, chunkBytes, chunksBytes, total, placeOf}
+use Rattle.blorb.specs.Rules.{plainRules}
+use Rattle.blorb.specs.Model.{Model, base, startAt, file, model}
+use Rattle.blorb.specs.Queries.{start}
+use Rattle.blorb.specs.All.{All}
+use Rattle.blorb.proofs.Sound.{Sound}
+use Rattle.blorb.specs.Bytes.{Byte}
+use Rattle.blorb.proofs.Accept.{accept-back}
+use Rattle.blorb.proofs.Codec.{EntryOk, length-entriesBytes, length-chunksBytes, length-chunkBytes}
+use Rattle.blorb.proofs.ModelLaws.{entries, entries-ok, total-take}
+use Rattle.blorb.proofs.Parts.{front, file-parts, length-front, chunks-append}
+use Rattle.edits.specs.Edit.{with-at, given}
+use Rattle.edits.specs.Journal.{Rec, oldChunk, oldPlace, undo3, undo4, fits3, fits4}
+use Rattle.edits.specs.Run.{noted, written}
+use Rattle.edits.proofs.Noted.{noted-over}
+use Rattle.edits.proofs.P13.{total-append}
+use Rattle.edits.proofs.Starts.{moved}
+use Rattle.edits.proofs.InsertStarts.{risen, length-with, starts-inserted, starts-relisted, fit3, fit4}
+use Rattle.editor.specs.Shift.{moved as slid}
+use Rattle.editor.specs.Moves.{startsMoved, relocated}
+use Rattle.editor.specs.declared.moves.Move.{Move}
+use Rattle.editor.specs.Post.{Stands, Insertable, goneRec}
+use Rattle.editor.proofs.Writes.{file-length, entries-append, entries-cons, chunks-cons, length-entry, entry-bytes, size-given, slid-right, starts-moved, written-longer}
+
+-- starts at or behind s: behind s - 1
+pub relocated-risen : (m : Move) (s a : ℕ) → 1 ≤ s → m .limit ≡ s - 1 → m .grow ≡ 12 + a → m .fall ≡ 0 → m .plus ≡ 12 → m .minus ≡ 0 → relocated m ≡ risen s a
+unfolding relocated
+relocated-risen m s a h p q r t w = λ i x. all x i
+  where
+    e : suc (s - 1) ≡ s
+    e = omega arith
+
+    all : (x : ℕ) → cond (leb (suc (m .limit)) x) (x + m .grow - m .fall) (x + m .plus - m .minus) ≡ risen s a x
+    all x = rw (p, q, r, t, w, e, sub-zero (x + (12 + a)), sub-zero (x + 12))
+
+-- the leaves, one after another, on any buffer that holds a front, entries and two parts behind them
+module _ (F : List ℕ) (es : List Entry) (f : ℕ → ℕ) (i n e : ℕ) (lF : length F ≡ 24) (ln : length es ≡ n) (ok : All EntryOk es) (hi : i ≤ n) (ee : e ≡ 24 + 12 * i) where
+  abbrev A : List ℕ
+  A = entriesBytes (take i (map (moved f) es))
+
+  abbrev B : List ℕ
+  B = entriesBytes (drop i (map (moved f) es))
+
+  lA : length A ≡ 12 * i
+  lA = length-entriesBytes (take i (map (moved f) es))
+      ∙ ap (λ (z : ℕ). 12 * z) (length-take-le i (map (moved f) es) (let l : length (map (moved f) es) ≡ length es = length-map es _ in omega arith))
+
+  lB : length B ≡ 12 * (n - i)
+  lB = length-entriesBytes (drop i (map (moved f) es))
+      ∙ ap (λ (z : ℕ). 12 * z) (length-drop i (map (moved f) es) ∙ ap (λ (z : ℕ). z - i) (length-map es _ ∙ ln))
+
+  lFA : length (F ++ A) ≡ e
+  lFA = length-append F A ∙ omega (arith, lA)
+
+  -- the starts, with the index cut at the place of the new entry
+  moved-cut : (s : List ℕ) → startsMoved f n 24 (F ++ (entriesBytes es ++ s)) ≡ (F ++ A) ++ (B ++ s)
+  moved-cut s =
+      let cut : entriesBytes (map (moved f) es) ≡ A ++ B
+      = ap entriesBytes (sym (take-append-drop i (map (moved f) es))) ∙ entries-append (take i (map (moved f) es)) (drop i (map (moved f) es)) in
+      ap (λ (z : ℕ). startsMoved f z 24 (F ++ (entriesBytes es ++ s))) (sym ln) ∙ starts-moved f F es s 24 lF ok
+      ∙ ap (λ (z : List ℕ). F ++ (z ++ s)) cut ∙ simp append-assoc
+
+  pub entry-leaves : (s r x F′ : List ℕ) (l : ℕ) → length s + (24 + 12 * n) ≡ l → 12 ≤ length r → length x ≡ 12 → length F′ ≡ 24
+      → noted (noted (slid (startsMoved f n 24 (F ++ (entriesBytes es ++ (s ++ r)))) (e + 12) e (l - e)) e x) 0 F′ ≡ F′ ++ ((A ++ (x ++ B)) ++ (s ++ drop 12 r))
+  entry-leaves s r x F′ l el hr lx lF′ =
+      let X : List ℕ = B ++ s in
+      let G : List ℕ = take 12 (X ++ r) in
+      let lX : length X ≡ l - e = length-append B s ∙ omega (arith, lB) in
+      let lG : length G ≡ 12 = length-take-le 12 (X ++ r) (simp length-append (omega arith)) in
+      let w1 : startsMoved f n 24 (F ++ (entriesBytes es ++ (s ++ r))) ≡ (F ++ A) ++ (X ++ r) = moved-cut (s ++ r) ∙ ap (λ (z : List ℕ). (F ++ A) ++ z) (sym (append-assoc B s r)) in
+      ap (λ (z : List ℕ). noted (noted (slid z (e + 12) e (l - e)) e x) 0 F′) w1
+      ∙ ap (λ (z : List ℕ). noted (noted z e x) 0 F′) (slid-right (F ++ A) X r e 12 (l - e) lFA lX hr)
+      ∙ ap (λ (z : List ℕ). noted z 0 F′) (noted-over (F ++ A) G (X ++ drop 12 r) x e lFA (lG ∙ sym lx) ∙ append-assoc F A (x ++ (X ++ drop 12 r)))
+      ∙ noted-over [] F (A ++ (x ++ (X ++ drop 12 r))) F′ 0 refl (lF ∙ sym lF′) ∙ simp append-assoc
+
+  pub chunk-leaves : (c1 c2 r x y F′ : List ℕ) (at sz l : ℕ) → 24 + 12 * n + length c1 ≡ at → at + length c2 ≡ l → 12 + sz ≤ length r → length x ≡ 12 → length y ≡ sz → length F′ ≡ 24
+      → noted (noted (noted (slid (slid (startsMoved f n 24 (F ++ (entriesBytes es ++ (c1 ++ (c2 ++ r))))) (at + (12 + sz)) at (l - at)) (e + 12) e (at - e)) e x) (at + 12) y) 0 F′
+      ≡ F′ ++ ((A ++ (x ++ B)) ++ ((c1 ++ (y ++ c2)) ++ drop (12 + sz) r))
+  chunk-leaves c1 c2 r x y F′ at sz l ea el hr lx ly lF′ =
+      let X : List ℕ = B ++ c1 in
+      let H : List ℕ = take (12 + sz) (c2 ++ r) in
+      let h : List ℕ = drop 12 H in
+      let T : List ℕ = c2 ++ drop (12 + sz) r in
+      let G : List ℕ = take 12 (X ++ (H ++ T)) in
+      let lX : length X ≡ at - e = length-append B c1 ∙ omega (arith, lB) in
+      let lP : length ((F ++ A) ++ X) ≡ at = length-append (F ++ A) X ∙ omega (arith, lFA) in
+      let lH : length H ≡ 12 + sz = length-take-le (12 + sz) (c2 ++ r) (simp length-append (omega arith)) in
+      let lh : length h ≡ sz = length-drop 12 H ∙ omega arith in
+      let lHT : length (H ++ T) ≡ length H + length T = length-append H T in
+      let lG : length G ≡ 12 = length-take-le 12 (X ++ (H ++ T)) (simp length-append (omega arith)) in
+      let w1 : startsMoved f n 24 (F ++ (entriesBytes es ++ (c1 ++ (c2 ++ r)))) ≡ ((F ++ A) ++ X) ++ (c2 ++ r) = moved-cut (c1 ++ (c2 ++ r)) ∙ simp append-assoc in
+      let w2 : slid (((F ++ A) ++ X) ++ (c2 ++ r)) (at + (12 + sz)) at (l - at) ≡ (F ++ A) ++ (X ++ (H ++ T))
+      = slid-right ((F ++ A) ++ X) c2 r at (12 + sz) (l - at) lP (omega arith) hr ∙ append-assoc (F ++ A) X (H ++ T) in
+      let w3 : slid ((F ++ A) ++ (X ++ (H ++ T))) (e + 12) e (at - e) ≡ (F ++ A) ++ (G ++ (X ++ (h ++ T)))
+      = slid-right (F ++ A) X (H ++ T) e 12 (at - e) lFA lX (omega arith) ∙ ap (λ (z : List ℕ). (F ++ A) ++ (G ++ (X ++ z))) (drop-append-le 12 H T (omega arith)) in
+      let P : List ℕ = (F ++ A) ++ (x ++ X) in
+      let lxX : length (x ++ X) ≡ length x + length X = length-append x X in
+      let lPx : length P ≡ at + 12 = length-append (F ++ A) (x ++ X) ∙ omega (arith, lFA) in
+      let w4 : noted ((F ++ A) ++ (G ++ (X ++ (h ++ T)))) e x ≡ P ++ (h ++ T)
+      = noted-over (F ++ A) G (X ++ (h ++ T)) x e lFA (lG ∙ sym lx) ∙ simp append-assoc in
+      let w5 : noted (P ++ (h ++ T)) (at + 12) y ≡ F ++ (A ++ (x ++ (X ++ (y ++ T))))
+      = noted-over P h T y (at + 12) lPx (lh ∙ sym ly) ∙ simp append-assoc in
+      ap (λ (z : List ℕ). noted (noted (noted (slid (slid z (at + (12 + sz)) at (l - at)) (e + 12) e (at - e)) e x) (at + 12) y) 0 F′) w1
+      ∙ ap (λ (z : List ℕ). noted (noted (noted (slid z (e + 12) e (at - e)) e x) (at + 12) y) 0 F′) w2
+      ∙ ap (λ (z : List ℕ). noted (noted (noted z e x) (at + 12) y) 0 F′) w3
+      ∙ ap (λ (z : List ℕ). noted (noted z (at + 12) y) 0 F′) w4
+      ∙ ap (λ (z : List ℕ). noted z 0 F′) w5
+      ∙ noted-over [] F (A ++ (x ++ (X ++ (y ++ T)))) F′ 0 refl (lF ∙ sym lF′) ∙ simp append-assoc
+
+-- one element more, in bytes
+entries-with : (es : List Entry) (i : ℕ) (x : Entry) → entriesBytes (with-at i x es) ≡ entriesBytes (take i es) ++ (entryBytes x ++ entriesBytes (drop i es))
+unfolding with-at
+entries-with es i x = entries-append (take i es) (x ∷ drop i es) ∙ ap (λ (z : List ℕ). entriesBytes (take i es) ++ z) (entries-cons x (drop i es))
+
+chunks-with : (cs : List Chunk) (k : ℕ) (c : Chunk) → chunksBytes (with-at k c cs) ≡ chunksBytes (take k cs) ++ (chunkBytes c ++ chunksBytes (drop k cs))
+unfolding with-at
+chunks-with cs k c = chunks-append (take k cs) (c ∷ drop k cs) ∙ ap (λ (z : List ℕ). chunksBytes (take k cs) ++ z) (chunks-cons c (drop k cs))
+
+size-with : (cs : List Chunk) (k : ℕ) (c : Chunk) → total (with-at k c cs) ≡ total cs + size c
+unfolding with-at total
+size-with cs k c =
+    total-append (take k cs) (c ∷ drop k cs)
+    ∙ (let t : total (take k cs) + total (drop k cs) ≡ total cs = sym (total-append (take k cs) (drop k cs)) ∙ ap total (take-append-drop k cs) in omega arith)
+
+-- the file after the undo, in parts
+module _ (m : Model) (r : Rec) (es : r .start ≡ start m (oldPlace r m) + 12) where
+  abbrev back : Entry
+  back = record { usage = r .usage; number = r .number; start = r .start }
+
+  inserted-file : file (undo3 r m) ≡ front (suc (length (m .refs))) (total (m .chunks) + size (oldChunk r))
+      ++ (entriesBytes (with-at (r .place) back (map (moved (risen (r .start - 12) (size (oldChunk r)))) (entries m)))
+      ++ (chunksBytes (take (oldPlace r m) (m .chunks)) ++ (chunkBytes (oldChunk r) ++ chunksBytes (drop (oldPlace r m) (m .chunks)))))
+  inserted-file =
+      let n1 : length (undo3 r m .refs) ≡ suc (length (m .refs)) = (unfold undo3 in length-with (r .place) _ _ ∙ ap suc (length-map (m .refs) _)) in
+      let t1 : total (undo3 r m .chunks) ≡ total (m .chunks) + size (oldChunk r) = (unfold undo3 in size-with (m .chunks) (oldPlace r m) (oldChunk r)) in
+      let c1 : chunksBytes (undo3 r m .chunks) ≡ chunksBytes (take (oldPlace r m) (m .chunks)) ++ (chunkBytes (oldChunk r) ++ chunksBytes (drop (oldPlace r m) (m .chunks)))
+      = (unfold undo3 in chunks-with (m .chunks) (oldPlace r m) (oldChunk r)) in
+      file-parts (undo3 r m) ∙ (λ z. front (n1 z) (t1 z) ++ (entriesBytes (starts-inserted m r es z) ++ c1 z))
+
+  relisted-file : file (undo4 r m) ≡ front (suc (length (m .refs))) (total (m .chunks))
+      ++ (entriesBytes (with-at (r .place) back (map (moved (λ t. t + 12)) (entries m))) ++ chunksBytes (m .chunks))
+  relisted-file =
+      let n1 : length (undo4 r m .refs) ≡ suc (length (m .refs)) = (unfold undo4 in length-with (r .place) _ _) in
+      let t1 : total (undo4 r m .chunks) ≡ total (m .chunks) = (unfold undo4 in refl) in
+      let c1 : chunksBytes (undo4 r m .chunks) ≡ chunksBytes (m .chunks) = (unfold undo4 in refl) in
+      file-parts (undo4 r m) ∙ (λ z. front (n1 z) (t1 z) ++ (entriesBytes (starts-relisted m r es z) ++ c1 z))
+
+seam : (a b c d : List ℕ) → a ++ (b ++ (c ++ d)) ≡ (a ++ (b ++ c)) ++ d
+seam a b c d = simp append-assoc
+
+start-bytes : (m : Model) (k : ℕ) → start m k ≡ 24 + 12 * length (m .refs) + length (chunksBytes (take k (m .chunks)))
+unfolding start startAt base
+start-bytes m k = ap (λ (z : ℕ). 24 + 12 * length (m .refs) + z) (sym (length-chunksBytes (take k (m .chunks))))
+
+-- from an accepted file in a buffer, as the code has it
+module _ (b : List ℕ) (l k i at u n : ℕ) (stands : Stands b l k) (bytes : All Byte (take l b)) (ins : Insertable b l k i at) where
+  abbrev m : Model
+  m = model (take l b)
+
+  good : (file m ≡ take l b) × Sound m × (length (take l b) ≤ 16777216)
+  good = accept-back plainRules (take l b) bytes (stands .fine)
+
+  lm : length (file m) ≡ l
+  lm = ap length (good .0) ∙ length-take-le l b (stands .inside)
+
+  whole : b ≡ front (length (m .refs)) (total (m .chunks)) ++ (entriesBytes (entries m) ++ (chunksBytes (m .chunks) ++ drop l b))
+  whole = sym (take-append-drop l b) ∙ ap (λ (z : List ℕ). z ++ drop l b) (sym (good .0) ∙ file-parts m) ∙ simp append-assoc
+
+  listed-ok : All EntryOk (entries m)
+  listed-ok = entries-ok m (good .1) (omega (arith, lm, stands .short))
+
+  at-end : (f : List ℕ) (z : ℕ) → length f ≡ l + z → f ++ drop z (drop l b) ≡ written b l f
+  at-end f z e = ap (λ (x : List ℕ). f ++ x) (drop-drop z l b ∙ ap (λ (x : ℕ). drop x b) (sym e)) ∙ sym (written-longer b l f (omega arith))
+
+  pub insert-written : (t : ℕ) (d : List ℕ) → l + (20 + (length d + length d % 2)) ≤ length b
+      → noted (noted (noted (slid (slid (startsMoved (risen at (8 + (length d + length d % 2))) k 24 b) (at + (12 + (8 + (length d + length d % 2)))) at (l - at)) (24 + 12 * i + 12) (24 + 12 * i) (at - (24 + 12 * i)))
+      (24 + 12 * i) (be32 u ++ (be32 n ++ be32 (at + 12)))) (at + 12) (chunkBytes (given t d))) 0 (front (k + 1) (l - (24 + 12 * k) + (8 + (length d + length d % 2))))
+      ≡ written b l (file (undo3 (goneRec 3 u n i at t d) (model (take l b))))
+  unfolding given
+  insert-written t d room =
+      let r : Rec = goneRec 3 u n i at t d in
+      let c : Chunk = oldChunk r in
+      let sz : ℕ = 8 + (length d + length d % 2) in
+      let N : ℕ = length (m .refs) in
+      let kc : ℕ = oldPlace r m in
+      let back12 : at + 12 - 12 ≡ at = omega arith in
+      let es : at ≡ start m kc = ins .starts ∙ ap (λ (z : ℕ). start m (placeOf z (base N) (m .chunks))) (sym back12) in
+      let c1 : List ℕ = chunksBytes (take kc (m .chunks)) in
+      let c2 : List ℕ = chunksBytes (drop kc (m .chunks)) in
+      let cut : chunksBytes (m .chunks) ≡ c1 ++ c2 = ap chunksBytes (sym (take-append-drop kc (m .chunks))) ∙ chunks-append (take kc (m .chunks)) (drop kc (m .chunks)) in
+      let tot : total (m .chunks) ≡ length c1 + length c2 = sym (length-chunksBytes (m .chunks)) ∙ ap length cut ∙ length-append c1 c2 in
+      let F : List ℕ = front N (total (m .chunks)) in
+      let w0 : b ≡ F ++ (entriesBytes (entries m) ++ (c1 ++ (c2 ++ drop l b)))
+      = whole ∙ ap (λ (z : List ℕ). F ++ (entriesBytes (entries m) ++ z)) (ap (λ (z : List ℕ). z ++ drop l b) cut ∙ append-assoc c1 c2 (drop l b)) in
+      let ek : k ≡ N = stands .entries in
+      let lr : length (drop l b) ≡ length b - l = length-drop l b in
+      let ea : 24 + 12 * N + length c1 ≡ at = sym (es ∙ start-bytes m kc) in
+      let el : at + length c2 ≡ l = omega (arith, file-length m, lm) in
+      let sc : size c ≡ sz = size-given t d ∙ omega arith in
+      let x : Entry = record { usage = u; number = n; start = at + 12 } in
+      let k1 : k + 1 ≡ suc N = omega arith in
+      let t1 : l - (24 + 12 * k) + sz ≡ total (m .chunks) + size c = omega (arith, file-length m, lm) in
+      let F′ : List ℕ = front (suc N) (total (m .chunks) + size c) in
+      let f : ℕ → ℕ = risen at sz in
+      let leaves = chunk-leaves F (entries m) f i N (24 + 12 * i) (length-front N (total (m .chunks))) (length-map (m .refs) _) listed-ok (omega (arith, ins .listed)) refl
+      c1 c2 (drop l b) (entryBytes x) (chunkBytes c) F′ at sz l ea el (omega arith) (length-entry x) (length-chunkBytes c ∙ sc) (length-front (suc N) (total (m .chunks) + size c)) in
+      let E : List ℕ = entriesBytes (with-at i x (map (moved f) (entries m))) in
+      let file-is : file (undo3 r m) ≡ F′ ++ (E ++ (c1 ++ (chunkBytes c ++ c2)))
+      = inserted-file m r (ap (λ (z : ℕ). z + 12) es)
+      ∙ (λ z. F′ ++ (entriesBytes (with-at i x (map (moved (risen (back12 z) (sc z))) (entries m))) ++ (c1 ++ (chunkBytes c ++ c2)))) in
+      let lE : length E ≡ 12 * suc N = length-entriesBytes (with-at i x (map (moved f) (entries m)))
+      ∙ ap (λ (z : ℕ). 12 * z) (length-with i x (map (moved f) (entries m)) ∙ ap suc (length-map (entries m) _ ∙ length-map (m .refs) _)) in
+      let len : length (file (undo3 r m)) ≡ l + (12 + sz)
+      = ap length file-is ∙ simp length-append (omega (arith, length-front (suc N) (total (m .chunks) + size c), length-chunkBytes c)) in
+      (λ z. noted (noted (noted (slid (slid (startsMoved f (ek z) 24 (w0 z)) (at + (12 + sz)) at (l - at)) (24 + 12 * i + 12) (24 + 12 * i) (at - (24 + 12 * i)))
+      (24 + 12 * i) (sym (entry-bytes u n (at + 12)) z)) (at + 12) (chunkBytes c)) 0 (front (k1 z) (t1 z)))
+      ∙ leaves
+      ∙ (λ z. F′ ++ (sym (entries-with (map (moved f) (entries m)) i x) z ++ ((c1 ++ (chunkBytes c ++ c2)) ++ drop (12 + sz) (drop l b))))
+      ∙ seam F′ E (c1 ++ (chunkBytes c ++ c2)) (drop (12 + sz) (drop l b))
+      ∙ ap (λ (z : List ℕ). z ++ drop (12 + sz) (drop l b)) (sym file-is)
+      ∙ at-end (file (undo3 r m)) (12 + sz) len
+
+  pub relist-written : l + 12 ≤ length b
+      → noted (noted (slid (startsMoved (λ t. t + 12) k 24 b) (24 + 12 * i + 12) (24 + 12 * i) (l - (24 + 12 * i))) (24 + 12 * i) (be32 u ++ (be32 n ++ be32 (at + 12)))) 0 (front (k + 1) (l - (24 + 12 * k)))
+      ≡ written b l (file (undo4 (goneRec 4 u n i at 0 []) (model (take l b))))
+  relist-written room =
+      let r : Rec = goneRec 4 u n i at 0 [] in
+      let N : ℕ = length (m .refs) in
+      let back12 : at + 12 - 12 ≡ at = omega arith in
+      let es : at ≡ start m (oldPlace r m) = ins .starts ∙ ap (λ (z : ℕ). start m (placeOf z (base N) (m .chunks))) (sym back12) in
+      let C : List ℕ = chunksBytes (m .chunks) in
+      let lC : length C ≡ total (m .chunks) = length-chunksBytes (m .chunks) in
+      let F : List ℕ = front N (total (m .chunks)) in
+      let ek : k ≡ N = stands .entries in
+      let lr : length (drop l b) ≡ length b - l = length-drop l b in
+      let x : Entry = record { usage = u; number = n; start = at + 12 } in
+      let k1 : k + 1 ≡ suc N = omega arith in
+      let t1 : l - (24 + 12 * k) ≡ total (m .chunks) = omega (arith, file-length m, lm) in
+      let F′ : List ℕ = front (suc N) (total (m .chunks)) in
+      let f : ℕ → ℕ = λ t. t + 12 in
+      let leaves = entry-leaves F (entries m) f i N (24 + 12 * i) (length-front N (total (m .chunks))) (length-map (m .refs) _) listed-ok (omega (arith, ins .listed)) refl
+      C (drop l b) (entryBytes x) F′ l (omega (arith, file-length m, lm)) (omega arith) (length-entry x) (length-front (suc N) (total (m .chunks))) in
+      let E : List ℕ = entriesBytes (with-at i x (map (moved f) (entries m))) in
+      let file-is : file (undo4 r m) ≡ F′ ++ (E ++ C) = relisted-file m r (ap (λ (z : ℕ). z + 12) es) in
+      let lE : length E ≡ 12 * suc N = length-entriesBytes (with-at i x (map (moved f) (entries m)))
+      ∙ ap (λ (z : ℕ). 12 * z) (length-with i x (map (moved f) (entries m)) ∙ ap suc (length-map (entries m) _ ∙ length-map (m .refs) _)) in
+      let len : length (file (undo4 r m)) ≡ l + 12 = ap length file-is ∙ simp length-append (omega (arith, length-front (suc N) (total (m .chunks)), file-length m, lm)) in
+      (λ z. noted (noted (slid (startsMoved f (ek z) 24 (whole z)) (24 + 12 * i + 12) (24 + 12 * i) (l - (24 + 12 * i))) (24 + 12 * i) (sym (entry-bytes u n (at + 12)) z)) 0 (front (k1 z) (t1 z)))
+      ∙ leaves
+      ∙ (λ z. F′ ++ (sym (entries-with (map (moved f) (entries m)) i x) z ++ (C ++ drop 12 (drop l b))))
+      ∙ seam F′ E C (drop 12 (drop l b))
+      ∙ ap (λ (z : List ℕ). z ++ drop 12 (drop l b)) (sym file-is)
+      ∙ at-end (file (undo4 r m)) 12 len
+
+-- a record that fits the file gives what the code asks
+module _ (b : List ℕ) (l k : ℕ) (stands : Stands b l k) (bytes : All Byte (take l b)) (r : Rec) where
+  insertable : (r .place ≤ length (model (take l b) .refs)) × (r .start ≡ start (model (take l b)) (oldPlace r (model (take l b))) + 12) → Insertable b l k (r .place) (r .start - 12)
+  insertable h =
+      let m : Model = model (take l b) in
+      let g = accept-back plainRules (take l b) bytes (stands .fine) in
+      let lf : length (file m) ≡ l = ap length (g .0) ∙ length-take-le l b (stands .inside) in
+      let tt : length (chunksBytes (take (oldPlace r m) (m .chunks))) ≤ total (m .chunks) = omega (arith, length-chunksBytes (take (oldPlace r m) (m .chunks)), total-take (oldPlace r m) (m .chunks)) in
+      let e : r .start - 12 ≡ start m (oldPlace r m) = omega (arith, h .1) in
+      record {
+        listed = omega (arith, h .0, stands .entries);
+        starts = e;
+        behind = omega (arith, e, start-bytes m (oldPlace r m), stands .entries);
+        ends = omega (arith, e, start-bytes m (oldPlace r m), file-length m);
+      }
+
+  pub insertable3 : fits3 r (model (take l b)) ≡ true → Insertable b l k (r .place) (r .start - 12)
+  insertable3 h = insertable (fit3 (model (take l b)) r h)
+
+  pub insertable4 : fits4 r (model (take l b)) ≡ true → Insertable b l k (r .place) (r .start - 12)
+  insertable4 h = insertable (fit4 (model (take l b)) r h)
+
+-- the record by its fields
+pub gone-again : (r : Rec) → 12 ≤ r .start → goneRec (r .kind) (r .usage) (r .number) (r .place) (r .start - 12) (r .type) (r .body) ≡ r
+gone-again r h =
+    let e : r .start - 12 + 12 ≡ r .start = omega arith in
+    λ i. record { kind = r .kind; usage = r .usage; number = r .number; place = r .place; start = e i; type = r .type; body = r .body }

@@ -1,0 +1,101 @@
+-- 20 and the reader's refusals, way by way, and what an inspection tells.
+use mathlib.Core.Path.{_≡_, refl, sym, ap, _∙_}
+use Prim.Native.Nat.{ℕ, _≤_, _<_}
+use mathlib.Core.List.{List}
+use mathlib.Core.Bool.{Bool, true, false, _&&_}
+use native.Mathlib.Omega.{arith}
+use lib.ListN.{length, take}
+use lib.Dec.{leb, ltb}
+use borrow.Author.Tests.{le-leb, lt-leb, ltb-true, ltb-false}
+use Rattle.blorb.specs.Verdict.{Verdict, accept, refuse, _then_, check, verdict}
+use Rattle.blorb.specs.Tags.{Fspc}
+use Rattle.blorb.specs.Rules.{typeIn, plainRules, plainVerdict}
+use Rattle.blorb.specs.Model.{Model, model}
+use Rattle.blorb.specs.Queries.{find, start, frontPlace, frontNumber}
+use Rattle.reader.specs.declared.Piece.{Piece}
+use Rattle.reader.specs.declared.Target.the-variants as target
+use Rattle.reader.specs.declared.Front.the-variants as front
+use Rattle.reader.specs.declared.Facts.{Facts}
+use Rattle.reader.specs.declared.Inspection.{Inspection}
+use Rattle.reader.specs.declared.Inspection.the-variants.{Whole, Refused}
+use Rattle.reader.specs.Inspecting.{pieceOf, targetBy, targetOf, frontBy, frontOf, factsOf, inspectionOf}
+
+and-none : (a : Bool) → a && false ≡ false
+and-none true = refl
+and-none false = refl
+
+-- the ways out
+module _ (l N u J : ℕ) (v : Verdict) (m : Model) (us n x : ℕ) where
+  pub opened-first : N < l → Refused 20 0 ≡ inspectionOf (check (leb l N && leb u J) 20 0 then v) m us n x
+  unfolding check _then_
+  opened-first h = rw (lt-leb l N h)
+
+  pub opened-second : J < u → Refused 20 0 ≡ inspectionOf (check (leb l N && leb u J) 20 0 then v) m us n x
+  unfolding check _then_
+  opened-second h = rw (lt-leb u J h, and-none (leb l N))
+
+  pub opened-third : l ≤ N → u ≤ J → inspectionOf v m us n x ≡ inspectionOf (check (leb l N && leb u J) 20 0 then v) m us n x
+  unfolding check _then_
+  opened-third h g = rw (le-leb l N h, le-leb u J g)
+
+-- an inspection's two cases
+told-refused : (v : Verdict) (m : Model) (u n x k p : ℕ) → inspectionOf v m u n x ≡ Refused k p → v ≡ refuse k p
+told-refused accept m u n x k p e = let z : _≡_ {A = ℕ} 0 1 = cc in absurd (omega arith)
+told-refused (refuse a b) m u n x k p e = cc
+
+told-whole : (v : Verdict) (m : Model) (u n x : ℕ) (fs : Facts) → inspectionOf v m u n x ≡ Whole fs → (v ≡ accept) × (fs ≡ factsOf m u n x)
+told-whole accept m u n x fs e = (refl, cc)
+told-whole (refuse a b) m u n x fs e = let z : _≡_ {A = ℕ} 0 1 = cc in absurd (omega arith)
+
+plain-verdict : (f : List ℕ) → plainVerdict f ≡ verdict plainRules f
+unfolding plainVerdict
+plain-verdict f = refl
+
+-- what the first l bytes of b tell, U bytes of a journal of J being used
+module _ (b : List ℕ) (l J U u n x : ℕ) where
+  abbrev pub asked : Inspection
+  asked = inspectionOf (check (leb l (length b) && leb U J) 20 0 then plainVerdict (take l b)) (model (take l b)) u n x
+
+  by-rules : check (leb l (length b) && leb U J) 20 0 then plainVerdict (take l b) ≡ check (leb l (length b) && leb U J) 20 0 then verdict plainRules (take l b)
+  by-rules = ap (λ (v : Verdict). check (leb l (length b) && leb U J) 20 0 then v) (plain-verdict (take l b))
+
+  pub asked-refused : (k p : ℕ) → asked ≡ Refused k p → check (leb l (length b) && leb U J) 20 0 then verdict plainRules (take l b) ≡ refuse k p
+  asked-refused k p e = sym by-rules ∙ told-refused _ (model (take l b)) u n x k p e
+
+  pub asked-whole : (fs : Facts) → asked ≡ Whole fs
+      → (check (leb l (length b) && leb U J) 20 0 then verdict plainRules (take l b) ≡ accept) × (fs ≡ factsOf (model (take l b)) u n x)
+  asked-whole fs e = let t = told-whole _ (model (take l b)) u n x fs e in (sym by-rules ∙ t .0, t .1)
+
+-- the entry of a pair
+pub target-at : (m : Model) (u n : ℕ) (p : Piece) → targetOf m u n ≡ target.At p → (ltb (find u n (m .refs)) (length (m .refs)) ≡ true) × (p ≡ pieceOf m (find u n (m .refs)))
+unfolding targetOf
+target-at m u n p e = go (ltb (find u n (m .refs)) (length (m .refs))) e
+  where
+    go : (b : Bool) → targetBy b m (find u n (m .refs)) ≡ target.At p → (b ≡ true) × (p ≡ pieceOf m (find u n (m .refs)))
+    go true e = (refl, cc)
+    go false e = let z : _≡_ {A = ℕ} 0 1 = cc in absurd (omega arith)
+
+pub target-nothing : (m : Model) (u n : ℕ) → targetOf m u n ≡ target.Nothing → ltb (find u n (m .refs)) (length (m .refs)) ≡ false
+unfolding targetOf
+target-nothing m u n e = go (ltb (find u n (m .refs)) (length (m .refs))) e
+  where
+    go : (b : Bool) → targetBy b m (find u n (m .refs)) ≡ target.Nothing → b ≡ false
+    go true e = cc
+    go false e = refl
+
+-- the frontispiece
+pub front-nothing : (m : Model) → frontOf m ≡ front.Nothing → typeIn Fspc (m .chunks) ≡ false
+unfolding frontOf
+front-nothing m e = go (typeIn Fspc (m .chunks)) e
+  where
+    go : (b : Bool) → frontBy b m ≡ front.Nothing → b ≡ false
+    go false e = refl
+    go true e = cc
+
+pub front-at : (m : Model) (s q : ℕ) → frontOf m ≡ front.At s q → (typeIn Fspc (m .chunks) ≡ true) × (s ≡ start m (frontPlace (m .chunks))) × (q ≡ frontNumber (m .chunks))
+unfolding frontOf
+front-at m s q e = go (typeIn Fspc (m .chunks)) e
+  where
+    go : (b : Bool) → frontBy b m ≡ front.At s q → (b ≡ true) × (s ≡ start m (frontPlace (m .chunks))) × (q ≡ frontNumber (m .chunks))
+    go true e = (refl, cc, cc)
+    go false e = let z : _≡_ {A = ℕ} 0 1 = cc in absurd (omega arith)

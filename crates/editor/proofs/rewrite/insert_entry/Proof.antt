@@ -1,0 +1,96 @@
+use native.Mathlib.Omega.{arith}
+use mathlib.Core.Path.{refl}
+use denote.Ref.{now}
+use Rattle.blorb.specs.Bytes.{Byte}
+use Rattle.blorb.proofs.Accept.{bytes-all}
+use Rattle.blorb.specs.All.{All}
+use Rattle.blorb.proofs.AllLaws.{all-take}
+use Rattle.editor.specs.declared.moves.Move.{Move}
+use Rattle.editor.proofs.Writes.{relocated-alike}
+use Rattle.editor.proofs.InsertBytes.{relist-written}
+use borrow.Author.Needs.{needs}
+use Rattle.editor.proofs.rewrite.insert_entry.Statement.{statement}
+use Rattle.editor.proofs.rewrite.insert_entry.Tie as tie
+use Rattle.editor.proofs.rewrite.insert_entry.Reads as reads
+use Rattle.editor.proofs.rewrite.insert_entry.Lts as lts
+use Rattle.editor.proofs.moves.move_starts.Reads as move-starts-reads
+use Rattle.editor.proofs.moves.put_front.Reads as put-front-reads
+use Rattle.editor.proofs.moves.put_words.Reads as put-words-reads
+use Rattle.editor.proofs.shift.shift_right.Reads as shift-right-reads
+
+-- src/rewrite.rt:155:22
+mul-entry : tie.Need-mul-entry
+mul-entry c = search needs
+
+-- src/rewrite.rt:155:17
+add-entry : tie.Need-add-entry
+add-entry c = search needs
+
+-- src/rewrite.rt:156:5
+move-starts-requires : tie.Need-move-starts-requires
+move-starts-requires c κs = search needs
+
+-- src/rewrite.rt:168:5
+shift-right-requires : tie.Need-shift-right-requires
+shift-right-requires c κs = search needs
+
+-- src/rewrite.rt:169:63
+add-put-words : tie.Need-add-put-words
+add-put-words c = search needs
+
+-- src/rewrite.rt:169:5
+put-words-requires : tie.Need-put-words-requires
+put-words-requires c κs = search needs
+
+-- src/rewrite.rt:170:27
+add-put-front : tie.Need-add-put-front
+add-put-front c = search needs
+
+-- src/rewrite.rt:170:58
+mul-put-front : tie.Need-mul-put-front
+mul-put-front c = search needs
+
+-- src/rewrite.rt:170:53
+add-put-front-2 : tie.Need-add-put-front-2
+add-put-front-2 c = search needs
+
+-- src/rewrite.rt:170:46
+sub-put-front : tie.Need-sub-put-front
+sub-put-front c = search needs
+
+-- src/rewrite.rt:170:5
+put-front-requires : tie.Need-put-front-requires
+put-front-requires c κs = search needs
+
+-- src/rewrite.rt:151:1
+same-length : tie.Need-same-length
+same-length c = search needs
+
+-- src/rewrite.rt:151:1
+returns : tie.Need-returns
+returns c =
+    let a = c .before .before .before .before .before .before .before .before .before .before .before .before .before .before .before .before .before .args in
+    let b = now (a .buf) in
+    let p = c .before .before .before .before .before .before .before .before .before .before .before .before .before .before .before .before .before .pre in
+    let bytes : All Byte b = bytes-all b (λ i. omega (arith, c .before .before .before .before .before .before .before .before .before .before .before .before .before .before .before .before .slice-known .given i)) in
+    let mv : Move = record { limit = 0; grow = 12; fall = 0; plus = 12; minus = 0 } in
+    rw (c .before .before .put-front .ensures, c .before .before .before .before .before .before .put-words .ensures, c .before .before .before .before .before .before .before .before .before .before .shift-right .ensures, c .before .before .before .before .before .before .before .before .before .before .before .before .before .before .move-starts .ensures, relocated-alike mv 12 refl refl refl refl)
+    (relist-written b (a .len) (a .count) (a .place) (a .at) (a .usage) (a .number) (p .0) (all-take Byte (a .len) b bytes) (p .1 .0) (p .1 .1 .0))
+
+pub insert-entry-spec : {M : Type 1} → statement M
+insert-entry-spec =
+    tie.close
+    (tie.spec
+    mul-entry
+    add-entry
+    move-starts-requires
+    shift-right-requires
+    add-put-words
+    put-words-requires
+    add-put-front
+    mul-put-front
+    add-put-front-2
+    sub-put-front
+    put-front-requires
+    same-length
+    returns)

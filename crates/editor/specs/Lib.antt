@@ -1,0 +1,4 @@
+pub mod Shift
+pub mod Moves
+pub mod Post
+pub mod LastRecord

@@ -1,0 +1,231 @@
+// Refusals 100 + k, told from the present file without making the new one.
+use crate::Outcome;
+use blorb::Known;
+use blorb::Usage;
+use reader::Front;
+use reader::Target;
+ghost use mathlib.Core.Path.{_≡_};
+ghost use Prim.Native.Nat.{_+_, _-_, _*_, _%_, _≤_, _<_};
+ghost use mathlib.Core.List.{[], _∷_, _++_};
+ghost use lib.ListN.{length, take, drop, replicate};
+ghost use Rattle.blorb.specs.Verdict.{Verdict, accept, refuse, verdict};
+ghost use Rattle.blorb.specs.Rules.{plainRules};
+ghost use Rattle.blorb.specs.Tags.{Exec, Pict, Rect};
+ghost use Rattle.blorb.specs.Model.{model, file};
+ghost use Rattle.edits.specs.Edit.{add, replace, remove, removed, replaced, given};
+ghost use Rattle.blorb.specs.Queries.{refAt};
+ghost use Rattle.edits.specs.Run.{written, noted, editedFile, editRecord, edit, undo};
+ghost use mathlib.Core.Bool.{true, cond, not, _&&_, _||_};
+ghost use lib.Dec.{leb, eqb};
+ghost use Rattle.blorb.specs.Verdict.{_then_, check, knownUsage};
+ghost use Rattle.edits.proofs.Starts.{fallen, behind};
+ghost use Rattle.edits.specs.Run.{hundred, editFault};
+ghost use Rattle.reader.specs.Inspecting.{targetOf, frontOf};
+ghost use Rattle.editor.specs.Post.{verdictOf, planOf, removalOf, changeOf, state, Called, Stands, closed, resized, Removable, Listed, Replaceable, Own};
+
+// An Exec has number 0.
+pub(crate) fn number_fits(usage: u32, number: u32) -> bool
+    ensures { λ r. ⌜ r ≡ (not (eqb usage Exec) || eqb number 0) ⌝ }
+{
+    if usage as u64 == Usage::EXEC {
+        return number == 0;
+    }
+    true
+}
+
+// 100 + k for an add to the accepted file `s` with `count` entries, of which `target` has the pair.
+pub(crate) fn add_fault(
+    s: &[u8],
+    count: usize,
+    target: Target,
+    usage: u32,
+    number: u32,
+    kind: u32,
+    d: &[u8],
+) -> Outcome
+    requires { ⌜ Stands (now s) (length (now s)) count × (target ≡ targetOf (model (now s)) usage number) ⌝ }
+    ensures { λ r. ⌜ verdictOf r ≡ hundred (verdict plainRules (editedFile (now (s .entry)) (add usage number kind (now (d .entry))))) ⌝ }
+{
+    let len = s.len();
+    let m = d.len();
+    if 16777216 < len + (20 + (m + m % 2)) {
+        return Outcome::Refused {
+            number: 101,
+            place: 0,
+        };
+    }
+    if kind == 0x52496478 {
+        return Outcome::Refused {
+            number: 109,
+            place: len + 12,
+        };
+    }
+    if 4096 < count + 1 {
+        return Outcome::Refused {
+            number: 111,
+            place: 20,
+        };
+    }
+    let at = 24 + 12 * count;
+    if let Known::Unknown = Usage::of_code(usage as u64) {
+        return Outcome::Refused {
+            number: 112,
+            place: at,
+        };
+    }
+    if !blorb::type_allowed(usage as u64, kind as u64, d) {
+        return Outcome::Refused {
+            number: 114,
+            place: at,
+        };
+    }
+    if !number_fits(usage, number) {
+        return Outcome::Refused {
+            number: 115,
+            place: at + 4,
+        };
+    }
+    match target {
+        Target::At(_) => Outcome::Refused {
+            number: 116,
+            place: at,
+        },
+        Target::Nothing => Outcome::Done,
+    }
+}
+
+// The pair is that of the picture numbered `q`.
+pub(crate) fn is_picture(usage: u32, number: u32, q: u32) -> bool
+    ensures { λ r. ⌜ r ≡ (eqb usage Pict && eqb number q) ⌝ }
+{
+    if usage as u64 == Usage::PICT {
+        return number == q;
+    }
+    false
+}
+
+// Where a start goes when an entry goes, and with it `size` bytes at `start`.
+pub(crate) fn fallen_start(at: u32, start: u32, size: u32) -> u32
+    requires { ⌜ size ≤ 16777216 ⌝ }
+    ensures { λ r. ⌜ r ≡ fallen start size at ⌝ }
+{
+    if start < at {
+        if at < 12 + size {
+            return 0;
+        }
+        return at - (12 + size);
+    }
+    if at < 12 {
+        return 0;
+    }
+    at - 12
+}
+
+// 100 + k for a removal of the entry (usage, number) of the accepted file `s` with this frontispiece: the entry's chunk at
+// `start` loses `size` bytes.
+pub(crate) fn remove_fault(
+    s: &[u8],
+    front: Front,
+    usage: u32,
+    number: u32,
+    start: u32,
+    size: u32,
+) -> Outcome
+    requires { ⌜ Listed (now s) usage number start size × (front ≡ frontOf (model (now s))) ⌝ }
+    ensures { λ r. ⌜ verdictOf r ≡ hundred (verdict plainRules (editedFile (now (s .entry)) (remove usage number))) ⌝ }
+{
+    match front {
+        Front::Nothing => Outcome::Done,
+        Front::At {
+            start: at,
+            number: q,
+        } => {
+            if is_picture(usage, number, q) {
+                let p = fallen_start(at, start, size);
+                return Outcome::Refused {
+                    number: 119,
+                    place: p as usize + 8,
+                };
+            }
+            Outcome::Done
+        }
+    }
+}
+
+// A frontispiece with number `q` loses its picture: it becomes a 'Rect'.
+pub(crate) fn spoils(usage: u32, number: u32, q: u32, kind: u32) -> bool
+    ensures { λ r. ⌜ r ≡ ((eqb usage Pict && eqb number q) && eqb kind Rect) ⌝ }
+{
+    if is_picture(usage, number, q) {
+        return kind == 0x52656374;
+    }
+    false
+}
+
+// Where a start goes when the chunk of `old` bytes at `start` gets `new` bytes.
+pub(crate) fn behind_start(at: u32, start: u32, old: u32, new: u32) -> u64
+    ensures { λ r. ⌜ (r ≡ behind start old new at) × (r < 8589934592) ⌝ }
+{
+    if start < at {
+        let x = at as u64 + new as u64;
+        if x < old as u64 {
+            return 0;
+        }
+        return x - old as u64;
+    }
+    at as u64
+}
+
+// 100 + k for a replacement in the accepted file `s` with this frontispiece: entry `place`'s own chunk has `old` bytes at `start`.
+pub(crate) fn replace_fault(
+    s: &[u8],
+    front: Front,
+    usage: u32,
+    number: u32,
+    kind: u32,
+    d: &[u8],
+    place: usize,
+    start: u32,
+    old: u32,
+) -> Outcome
+    requires { ⌜ Own (now s) usage number place start old × (front ≡ frontOf (model (now s))) ⌝ }
+    ensures { λ r. ⌜ verdictOf r ≡ hundred (verdict plainRules (editedFile (now (s .entry)) (replace usage number kind (now (d .entry))))) ⌝ }
+{
+    let len = s.len();
+    let m = d.len();
+    let new = 8 + (m + m % 2);
+    if 16777216 < len - old as usize + new {
+        return Outcome::Refused {
+            number: 101,
+            place: 0,
+        };
+    }
+    if kind == 0x52496478 {
+        return Outcome::Refused {
+            number: 109,
+            place: start as usize,
+        };
+    }
+    if !blorb::type_allowed(usage as u64, kind as u64, d) {
+        return Outcome::Refused {
+            number: 114,
+            place: 24 + 12 * place,
+        };
+    }
+    match front {
+        Front::Nothing => Outcome::Done,
+        Front::At {
+            start: at,
+            number: q,
+        } => {
+            if spoils(usage, number, q, kind) {
+                let p = behind_start(at, start, old, new as u32);
+                return Outcome::Refused {
+                    number: 119,
+                    place: p as usize + 8,
+                };
+            }
+            Outcome::Done
+        }
+    }
+}

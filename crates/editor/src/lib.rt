@@ -1,0 +1,538 @@
+// The editor: edits and undo in place.
+ghost use mathlib.Core.Path.{_≡_};
+ghost use Prim.Native.Nat.{_+_, _-_, _*_, _%_, _≤_, _<_};
+ghost use mathlib.Core.List.{[], _∷_, _++_};
+ghost use lib.ListN.{length, take, drop, replicate};
+ghost use Rattle.blorb.specs.Verdict.{Verdict, accept, refuse, verdict};
+ghost use Rattle.blorb.specs.Rules.{plainRules};
+ghost use Rattle.blorb.specs.Tags.{Exec, Pict, Rect};
+ghost use Rattle.blorb.specs.Model.{model, file};
+ghost use Rattle.edits.specs.Edit.{add, replace, remove, removed, replaced, given};
+ghost use Rattle.blorb.specs.Queries.{refAt};
+ghost use Rattle.edits.specs.Run.{written, noted, editedFile, editRecord, edit, undo};
+ghost use mathlib.Core.Bool.{true, cond, not, _&&_, _||_};
+ghost use lib.Dec.{leb, eqb};
+ghost use Rattle.blorb.specs.Verdict.{_then_, check, knownUsage};
+ghost use Rattle.edits.proofs.Starts.{fallen, behind};
+ghost use Rattle.edits.specs.Run.{hundred, editFault};
+ghost use Rattle.blorb.specs.Bytes.{rd32};
+ghost use Rattle.blorb.specs.Rules.{plainVerdict};
+ghost use Rattle.edits.specs.Blank.{blanked};
+ghost use Rattle.reader.specs.Inspecting.{inspectionOf};
+ghost use Rattle.editor.specs.Post.{blankAnswer, verdictOf, planOf, removalOf, changeOf, state, Called, Stands, closed, resized, Removable, Listed, Replaceable, Own};
+use reader::Inspection;
+use reader::Target;
+
+mod journal;
+mod judge;
+mod moves;
+mod rewrite;
+mod shift;
+
+pub enum Outcome {
+    Done,
+    Refused { number: u64, place: usize },
+}
+
+pub struct Answer {
+    pub outcome: Outcome,
+    pub len: usize,
+    pub used: usize,
+}
+
+pub enum Plan {
+    Go { count: usize },
+    No { number: u64, place: usize },
+}
+
+// 20 and the reader's refusals, for the first `len` bytes of `buf` and `used` bytes of a journal of `room`; else what the file tells.
+fn opened(
+    buf: &[u8],
+    len: usize,
+    room: usize,
+    used: usize,
+    usage: u32,
+    number: u32,
+    at: usize,
+) -> Inspection
+    ensures { λ r. ⌜ r ≡ inspectionOf (check (leb len (length (now (buf .entry))) && leb used room) 20 0 then plainVerdict (take len (now (buf .entry)))) (model (take len (now (buf .entry)))) usage number at ⌝ }
+{
+    if buf.len() < len {
+        return Inspection::Refused {
+            number: 20,
+            place: 0,
+        };
+    }
+    if room < used {
+        return Inspection::Refused {
+            number: 20,
+            place: 0,
+        };
+    }
+    reader::inspect(&buf[..len], usage, number, at)
+}
+
+// An add's refusal, or the file's count where it can be made.
+fn add_plan(
+    buf: &[u8],
+    len: usize,
+    room: usize,
+    used: usize,
+    usage: u32,
+    number: u32,
+    kind: u32,
+    d: &[u8],
+) -> Plan
+    ensures { λ r. ⌜ r ≡ planOf (editFault plainRules (length (now (buf .entry))) room (take len (now (buf .entry))) len used (add usage number kind (now (d .entry)))) (length (model (take len (now (buf .entry))) .refs)) ⌝ }
+{
+    match opened(buf, len, room, used, usage, number, 0) {
+        Inspection::Refused { number: k, place } => Plan::No { number: k, place },
+        Inspection::Whole(facts) => {
+            let count = facts.count;
+            let target = facts.target;
+            match judge::add_fault(&buf[..len], count, target, usage, number, kind, d) {
+                Outcome::Refused { number: k, place } => Plan::No { number: k, place },
+                Outcome::Done => {
+                    let m = d.len();
+                    if buf.len() - len < 20 + (m + m % 2) {
+                        return Plan::No {
+                            number: 24,
+                            place: 0,
+                        };
+                    }
+                    if room - used < 29 {
+                        return Plan::No {
+                            number: 25,
+                            place: 0,
+                        };
+                    }
+                    Plan::Go { count }
+                }
+            }
+        }
+    }
+}
+
+// Add, with usage and type as numbers.
+fn add_entry(
+    buf: &mut [u8],
+    len: usize,
+    jrn: &mut [u8],
+    used: usize,
+    usage: u32,
+    number: u32,
+    kind: u32,
+    d: &[u8],
+) -> Answer
+    ensures { λ r. ⌜ Called (state (now (buf .entry)) len (now (jrn .entry)) used) (edit (add usage number kind (now (d .entry)))) r (now (buf .exit)) (now (jrn .exit)) ⌝ }
+{
+    match add_plan(buf, len, jrn.len(), used, usage, number, kind, d) {
+        Plan::No { number: k, place } => Answer {
+            outcome: Outcome::Refused { number: k, place },
+            len,
+            used,
+        },
+        Plan::Go { count } => {
+            let m = d.len();
+            rewrite::add_bytes(buf, len, count, usage, number, kind, d);
+            moves::put_record(
+                jrn,
+                used,
+                1,
+                moves::Entry {
+                    usage,
+                    number,
+                    start: 0,
+                },
+                count as u64,
+                0,
+                &d[0..0],
+            );
+            Answer {
+                outcome: Outcome::Done,
+                len: len + (20 + (m + m % 2)),
+                used: used + 29,
+            }
+        }
+    }
+}
+
+pub enum Removal {
+    Take {
+        count: usize,
+        place: usize,
+        start: u32,
+        kind: u32,
+        m: u32,
+        shared: bool,
+    },
+    Not {
+        number: u64,
+        place: usize,
+    },
+}
+
+// What goes of a chunk with `m` data bytes: nothing of a shared one.
+fn gone_size(shared: bool, m: u32) -> u32
+    requires { ⌜ m ≤ 16777216 ⌝ }
+    ensures { λ r. ⌜ r ≡ cond shared 0 (8 + (m + m % 2)) ⌝ }
+{
+    if shared {
+        return 0;
+    }
+    8 + (m + m % 2)
+}
+
+// A number of a chunk that a removal's record keeps: 0 for a shared one.
+fn kept_number(shared: bool, x: u32) -> u32
+    ensures { λ r. ⌜ r ≡ cond shared 0 x ⌝ }
+{
+    if shared {
+        return 0;
+    }
+    x
+}
+
+fn removal_kind(shared: bool) -> u8
+    ensures { λ r. ⌜ r ≡ cond shared 4 3 ⌝ }
+{
+    if shared {
+        return 4;
+    }
+    3
+}
+
+// A removal's refusal, or what it needs to be made.
+fn remove_plan(buf: &[u8], len: usize, room: usize, used: usize, usage: u32, number: u32) -> Removal
+    ensures { λ r. ⌜ r ≡ removalOf (editFault plainRules (length (now (buf .entry))) room (take len (now (buf .entry))) len used (remove usage number)) (model (take len (now (buf .entry)))) usage number ⌝ }
+{
+    match opened(buf, len, room, used, usage, number, 0) {
+        Inspection::Refused { number: k, place } => Removal::Not { number: k, place },
+        Inspection::Whole(facts) => {
+            let target = facts.target;
+            let Target::At(p) = target else {
+                return Removal::Not {
+                    number: 22,
+                    place: 0,
+                };
+            };
+            let m = p.length;
+            let shared = p.shared;
+            let size = gone_size(shared, m);
+            let front = facts.front;
+            match judge::remove_fault(&buf[..len], front, usage, number, p.start, size) {
+                Outcome::Refused { number: k, place } => Removal::Not { number: k, place },
+                Outcome::Done => {
+                    if room - used < 29 + kept_number(shared, m) as usize {
+                        return Removal::Not {
+                            number: 25,
+                            place: 0,
+                        };
+                    }
+                    Removal::Take {
+                        count: facts.count,
+                        place: p.place,
+                        start: p.start,
+                        kind: p.kind,
+                        m,
+                        shared,
+                    }
+                }
+            }
+        }
+    }
+}
+
+// Remove, with the usage as a number.
+fn remove_entry(
+    buf: &mut [u8],
+    len: usize,
+    jrn: &mut [u8],
+    used: usize,
+    usage: u32,
+    number: u32,
+) -> Answer
+    ensures { λ r. ⌜ Called (state (now (buf .entry)) len (now (jrn .entry)) used) (edit (remove usage number)) r (now (buf .exit)) (now (jrn .exit)) ⌝ }
+{
+    match remove_plan(buf, len, jrn.len(), used, usage, number) {
+        Removal::Not { number: k, place } => Answer {
+            outcome: Outcome::Refused { number: k, place },
+            len,
+            used,
+        },
+        Removal::Take {
+            count,
+            place,
+            start,
+            kind,
+            m,
+            shared,
+        } => {
+            let size = gone_size(shared, m) as usize;
+            let body = kept_number(shared, m) as usize;
+            let from = start as usize + 8;
+            let to = from + body;
+            moves::put_record(
+                jrn,
+                used,
+                removal_kind(shared),
+                moves::Entry {
+                    usage,
+                    number,
+                    start,
+                },
+                place as u64,
+                kept_number(shared, kind) as u64,
+                &buf[from..to],
+            );
+            rewrite::remove_bytes(buf, len, count, place, start as usize, size);
+            Answer {
+                outcome: Outcome::Done,
+                len: len - (12 + size),
+                used: used + (29 + body),
+            }
+        }
+    }
+}
+
+pub enum Change {
+    Put {
+        count: usize,
+        place: usize,
+        start: u32,
+        kind: u32,
+        m: u32,
+    },
+    Keep {
+        number: u64,
+        place: usize,
+    },
+}
+
+// A replacement's refusal, or what it needs to be made.
+fn replace_plan(
+    buf: &[u8],
+    len: usize,
+    room: usize,
+    used: usize,
+    usage: u32,
+    number: u32,
+    kind: u32,
+    d: &[u8],
+) -> Change
+    ensures { λ r. ⌜ r ≡ changeOf (editFault plainRules (length (now (buf .entry))) room (take len (now (buf .entry))) len used (replace usage number kind (now (d .entry)))) (model (take len (now (buf .entry)))) usage number ⌝ }
+{
+    match opened(buf, len, room, used, usage, number, 0) {
+        Inspection::Refused { number: k, place } => Change::Keep { number: k, place },
+        Inspection::Whole(facts) => {
+            let target = facts.target;
+            let Target::At(p) = target else {
+                return Change::Keep {
+                    number: 22,
+                    place: 0,
+                };
+            };
+            if p.shared {
+                return Change::Keep {
+                    number: 23,
+                    place: 0,
+                };
+            }
+            let m = p.length;
+            let old = gone_size(false, m);
+            let front = facts.front;
+            match judge::replace_fault(
+                &buf[..len],
+                front,
+                usage,
+                number,
+                kind,
+                d,
+                p.place,
+                p.start,
+                old,
+            ) {
+                Outcome::Refused { number: k, place } => Change::Keep { number: k, place },
+                Outcome::Done => {
+                    let x = d.len();
+                    if buf.len() < len - old as usize + (8 + (x + x % 2)) {
+                        return Change::Keep {
+                            number: 24,
+                            place: 0,
+                        };
+                    }
+                    if room - used < 29 + m as usize {
+                        return Change::Keep {
+                            number: 25,
+                            place: 0,
+                        };
+                    }
+                    Change::Put {
+                        count: facts.count,
+                        place: p.place,
+                        start: p.start,
+                        kind: p.kind,
+                        m,
+                    }
+                }
+            }
+        }
+    }
+}
+
+// Replace, with usage and type as numbers.
+fn replace_chunk(
+    buf: &mut [u8],
+    len: usize,
+    jrn: &mut [u8],
+    used: usize,
+    usage: u32,
+    number: u32,
+    kind: u32,
+    d: &[u8],
+) -> Answer
+    ensures { λ r. ⌜ Called (state (now (buf .entry)) len (now (jrn .entry)) used) (edit (replace usage number kind (now (d .entry)))) r (now (buf .exit)) (now (jrn .exit)) ⌝ }
+{
+    match replace_plan(buf, len, jrn.len(), used, usage, number, kind, d) {
+        Change::Keep { number: k, place } => Answer {
+            outcome: Outcome::Refused { number: k, place },
+            len,
+            used,
+        },
+        Change::Put {
+            count,
+            place,
+            start,
+            kind: was,
+            m,
+        } => {
+            let old = gone_size(false, m) as usize;
+            let x = d.len();
+            let from = start as usize + 8;
+            let to = from + m as usize;
+            moves::put_record(
+                jrn,
+                used,
+                2,
+                moves::Entry {
+                    usage,
+                    number,
+                    start,
+                },
+                place as u64,
+                was as u64,
+                &buf[from..to],
+            );
+            rewrite::replace_bytes(buf, len, count, place, start as usize, old, kind, d);
+            Answer {
+                outcome: Outcome::Done,
+                len: len - old + (8 + (x + x % 2)),
+                used: used + (29 + m as usize),
+            }
+        }
+    }
+}
+
+// Four bytes as the number in them.
+fn code_of(b: [u8; 4]) -> u32
+    ensures { λ r. ⌜ r ≡ rd32 b ⌝ }
+{
+    blorb::be32_at(&b, 0) as u32
+}
+
+// Add: an entry at the end of the index, a chunk at the end of the file.
+pub fn add(
+    buf: &mut [u8],
+    len: usize,
+    jrn: &mut [u8],
+    used: usize,
+    usage: [u8; 4],
+    number: u32,
+    kind: [u8; 4],
+    d: &[u8],
+) -> Answer
+    ensures { λ r. ⌜ Called (state (now (buf .entry)) len (now (jrn .entry)) used) (edit (add (rd32 usage) number (rd32 kind) (now (d .entry)))) r (now (buf .exit)) (now (jrn .exit)) ⌝ }
+{
+    let u = code_of(usage);
+    let t = code_of(kind);
+    add_entry(buf, len, jrn, used, u, number, t, d)
+}
+
+// Replace: the chunk in the same position takes the new type and data.
+pub fn replace(
+    buf: &mut [u8],
+    len: usize,
+    jrn: &mut [u8],
+    used: usize,
+    usage: [u8; 4],
+    number: u32,
+    kind: [u8; 4],
+    d: &[u8],
+) -> Answer
+    ensures { λ r. ⌜ Called (state (now (buf .entry)) len (now (jrn .entry)) used) (edit (replace (rd32 usage) number (rd32 kind) (now (d .entry)))) r (now (buf .exit)) (now (jrn .exit)) ⌝ }
+{
+    let u = code_of(usage);
+    let t = code_of(kind);
+    replace_chunk(buf, len, jrn, used, u, number, t, d)
+}
+
+// Remove: the entry goes, and its chunk unless another entry has it too.
+pub fn remove(
+    buf: &mut [u8],
+    len: usize,
+    jrn: &mut [u8],
+    used: usize,
+    usage: [u8; 4],
+    number: u32,
+) -> Answer
+    ensures { λ r. ⌜ Called (state (now (buf .entry)) len (now (jrn .entry)) used) (edit (remove (rd32 usage) number)) r (now (buf .exit)) (now (jrn .exit)) ⌝ }
+{
+    let u = code_of(usage);
+    remove_entry(buf, len, jrn, used, u, number)
+}
+
+// The state of an editing session: the file's length, and the journal's.
+pub struct Session {
+    pub len: usize,
+    pub used: usize,
+}
+
+impl Session {
+    pub const BLANK_SIZE: usize = 24;
+
+    pub const BLANK: [u8; 24] = *b"FORM\x00\x00\x00\x10IFRSRIdx\x00\x00\x00\x04\x00\x00\x00\x00";
+
+    // A blank file and an empty journal.
+    pub fn fresh() -> Session
+        ensures { λ r. ⌜ (r .len ≡ 24) × (r .used ≡ 0) ⌝ }
+    {
+        Session {
+            len: Session::BLANK_SIZE,
+            used: 0,
+        }
+    }
+}
+
+// Blank: the blank file stands in the buffer's first 24 bytes.
+pub fn blank(buf: &mut [u8]) -> Answer
+    ensures { λ r. ⌜ (r ≡ blankAnswer (leb 24 (length (now (buf .entry))))) × (now (buf .exit) ≡ blanked (now (buf .entry))) ⌝ }
+{
+    if buf.len() < Session::BLANK_SIZE {
+        return Answer {
+            outcome: Outcome::Refused {
+                number: 24,
+                place: 0,
+            },
+            len: 0,
+            used: 0,
+        };
+    }
+    let file = Session::BLANK;
+    moves::copy_in(buf, 0, &file);
+    let fresh = Session::fresh();
+    Answer {
+        outcome: Outcome::Done,
+        len: fresh.len,
+        used: fresh.used,
+    }
+}
