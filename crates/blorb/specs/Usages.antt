@@ -29,7 +29,7 @@ usageOf n =
     (pickKnown (eqb n (codeOf Data)) (Is Data)
     (pickKnown (eqb n (codeOf Exec)) (Is Exec) Unknown)))
 
--- rule 5 by usage, as the code asks it: over a chunk's type and length
+-- rule 5 by usage, as the code asks it: over a chunk's type and, for a picture, its length; a sound of type 'FORM' is asked apart
 abbrev pub pictType : ℕ → ℕ → Bool
 pictType t m = eqb t JPEG || (eqb t PNG || (eqb t Rect && eqb m 8))
 

@@ -1,4 +1,4 @@
--- Demand 3: a run and the ledger agree.
+-- Laws of the buffers, and what a successful edit leaves.
 use mathlib.Core.Path.{_≡_, refl, sym, ap as cong, _∙_}
 use Prim.Native.Nat.{ℕ, zero, suc, _+_, _*_, _-_, _≤_, _<_, max}
 use mathlib.Core.List.{List, [], _∷_, _++_, map, append-assoc, append-nil}

@@ -1,4 +1,5 @@
--- The edits (01, The edits): what file results.
+-- The edits (01, The edits): what a file holds after each. Starts, lengths and count follow from it (`file`); that starts move as 01 says, all by
+-- 12, only those behind, by 12 and the chunk's size, is proved in proofs/Starts.antt.
 use Prim.Native.Nat.{ℕ, zero, suc, _+_, _*_, _-_}
 use mathlib.Core.List.{List, [], _∷_, _++_, map}
 use mathlib.Core.Bool.{Bool, true, false, cond, _&&_, _||_, not}
@@ -9,6 +10,7 @@ use Rattle.blorb.specs.Verdict.{noChunk}
 use Rattle.blorb.specs.Model.{Model}
 use Rattle.blorb.specs.Queries.{without, find, refAt, shared}
 
+-- a call's arguments: usage, number, type and data; usage, number
 pub data Edit : Type 0 where
   add : ℕ → ℕ → ℕ → List ℕ → Edit
   replace : ℕ → ℕ → ℕ → List ℕ → Edit
@@ -26,27 +28,30 @@ lower k r = record { usage = r .usage; number = r .number; chunk = cond (ltb k (
 unfoldable pub raise : ℕ → Ref → Ref
 raise k r = record { usage = r .usage; number = r .number; chunk = cond (leb k (r .chunk)) (suc (r .chunk)) (r .chunk) }
 
+-- add: "entry at the end of the index, chunk at the end of the file"
 unfoldable pub added : Model → ℕ → ℕ → Chunk → Model
 added m u n c = record { refs = m .refs ++ (record { usage = u; number = n; chunk = length (m .chunks) } ∷ []); chunks = m .chunks ++ (c ∷ []) }
 
--- chunk k is now c
+-- replace: "the chunk in the same position takes the new type and data"; chunk k is now c
 unfoldable pub replaced : Model → ℕ → Chunk → Model
 replaced m k c = record { refs = m .refs; chunks = set (m .chunks) k c }
 
--- entry i goes and its chunk k
+-- remove: "the entry goes. If no other entry shares the chunk, it goes too"; entry i and its chunk k
 unfoldable pub removedBoth : Model → ℕ → ℕ → Model
 removedBoth m i k = record { refs = map (lower k) (without i (m .refs)); chunks = without k (m .chunks) }
 
+-- "A shared chunk stays": entry i alone
 unfoldable pub removedEntry : Model → ℕ → Model
 removedEntry m i = record { refs = without i (m .refs); chunks = m .chunks }
 
 unfoldable pub removed : Model → ℕ → Model
 removed m i = cond (shared m i) (removedEntry m i) (removedBoth m i (refAt m i .chunk))
 
--- the chunk that the arguments of add and replace describe (P3 changes this one)
+-- the chunk that the arguments of add and replace describe
 unfoldable pub given : ℕ → List ℕ → Chunk
 given t d = record { type = t; body = d }
 
+-- what the file holds after an edit: "All other chunks keep their bytes and order."
 unfoldable pub edited : Model → Edit → Model
 edited m (add u n t d) = added m u n (given t d)
 edited m (replace u n t d) = replaced m (refAt m (find u n (m .refs)) .chunk) (given t d)

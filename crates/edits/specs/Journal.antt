@@ -11,6 +11,7 @@ use Rattle.blorb.specs.Model.{Model, base, startAt}
 use Rattle.edits.specs.Edit.{Edit, add, replace, remove, with-at, raise, replaced}
 use Rattle.blorb.specs.Queries.{find, uses, shared, refAt, chunkAt, without}
 
+-- "Each record: kind (1 byte), usage, number, index place from 0, start, type, m (4 bytes each), m data bytes"
 pub record Rec : Type 0 where
   pub kind : ℕ
   pub usage : ℕ
@@ -25,14 +26,16 @@ unfoldable pub recBody : Rec → List ℕ
 recBody r =
     r .kind ∷ (be32 (r .usage) ++ (be32 (r .number) ++ (be32 (r .place) ++ (be32 (r .start) ++ (be32 (r .type) ++ (be32 (length (r .body)) ++ r .body))))))
 
+-- "then a trailer of 4 bytes that points back: the length of what precedes it in the record, 25 + m"
 unfoldable pub recBytes : Rec → List ℕ
 recBytes r = recBody r ++ be32 (25 + length (r .body))
 
--- the record of an edit, from the file before it
+-- "3 removed with its chunk (place, start in the old file, type, data); 4 removed entry only (place, start in the old file; type, m zero)"
 unfoldable pub removal : Bool → Model → ℕ → ℕ → ℕ → Rec
 removal true m u n i = record { kind = 4; usage = u; number = n; place = i; start = start m (refAt m i .chunk); type = 0; body = [] }
 removal false m u n i = record { kind = 3; usage = u; number = n; place = i; start = start m (refAt m i .chunk); type = chunkAt m (refAt m i .chunk) .type; body = chunkAt m (refAt m i .chunk) .body }
 
+-- "1 added (place the old count; start, type, m zero); 2 replaced (entry's place, chunk's start, old type, old data)"
 unfoldable pub recOf : Model → Edit → Rec
 recOf m (add u n t d) = record { kind = 1; usage = u; number = n; place = length (m .refs); start = 0; type = 0; body = [] }
 recOf m (replace u n t d) =
@@ -41,7 +44,7 @@ recOf m (replace u n t d) =
     record { kind = 2; usage = u; number = n; place = i; start = start m k; type = chunkAt m k .type; body = chunkAt m k .body }
 recOf m (remove u n) = removal (shared m (find u n (m .refs))) m u n (find u n (m .refs))
 
--- reading the last record of a journal's first U bytes: t is the trailer
+-- reading the last record of j, a journal's first U bytes: its trailer first
 unfoldable pub trailer : List ℕ → ℕ
 trailer j = rd32 (drop (length j - 4) j)
 
@@ -68,6 +71,8 @@ zeros r =
     (not (eqb (r .kind) 1) || (eqb (r .start) 0 && eqb (r .type) 0 && eqb (length (r .body)) 0))
     && (not (eqb (r .kind) 4) || (eqb (r .type) 0 && eqb (length (r .body)) 0))
 
+-- "The last record is well formed if U is at least 29, its trailer lies between 25 and U − 4, m agrees, the kind is 1 to 4 and the fields
+-- named zero are zero."
 unfoldable pub wellFormed : List ℕ → Bool
 wellFormed j =
     leb 29 (length j) && leb 25 (trailer j) && leb (trailer j) (length j - 4)
@@ -78,22 +83,26 @@ wellFormed j =
 abbrev pub samePair : Rec → Ref → Bool
 samePair r e = eqb (e .usage) (r .usage) && eqb (e .number) (r .number)
 
+-- "kind 1, the last entry has that place, usage and number, and its chunk is last in the file and unshared"
 unfoldable pub fits1 : Rec → Model → Bool
 fits1 r m =
     eqb (length (m .refs)) (suc (r .place)) && samePair r (refAt m (r .place))
     && eqb (suc (refAt m (r .place) .chunk)) (length (m .chunks)) && not (shared m (r .place))
 
+-- "kind 2, the entry at that place has that usage, number and start, and its chunk is unshared"
 unfoldable pub fits2 : Rec → Model → Bool
 fits2 r m =
     ltb (r .place) (length (m .refs)) && samePair r (refAt m (r .place))
     && eqb (start m (refAt m (r .place) .chunk)) (r .start) && not (shared m (r .place))
 
--- a chunk's beginning behind the index, or the file's end
+-- "kind 3, place is at most the count and start − 12 is a chunk's beginning behind the index, or the file's end". Under 12 the difference is 0,
+-- which is neither.
 unfoldable pub fits3 : Rec → Model → Bool
 fits3 r m =
     leb (r .place) (length (m .refs))
     && (isStart (r .start - 12) (base (length (m .refs))) (m .chunks) || eqb (r .start - 12) (start m (length (m .chunks))))
 
+-- "kind 4, the same but start − 12 must be a chunk's beginning"
 unfoldable pub fits4 : Rec → Model → Bool
 fits4 r m = leb (r .place) (length (m .refs)) && isStart (r .start - 12) (base (length (m .refs))) (m .chunks)
 
@@ -103,7 +112,7 @@ byKind k a b c d = cond (eqb k 1) a (cond (eqb k 2) b (cond (eqb k 3) c d))
 unfoldable pub fits : Rec → Model → Bool
 fits r m = byKind (r .kind) (fits1 r m) (fits2 r m) (fits3 r m) (fits4 r m)
 
--- the model after the undo
+-- what the file holds after the undo: "both go"; "type and data go back"; "entry and chunk go in there"; "the entry goes in"
 unfoldable pub undo1 : Model → Model
 undo1 m = record { refs = take (length (m .refs) - 1) (m .refs); chunks = take (length (m .chunks) - 1) (m .chunks) }
 

@@ -11,7 +11,7 @@ use Rattle.edits.specs.Edit.{Edit, add, replace, remove, edited}
 use Rattle.blorb.specs.Queries.{find, shared}
 use Rattle.edits.specs.Journal.{Rec, recOf, recBytes, lastRec, wellFormed, fits, undone}
 
--- the lent buffers and what counts of them
+-- what a call is lent and given: the file buffer and L, the journal and U
 pub record State : Type 0 where
   pub buffer : List ℕ
   pub L : ℕ
@@ -43,20 +43,20 @@ abbrev pub accepted : Verdict → Bool
 accepted accept = true
 accepted (refuse k p) = false
 
--- the refusal of a resulting file
+-- "An edit whose resulting file the reader would refuse with k is refused with 100 + k, place as in that resulting file"
 abbrev pub hundred : Verdict → Verdict
 hundred accept = accept
 hundred (refuse k p) = refuse (100 + k) p
 
--- a whole file f written over one of L bytes
+-- a file f written over one of L bytes: "buffer bytes between a shorter new end and the old end become zero; bytes past both ends stay"
 unfoldable pub written : List ℕ → ℕ → List ℕ → List ℕ
 written buffer L f = f ++ (replicate (L - length f) 0 ++ drop (max L (length f)) buffer)
 
--- a record written at U
+-- "An edit writes its record at U and no other journal byte."
 unfoldable pub noted : List ℕ → ℕ → List ℕ → List ℕ
 noted journal U r = take U journal ++ (r ++ drop (U + length r) journal)
 
--- 22 and 23
+-- 22: "no such entry"; 23: "the chunk to be replaced is shared"
 unfoldable pub targetFault : Model → Edit → Verdict
 targetFault m (add u n t d) = accept
 targetFault m (replace u n t d) = check (ltb (find u n (m .refs)) (length (m .refs))) 22 0 then check (not (shared m (find u n (m .refs)))) 23 0
@@ -101,7 +101,7 @@ unfoldable pub after : State → Call → State
 after s (edit e) = afterEdit s e
 after s undo = afterUndo s
 
--- the ledger's file and records: the edits not taken back stand in the list, the last one first
+-- "Its file is the starting file with these applied in order": the list has the last edit first, so the first one applied stands at its end
 module _ (f₀ : List ℕ) where
   unfoldable pub ledgerFile : List Edit → List ℕ
   ledgerFile [] = f₀
@@ -127,7 +127,8 @@ ledgerAfter [] undo = []
 ledgerAfter (e ∷ es) undo = es
 
 module _ (R : Rules) where
-  -- an edit's refusal, for a file f of length L in a buffer of N bytes and U bytes used of a journal of J
+  -- "Add, replace, remove: 20, reader's number for the present file, 22, 23, 100 + k, 24, 25"; for a file f of length L in a buffer of N bytes
+  -- and U bytes used of a journal of J
   unfoldable pub editFault : ℕ → ℕ → List ℕ → ℕ → ℕ → Edit → Verdict
   editFault N J f L U e =
       check (leb L N && leb U J) 20 0
@@ -137,7 +138,7 @@ module _ (R : Rules) where
       then check (leb (length (editedFile f e)) N) 24 0
       then check (leb (U + length (editRecord f e)) J) 25 0
 
-  -- an undo's, j being the journal's first U bytes
+  -- "Undo: 20, reader's number, 26, 21, 24"; j is the journal's first U bytes. "The file after it must be accepted too."
   unfoldable pub undoFault : ℕ → ℕ → List ℕ → ℕ → ℕ → List ℕ → Verdict
   undoFault N J f L U j =
       check (leb L N && leb U J) 20 0
@@ -150,7 +151,7 @@ module _ (R : Rules) where
   fault s (edit e) = editFault (length (s .buffer)) (length (s .journal)) (take (s .L) (s .buffer)) (s .L) (s .U) e
   fault s undo = undoFault (length (s .buffer)) (length (s .journal)) (take (s .L) (s .buffer)) (s .L) (s .U) (take (s .U) (s .journal))
 
-  -- a call
+  -- a call: "A refused call changes nothing."
   unfoldable pub step : State → Call → State
   step s c = answered (fault s c) s (after s c)
 
@@ -163,8 +164,11 @@ module _ (R : Rules) where
   answers s [] = []
   answers s (c ∷ cs) = record { result = fault s c; L = step s c .L; U = step s c .U } ∷ answers (step s c) cs
 
-  -- the ledger: the starting file, both buffers' lengths, and the edits not taken back, the last one first
+  -- the ledger: "told the starting file, both buffers' lengths and the calls with their arguments, no answer and no journal byte". Its list
+  -- holds the edits not taken back, the last one first.
   module _ (f₀ : List ℕ) (N J : ℕ) where
+    -- "An edit is refused with the first reason in its order that holds for the call, the ledger's file, L and U and the buffers' lengths."
+    -- "An undo is refused with 26 if the list is empty."
     unfoldable pub ledgerFault : List Edit → Call → Verdict
     ledgerFault es (edit e) = editFault N J (ledgerFile f₀ es) (length (ledgerFile f₀ es)) (ledgerUsed f₀ es) e
     ledgerFault [] undo = refuse 26 0

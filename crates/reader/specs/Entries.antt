@@ -1,4 +1,4 @@
--- The entries of an index by their offsets, and rules 12 to 16 from an entry on.
+-- The entries of an index by their offsets, and refusals 12 to 16 from an entry on.
 use Prim.Native.Nat.{ℕ, zero, suc, _+_, _*_, _-_, _/_, _%_, _≤_, _<_}
 use mathlib.Core.Path.{_≡_}
 use mathlib.Core.List.{List, [], _∷_, _++_}

@@ -1,4 +1,4 @@
--- Rules 17 to 19 from a chunk on, and the frontispiece's picture by the lookup.
+-- Refusals 17 to 19 from a chunk on, and the frontispiece's picture by the lookup.
 use Prim.Native.Nat.{ℕ, zero, suc, _+_, _*_, _≤_}
 use mathlib.Core.Path.{_≡_}
 use mathlib.Core.List.{List, [], _∷_}
@@ -38,7 +38,7 @@ module _ (pic : ℕ → Bool) where
 unfoldable pub optionalFault : List ℕ → ℕ → Verdict
 optionalFault f count = rulesFrom (pictured f count) false false (place count) (chunksFrom f (place count))
 
--- what is known once rules 1 to 16 hold of a file with count entries
+-- what is known once refusals 1 to 16 are ruled out of a file with count entries
 pub record Judged (f : List ℕ) (count : ℕ) : Type 0 where
   pub few : count ≤ 4096
   pub room : place count ≤ length f

@@ -29,7 +29,7 @@ use Rattle.reader.specs.declared.Looked.the-variants.{Found, Refused as 
 unfoldable pub indexOf : List ℕ → List format.Entry
 indexOf f = entriesOf (getD (chunksOf f) 0 noChunk)
 
--- the verdict, with the length and the count where it accepts
+-- "For an accepted file the reader gives its length and entry count", else the verdict's number and place
 abbrev pub readBy : Verdict → ℕ → ℕ → Reading
 readBy accept l n = Accepted l n
 readBy (refuse k p) l n = Refused k p
@@ -37,7 +37,7 @@ readBy (refuse k p) l n = Refused k p
 unfoldable pub readOf : List ℕ → Reading
 readOf f = readBy (plainVerdict f) (length f) (length (indexOf f))
 
--- an entry with its usage as one of the four kinds; p is its place
+-- an entry with its usage as one of the four kinds; p is its place. The second clause is never met in an accepted file (Promises, entry-given).
 abbrev pub givenBy : Known → ℕ → ℕ → ℕ → Asked
 givenBy (Is u) n x p = Given (record { usage = u; number = n; start = x })
 givenBy Unknown n x p = Withheld 12 p
@@ -53,7 +53,7 @@ abbrev pub askedBy : Verdict → List format.Entry → ℕ → Asked
 askedBy accept es i = entryBy (ltb i (length es)) (getD es i noEntry) i
 askedBy (refuse k p) es i = Withheld k p
 
--- entry i, or the refusal
+-- "Asked for entry i, it gives usage, number and start, or 22 if i isn't below the count, after its own refusals."
 unfoldable pub entryOf : List ℕ → ℕ → Asked
 entryOf f i = askedBy (plainVerdict f) (indexOf f) i
 
@@ -75,10 +75,11 @@ abbrev pub lookedBy : Verdict → Looked → Looked
 lookedBy accept l = l
 lookedBy (refuse k p) l = Missing k p
 
+-- "A lookup gives the chunk's type and the part of the caller's slice that is its data"; "Lookup: reader's number, 22"
 unfoldable pub lookupOf : List ℕ → ℕ → ℕ → Looked
 lookupOf f u n = lookedBy (plainVerdict f) (foundBy f (hitIn u n (indexOf f)))
 
--- the part of the file that an answer names: empty where it refuses
+-- "the part's call gives an empty part where the answer's call refuses, and otherwise exactly the part the answer names"
 abbrev pub partOf : Looked → List ℕ → List ℕ
 partOf (Found t a m) f = take m (drop a f)
 partOf (Missing k p) f = []
