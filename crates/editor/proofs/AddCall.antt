@@ -1,39 +1,36 @@
 -- The ways out of an add.
 use mathlib.Core.Path.{_≡_, refl, sym, ap, _∙_}
-use Prim.Native.Nat.{ℕ, zero, suc, _+_, _*_, _-_, _≤_, _<_, _%_}
-use mathlib.Core.List.{List, [], _∷_, _++_}
-use mathlib.Core.Bool.{Bool, true, false, _&&_}
+use Prim.Native.Nat.{ℕ, _+_, _-_, _≤_, _%_}
+use mathlib.Core.List.{List, []}
+use mathlib.Core.Bool.{_&&_}
 use native.Mathlib.Omega.{arith}
-use lib.ListN.{length, take, drop}
-use lib.Seq.{length-take-le, take-length}
+use lib.ListN.{length, take}
+use lib.Seq.{length-take-le}
 use lib.Dec.{leb}
-use borrow.Author.Tests.{le-leb, lt-leb, leb-true}
-use Rattle.blorb.specs.Verdict.{Verdict, accept, refuse, _then_, check, verdict}
+use borrow.Author.Tests.{leb-true}
+use Rattle.blorb.specs.Verdict.{Verdict, accept, _then_, check, verdict}
 use Rattle.blorb.specs.Rules.{plainRules}
-use Rattle.blorb.specs.Model.{Model, model, file}
-use Rattle.edits.specs.Edit.{Edit, add, added, edited, given}
-use Rattle.edits.specs.Journal.{recOf, recBytes, Rec}
+use Rattle.blorb.specs.Model.{model, file}
+use Rattle.edits.specs.Edit.{Edit, add, edited, given}
+use Rattle.edits.specs.Journal.{recOf, recBytes}
 use Rattle.edits.proofs.JournalLaws.{length-recBytes}
 use Rattle.blorb.specs.All.{All}
 use Rattle.blorb.specs.Bytes.{Byte}
-use Rattle.blorb.proofs.Checks.{then-accept, check-accept, pass, accepts, stop}
+use Rattle.blorb.proofs.Checks.{then-accept, check-accept, accepts}
 use Rattle.blorb.proofs.Accept.{accept-back, accept-short}
 use Rattle.edits.proofs.P13.{length-added}
-use Rattle.edits.specs.Run.{State, Call, edit, hundred, targetFault, editFault, editedFile, editRecord, fault, after, afterEdit, step, answered, noted, written}
+use Rattle.edits.specs.Run.{hundred, targetFault, editFault, editedFile, editRecord, noted}
 use Rattle.editor.specs.Moves.{recordOf}
-use Rattle.editor.specs.declared.moves.Entry.{Entry}
 use Rattle.editor.specs.declared.Outcome.{Outcome}
 use Rattle.editor.specs.declared.Outcome.the-variants as outcome
-use Rattle.editor.specs.declared.Answer.{Answer}
-use Rattle.editor.specs.declared.Plan.{Plan}
 use Rattle.editor.specs.declared.Plan.the-variants.{Go, No}
 use Rattle.reader.specs.declared.Facts.{Facts}
 use Rattle.reader.specs.declared.Inspection.the-variants.{Whole, Refused}
 use Rattle.reader.specs.Inspecting.{targetOf}
-use Rattle.editor.specs.Post.{verdictOf, planOf, state, Called, Stands}
+use Rattle.editor.specs.Post.{verdictOf, planOf, Stands}
 use Rattle.editor.proofs.OpenLaws.{asked, asked-refused, asked-whole}
-use Rattle.editor.proofs.Writes.{file-length, size-given}
-use Rattle.editor.proofs.CallLaws.{plan-go, hundred-fine, open-stands, stands-part, opening, edit-unopened, edit-judged, edit-no-room, edit-no-journal, edit-fine, called-refused, called-done}
+use Rattle.editor.proofs.Writes.{size-given}
+use Rattle.editor.proofs.CallLaws.{plan-go, hundred-fine, open-stands, stands-part, edit-unopened, edit-told}
 
 module _ (b : List ℕ) (l J U u n t : ℕ) (d : List ℕ) (bytes : All Byte (take l b)) where
   abbrev pub f : List ℕ
@@ -84,26 +81,16 @@ module _ (b : List ℕ) (l J U u n t : ℕ) (d : List ℕ) (bytes : All Byte (ta
     pub told-pair : Stands f (length f) (fs .count) × (fs .target ≡ targetOf (model f) u n)
     told-pair = (stands-part b l (fs .count) (told-stands .0), ap (λ (z : Facts). z .target) (asked-whole b l J U u n x fs op .1))
 
-    module _ (r : Outcome) (judged : verdictOf r ≡ hundred (verdict plainRules (editedFile f E))) where
-      pub plan-judged : (k p : ℕ) → r ≡ outcome.Refused k p → No k p ≡ planOf Vd K
-      plan-judged k p e = ap (λ (v : Verdict). planOf v K) (sym (edit-judged (length b) J f l U E k p ok on-target (sym judged ∙ ap verdictOf e)))
+    module _ (j r : Outcome) (judged : verdictOf j ≡ hundred (verdict plainRules (editedFile f E)))
+        (e : verdictOf r ≡ verdictOf j then (check (leb (l + (20 + (length d + length d % 2))) (length b)) 24 0 then check (leb 29 (J - U)) 25 0)) where
+      told : Vd ≡ verdictOf r
+      told = edit-told (length b) J f l U E j r _ _ ok on-target (told-stands .1) judged (sym (add-length ok)) (sym record-29) e
 
-      pub plan-24 : r ≡ outcome.Done → length b - l < 20 + (length d + length d % 2) → No 24 0 ≡ planOf Vd K
-      plan-24 e h =
-          let lt : length b < length (editedFile f E) = omega (arith, add-length ok, told-stands .0 .inside) in
-          ap (λ (v : Verdict). planOf v K) (sym (edit-no-room (length b) J f l U E ok on-target (sym judged ∙ ap verdictOf e) lt))
+      pub plan-refused : (k p : ℕ) → r ≡ outcome.Refused k p → No k p ≡ planOf Vd K
+      plan-refused k p q = ap (λ (v : Verdict). planOf v K) (sym (told ∙ ap verdictOf q))
 
-      pub plan-25 : r ≡ outcome.Done → 20 + (length d + length d % 2) ≤ length b - l → J - U < 29 → No 25 0 ≡ planOf Vd K
-      plan-25 e h g =
-          let le : length (editedFile f E) ≤ length b = omega (arith, add-length ok, told-stands .0 .inside) in
-          let lt : J < U + length (editRecord f E) = omega (arith, record-29, told-stands .1) in
-          ap (λ (v : Verdict). planOf v K) (sym (edit-no-journal (length b) J f l U E ok on-target (sym judged ∙ ap verdictOf e) le lt))
-
-      pub plan-fine : r ≡ outcome.Done → 20 + (length d + length d % 2) ≤ length b - l → 29 ≤ J - U → Go (fs .count) ≡ planOf Vd K
-      plan-fine e h g =
-          let le : length (editedFile f E) ≤ length b = omega (arith, add-length ok, told-stands .0 .inside) in
-          let lt : U + length (editRecord f E) ≤ J = omega (arith, record-29, told-stands .1) in
-          ap Go count-is ∙ ap (λ (v : Verdict). planOf v K) (sym (edit-fine (length b) J f l U E ok on-target (sym judged ∙ ap verdictOf e) le lt))
+      pub plan-fine : r ≡ outcome.Done → Go (fs .count) ≡ planOf Vd K
+      plan-fine q = ap Go count-is ∙ ap (λ (v : Verdict). planOf v K) (sym (told ∙ ap verdictOf q))
 
   -- what a plan to go on tells
   pub record Ready (k : ℕ) : Type 0 where

@@ -1,35 +1,31 @@
 -- The refusals of an add, without building its file.
 use mathlib.Core.Path.{_≡_, refl, sym, ap, _∙_}
-use Prim.Native.Nat.{ℕ, zero, suc, _+_, _*_, _-_, _≤_, _<_, _%_}
-use mathlib.Core.List.{List, [], _∷_, _++_, map, append-assoc, append-nil}
-use mathlib.Core.Bool.{Bool, true, false, cond, _&&_, _||_, not}
+use Prim.Native.Nat.{ℕ, suc, _+_, _*_, _≤_, _<_, _%_}
+use mathlib.Core.List.{List, [], _∷_, _++_}
+use mathlib.Core.Bool.{Bool, true, false, _||_, not}
 use native.Mathlib.Omega.{arith}
-use lib.ListN.{length, getD, take, drop, length-append}
-use lib.Seq.{getD-append-seam, length-take-le, take-length}
+use lib.ListN.{length, getD}
+use lib.Seq.{getD-append-seam, take-length}
 use lib.Dec.{eqb, leb, ltb}
-use borrow.Author.Tests.{eq-eqb, ne-eqb, eqb-true, eqb-false, le-leb, lt-leb, leb-true, lt-ltb, le-ltb, ltb-true, ltb-false}
-use Rattle.blorb.specs.Bytes.{rd32}
-use Rattle.blorb.specs.Format.{Ref, Chunk, size, total}
-use Rattle.blorb.specs.Tags.{RIdx, tag}
-use Rattle.blorb.specs.Verdict.{Rules, Verdict, accept, refuse, _then_, check, noChunk, knownUsage, pairIn, refFault, verdict}
+use borrow.Author.Tests.{eq-eqb, ne-eqb, le-leb, lt-leb}
+use Rattle.blorb.specs.Format.{Ref, Chunk, total}
+use Rattle.blorb.specs.Tags.{RIdx}
+use Rattle.blorb.specs.Verdict.{Verdict, accept, refuse, _then_, check, noChunk, knownUsage, refFault, verdict}
 use Rattle.blorb.specs.Rules.{plain, optional, plainRules}
-use Rattle.blorb.specs.Tags.{Pict, Snd, Data, Exec}
+use Rattle.blorb.specs.Tags.{Exec}
 use Rattle.blorb.specs.Model.{Model, base, file, model}
-use Rattle.edits.specs.Edit.{Edit, add, added, edited, given}
+use Rattle.edits.specs.Edit.{add, added, edited, given}
 use Rattle.blorb.specs.Queries.{find}
 use Rattle.blorb.specs.All.{All}
-use Rattle.blorb.proofs.Sound.{W, RefOk, Sound}
-use Rattle.edits.specs.Run.{ArgsOk}
+use Rattle.blorb.proofs.Sound.{W, Sound}
 use Rattle.blorb.specs.Bytes.{Byte}
-use Rattle.blorb.proofs.Checks.{then-accept, check-accept, pass, stop, accepts, holds-last}
+use Rattle.blorb.proofs.Checks.{then-accept}
 use Rattle.blorb.proofs.Accept.{accept-back}
-use Rattle.edits.proofs.AddVerdict.{then-assoc, then-end, added-verdict}
-use Rattle.blorb.proofs.VerdictLaws.{refsFault, modelFault, verdict-file}
+use Rattle.edits.proofs.AddVerdict.{then-assoc, added-verdict}
+use Rattle.blorb.proofs.VerdictLaws.{modelFault, verdict-file}
 use Rattle.edits.proofs.FitLaws.{edit-sound}
 use Rattle.edits.proofs.P13.{length-added}
-use Rattle.edits.specs.Journal.{recOf, recBytes}
-use Rattle.edits.proofs.JournalLaws.{length-recBytes}
-use Rattle.edits.specs.Run.{hundred, editedFile, editRecord, targetFault, editFault}
+use Rattle.edits.specs.Run.{hundred, editedFile}
 use Rattle.blorb.specs.Usages.{chunkOf}
 use Rattle.reader.specs.declared.Piece.{Piece}
 use Rattle.reader.specs.declared.Target.{Target}
@@ -37,7 +33,7 @@ use Rattle.reader.specs.declared.Target.the-variants as target
 use Rattle.reader.specs.Inspecting.{targetOf}
 use Rattle.editor.specs.Post.{Stands}
 use Rattle.editor.proofs.OpenLaws.{target-at, target-nothing}
-use Rattle.edits.proofs.FaultLaws.{hundred-then, hundred-check, unlooked, ltb-suc, pair-found}
+use Rattle.edits.proofs.FaultLaws.{hundred-then, hundred-check, unlooked, pair-found}
 use Rattle.edits.proofs.RuleSeven.{plain-plain, optional-added}
 use Rattle.editor.proofs.Writes.{file-length, size-given}
 

@@ -1,32 +1,29 @@
 -- From plans to the promise of a call.
 use mathlib.Core.Path.{_≡_, refl, sym, ap, subst, _∙_}
-use Prim.Native.Nat.{ℕ, zero, suc, _+_, _*_, _-_, _≤_, _<_, _%_}
-use mathlib.Core.List.{List, [], _∷_, _++_}
+use Prim.Native.Nat.{ℕ, _+_, _-_, _≤_, _<_}
+use mathlib.Core.List.{List}
 use mathlib.Core.Bool.{Bool, true, false, _&&_}
 use native.Mathlib.Omega.{arith}
 use lib.ListN.{length, take, drop, length-drop}
-use lib.Seq.{length-take-le, take-length, take-all}
+use lib.Seq.{length-take-le, take-length}
 use lib.Dec.{leb}
-use borrow.Author.Tests.{le-leb, lt-leb, leb-true}
+use borrow.Author.Tests.{le-leb, lt-leb, leb-true, leb-false}
 use Rattle.blorb.specs.Verdict.{Verdict, accept, refuse, _then_, check, verdict}
 use Rattle.blorb.specs.Rules.{plainRules}
-use Rattle.blorb.specs.Model.{Model, model, file}
-use Rattle.edits.specs.Edit.{Edit, add, added, edited, given}
-use Rattle.edits.specs.Journal.{recOf, recBytes, Rec}
-use Rattle.edits.proofs.JournalLaws.{length-recBytes}
+use Rattle.blorb.specs.Model.{model, file}
+use Rattle.edits.specs.Edit.{Edit}
 use Rattle.blorb.specs.All.{All}
 use Rattle.blorb.specs.Bytes.{Byte}
 use Rattle.blorb.proofs.Checks.{then-accept, check-accept, pass, accepts, stop}
 use Rattle.blorb.proofs.Accept.{accept-back}
 use Rattle.edits.proofs.AddVerdict.{then-assoc}
-use Rattle.edits.proofs.P13.{length-added}
-use Rattle.edits.specs.Run.{State, Call, edit, hundred, targetFault, editFault, editedFile, editRecord, fault, after, afterEdit, step, answered}
+use Rattle.edits.specs.Run.{State, Call, hundred, targetFault, editFault, editedFile, editRecord, fault, after, step, answered}
+use Rattle.editor.specs.declared.Outcome.{Outcome}
 use Rattle.editor.specs.declared.Outcome.the-variants.{Done, Refused}
 use Rattle.editor.specs.declared.Answer.{Answer}
-use Rattle.editor.specs.declared.Plan.{Plan}
 use Rattle.editor.specs.declared.Plan.the-variants.{Go, No}
-use Rattle.editor.specs.Post.{verdictOf, planOf, Called, Stands, blankAnswer}
-use Rattle.editor.proofs.Writes.{file-length, size-given}
+use Rattle.editor.specs.Post.{verdictOf, refusedWith, doneWith, planOf, Called, Stands, blankAnswer}
+use Rattle.editor.proofs.Writes.{file-length}
 
 and-parts : (a b : Bool) → a && b ≡ true → (a ≡ true) × (b ≡ true)
 and-parts true b h = (refl, h)
@@ -63,6 +60,14 @@ stands-part b l k s =
     let e : take (length (take l b)) (take l b) ≡ take l b = take-length (take l b) in
     record { inside = omega arith; fine = ap (verdict plainRules) e ∙ s .fine; entries = s .entries ∙ ap (λ (z : List ℕ). length (model z .refs)) (sym e); index = omega (arith, s .index); short = omega (arith, s .short) }
 
+-- room for y more
+left-room : (u y J : ℕ) → u ≤ J → leb (u + y) J ≡ leb y (J - u)
+left-room u y J h = go (leb y (J - u)) refl
+  where
+    go : (b : Bool) → leb y (J - u) ≡ b → leb (u + y) J ≡ b
+    go true e = le-leb (u + y) J (omega (arith, leb-true y (J - u) e))
+    go false e = lt-leb (u + y) J (omega (arith, leb-false y (J - u) e))
+
 -- an edit's refusals in their order
 module _ (N J : ℕ) (f : List ℕ) (L U : ℕ) (e : Edit) where
   abbrev pub opening : Verdict
@@ -78,37 +83,27 @@ module _ (N J : ℕ) (f : List ℕ) (L U : ℕ) (e : Edit) where
   pub edit-off-target : (n p : ℕ) → opening ≡ accept → targetFault (model f) e ≡ refuse n p → editFault plainRules N J f L U e ≡ refuse n p
   edit-off-target n p h t = edit-split ∙ accepts _ _ h ∙ ap (λ (v : Verdict). v then (hundred (verdict plainRules (editedFile f e)) then (check (leb (length (editedFile f e)) N) 24 0 then check (leb (U + length (editRecord f e)) J) 25 0))) t ∙ (unfold _then_ in refl)
 
-  pub edit-judged : (n p : ℕ) → opening ≡ accept → targetFault (model f) e ≡ accept → hundred (verdict plainRules (editedFile f e)) ≡ refuse n p → editFault plainRules N J f L U e ≡ refuse n p
-  edit-judged n p h t j = edit-split ∙ accepts _ _ h ∙ accepts _ _ t ∙ ap (λ (v : Verdict). v then (check (leb (length (editedFile f e)) N) 24 0 then check (leb (U + length (editRecord f e)) J) 25 0)) j ∙ (unfold _then_ in refl)
-
-  pub edit-room : opening ≡ accept → targetFault (model f) e ≡ accept → hundred (verdict plainRules (editedFile f e)) ≡ accept
-      → editFault plainRules N J f L U e ≡ check (leb (length (editedFile f e)) N) 24 0 then check (leb (U + length (editRecord f e)) J) 25 0
-  edit-room h t j = edit-split ∙ accepts _ _ h ∙ accepts _ _ t ∙ accepts _ _ j
-
-  pub edit-no-room : opening ≡ accept → targetFault (model f) e ≡ accept → hundred (verdict plainRules (editedFile f e)) ≡ accept
-      → N < length (editedFile f e) → editFault plainRules N J f L U e ≡ refuse 24 0
-  edit-no-room h t j lt = edit-room h t j ∙ stop _ _ _ _ (lt-leb _ _ lt)
-
-  pub edit-no-journal : opening ≡ accept → targetFault (model f) e ≡ accept → hundred (verdict plainRules (editedFile f e)) ≡ accept
-      → length (editedFile f e) ≤ N → J < U + length (editRecord f e) → editFault plainRules N J f L U e ≡ refuse 25 0
-  unfolding check
-  edit-no-journal h t j le lt = edit-room h t j ∙ pass _ _ _ _ (le-leb _ _ le) ∙ rw (lt-leb (U + length (editRecord f e)) J lt)
-
-  pub edit-fine : opening ≡ accept → targetFault (model f) e ≡ accept → hundred (verdict plainRules (editedFile f e)) ≡ accept
-      → length (editedFile f e) ≤ N → U + length (editRecord f e) ≤ J → editFault plainRules N J f L U e ≡ accept
-  unfolding check
-  edit-fine h t j le lt = edit-room h t j ∙ pass _ _ _ _ (le-leb _ _ le) ∙ rw (le-leb (U + length (editRecord f e)) J lt)
+  -- 100 + k, 24 and 25, as the code finds them: j is what was judged, x and y the new file's and the record's length
+  pub edit-told : (j r : Outcome) (x y : ℕ) → opening ≡ accept → targetFault (model f) e ≡ accept → U ≤ J
+      → verdictOf j ≡ hundred (verdict plainRules (editedFile f e)) → x ≡ length (editedFile f e) → y ≡ length (editRecord f e)
+      → verdictOf r ≡ verdictOf j then (check (leb x N) 24 0 then check (leb y (J - U)) 25 0)
+      → editFault plainRules N J f L U e ≡ verdictOf r
+  edit-told j r x y h t le ej ex ey er =
+      edit-split ∙ accepts _ _ h ∙ accepts _ _ t
+      ∙ (λ i. sym ej i then (check (leb (sym ex i) N) 24 0 then check (left-room U (length (editRecord f e)) J le i) 25 0))
+      ∙ ap (λ (z : ℕ). verdictOf j then (check (leb x N) 24 0 then check (leb z (J - U)) 25 0)) (sym ey)
+      ∙ sym er
 
 -- a call's promise
 pub called-refused : (s : State) (c : Call) (n p : ℕ) → fault plainRules s c ≡ refuse n p
-    → Called s c (record { outcome = Refused n p; len = s .L; used = s .U }) (s .buffer) (s .journal)
+    → Called s c (refusedWith n p (s .L) (s .U)) (s .buffer) (s .journal)
 called-refused s c n p h =
     let e : step plainRules s c ≡ s = (unfold step in ap (λ (v : Verdict). answered v s (after s c)) h) in
     record { outcome = sym h; len = ap (λ (z : State). z .L) (sym e); used = ap (λ (z : State). z .U) (sym e); file = ap (λ (z : State). z .buffer) (sym e); journal = ap (λ (z : State). z .journal) (sym e) }
 
 pub called-done : (s : State) (c : Call) (l u : ℕ) (b j : List ℕ) → fault plainRules s c ≡ accept
     → l ≡ after s c .L → u ≡ after s c .U → b ≡ after s c .buffer → j ≡ after s c .journal
-    → Called s c (record { outcome = Done; len = l; used = u }) b j
+    → Called s c (doneWith l u) b j
 called-done s c l u b j h el eu eb ej =
     let e : step plainRules s c ≡ after s c = (unfold step in ap (λ (v : Verdict). answered v s (after s c)) h) in
     record { outcome = sym h; len = el ∙ ap (λ (z : State). z .L) (sym e); used = eu ∙ ap (λ (z : State). z .U) (sym e); file = eb ∙ ap (λ (z : State). z .buffer) (sym e); journal = ej ∙ ap (λ (z : State). z .journal) (sym e) }
@@ -116,12 +111,20 @@ called-done s c l u b j h el eu eb ej =
 pub called-as : (s : State) (c c′ : Call) (r : Answer) (b j : List ℕ) → c ≡ c′ → Called s c r b j → Called s c′ r b j
 called-as s c c′ r b j e h = subst (λ (z : Call). Called s z r b j) e h
 
+-- the same of an answer that a function gave
+pub gave-refused : (s : State) (c : Call) (r : Answer) (n p : ℕ) → r ≡ refusedWith n p (s .L) (s .U) → fault plainRules s c ≡ refuse n p → Called s c r (s .buffer) (s .journal)
+gave-refused s c r n p e h = subst (λ (z : Answer). Called s c z (s .buffer) (s .journal)) (sym e) (called-refused s c n p h)
+
+pub gave-done : (s : State) (c : Call) (r : Answer) (l u : ℕ) (b j : List ℕ) → r ≡ doneWith l u → fault plainRules s c ≡ accept
+    → l ≡ after s c .L → u ≡ after s c .U → b ≡ after s c .buffer → j ≡ after s c .journal → Called s c r b j
+gave-done s c r l u b j e h el eu eb ej = subst (λ (z : Answer). Called s c z b j) (sym e) (called-done s c l u b j h el eu eb ej)
+
 -- blank's two answers
-pub blank-refused : (N : ℕ) → N < 24 → _≡_ {A = Answer} (record { outcome = Refused 24 0; len = 0; used = 0 }) (blankAnswer (leb 24 N))
+pub blank-refused : (N : ℕ) → N < 24 → refusedWith 24 0 0 0 ≡ blankAnswer (leb 24 N)
 blank-refused N h = rw (lt-leb 24 N h)
 
-pub blank-done : (N l u : ℕ) → 24 ≤ N → l ≡ 24 → u ≡ 0 → _≡_ {A = Answer} (record { outcome = Done; len = l; used = u }) (blankAnswer (leb 24 N))
-blank-done N l u h el eu = rw (le-leb 24 N h) (λ i. record { outcome = Done; len = el i; used = eu i })
+pub blank-done : (N l u : ℕ) → 24 ≤ N → l ≡ 24 → u ≡ 0 → doneWith l u ≡ blankAnswer (leb 24 N)
+blank-done N l u h el eu = rw (le-leb 24 N h) (λ i. doneWith (el i) (eu i))
 
 -- a part of n bytes from x on
 pub part-size : (x n : ℕ) → x + n - x ≡ n
@@ -129,3 +132,24 @@ part-size x n = omega arith
 
 pub part-length : (b : List ℕ) (x n : ℕ) → x + n ≤ length b → length (take (x + n - x) (drop x b)) ≡ n
 part-length b x n h = let e : length (drop x b) ≡ length b - x = length-drop x b in length-take-le (x + n - x) (drop x b) (omega arith) ∙ part-size x n
+
+-- the ways out of with_room
+module _ (v : Outcome) (x N y J : ℕ) where
+  pub room-judged : (k p : ℕ) → v ≡ Refused k p → refuse k p ≡ verdictOf v then (check (leb x N) 24 0 then check (leb y J) 25 0)
+  room-judged k p e = sym (ap (λ (z : Outcome). verdictOf z then (check (leb x N) 24 0 then check (leb y J) 25 0)) e ∙ (unfold _then_ in refl))
+
+  module _ (e : v ≡ Done) where
+    past : verdictOf v then (check (leb x N) 24 0 then check (leb y J) 25 0) ≡ check (leb x N) 24 0 then check (leb y J) 25 0
+    past = accepts _ _ (ap verdictOf e)
+
+    pub room-24 : N < x → refuse 24 0 ≡ verdictOf v then (check (leb x N) 24 0 then check (leb y J) 25 0)
+    room-24 h = sym (past ∙ stop _ _ _ _ (lt-leb _ _ h))
+
+    module _ (h : x ≤ N) where
+      pub room-25 : J < y → refuse 25 0 ≡ verdictOf v then (check (leb x N) 24 0 then check (leb y J) 25 0)
+      unfolding check
+      room-25 g = sym (past ∙ pass _ _ _ _ (le-leb _ _ h) ∙ rw (lt-leb y J g))
+
+      pub room-fine : y ≤ J → accept ≡ verdictOf v then (check (leb x N) 24 0 then check (leb y J) 25 0)
+      unfolding check
+      room-fine g = sym (past ∙ pass _ _ _ _ (le-leb _ _ h) ∙ rw (le-leb y J g))

@@ -16,3 +16,5 @@ pub mod ReplaceBytes
 pub mod ReplaceFault
 pub mod ReplaceCall
 pub mod LastRead
+pub mod ContentLaws
+pub mod ReadsBack

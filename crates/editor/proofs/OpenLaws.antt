@@ -6,12 +6,12 @@ use mathlib.Core.Bool.{Bool, true, false, _&&_}
 use native.Mathlib.Omega.{arith}
 use lib.ListN.{length, take}
 use lib.Dec.{leb, ltb}
-use borrow.Author.Tests.{le-leb, lt-leb, ltb-true, ltb-false}
+use borrow.Author.Tests.{le-leb, lt-leb}
 use Rattle.blorb.specs.Verdict.{Verdict, accept, refuse, _then_, check, verdict}
 use Rattle.blorb.specs.Tags.{Fspc}
 use Rattle.blorb.specs.Rules.{typeIn, plainRules, plainVerdict}
 use Rattle.blorb.specs.Model.{Model, model}
-use Rattle.blorb.specs.Queries.{find, start, frontPlace, frontNumber}
+use Rattle.blorb.specs.Queries.{find, refAt, chunkAt, shared, start, frontPlace, frontNumber}
 use Rattle.reader.specs.declared.Piece.{Piece}
 use Rattle.reader.specs.declared.Target.the-variants as target
 use Rattle.reader.specs.declared.Front.the-variants as front
@@ -82,6 +82,19 @@ target-nothing m u n e = go (ltb (find u n (m .refs)) (length (m .refs))) e
     go : (b : Bool) → targetBy b m (find u n (m .refs)) ≡ target.Nothing → b ≡ false
     go true e = cc
     go false e = refl
+
+module _ (m : Model) (i : ℕ) (p : Piece) (e : p ≡ pieceOf m i) where
+  pub place-is : p .place ≡ i
+  place-is = ap (λ (z : Piece). z .place) e
+
+  pub start-is : p .start ≡ start m (refAt m i .chunk)
+  start-is = ap (λ (z : Piece). z .start) e
+
+  pub length-is : p .length ≡ length (chunkAt m (refAt m i .chunk) .body)
+  length-is = ap (λ (z : Piece). z .length) e
+
+  pub shared-is : p .shared ≡ shared m i
+  shared-is = ap (λ (z : Piece). z .shared) e
 
 -- the frontispiece
 pub front-nothing : (m : Model) → frontOf m ≡ front.Nothing → typeIn Fspc (m .chunks) ≡ false

@@ -6,50 +6,47 @@ use mathlib.Core.Bool.{Bool, true, false, cond, _&&_}
 use native.Mathlib.Omega.{arith}
 use native.Mathlib.Nat.{le-of-suc-le-suc, not-suc-le-zero}
 use lib.ListN.{length, take, drop, getD, take-append-drop, length-drop}
-use lib.Seq.{length-take-le, take-length, take-append-le, drop-append-le}
+use lib.Seq.{length-take-le, take-append-le, drop-append-le}
 use lib.Dec.{leb, ltb}
-use borrow.Author.Tests.{le-leb, lt-leb, leb-true, lt-ltb, le-ltb, ltb-true}
+use borrow.Author.Tests.{leb-true, lt-ltb, ltb-true}
 use Rattle.blorb.specs.Format.{Chunk, size, sized, total}
 use Rattle.blorb.specs.Verdict.{Verdict, accept, refuse, _then_, check, verdict, noChunk}
 use Rattle.blorb.specs.Rules.{plainRules}
 use Rattle.blorb.specs.Model.{Model, model, file, startAt, base}
 use Rattle.edits.specs.Edit.{Edit, remove, removed, edited}
-use Rattle.blorb.specs.Queries.{find, refAt, chunkAt, shared, noRef}
+use Rattle.blorb.specs.Queries.{find, refAt, chunkAt, shared, noRef, start}
 use Rattle.edits.specs.Journal.{recOf, recBytes, Rec, removal}
-use Rattle.blorb.specs.Queries.{start}
 use Rattle.edits.proofs.JournalLaws.{length-recBytes}
 use Rattle.blorb.specs.All.{All}
 use Rattle.blorb.proofs.AllLaws.{all-getD}
-use Rattle.blorb.proofs.Sound.{W, RefOk, Sound}
-use Rattle.blorb.proofs.Places.{body-size}
-use Rattle.blorb.proofs.ModelLaws.{size-getD, total-take}
+use Rattle.blorb.proofs.Sound.{RefOk, Sound}
 use Rattle.blorb.proofs.VerdictLaws.{modelFault, verdict-file}
 use Rattle.edits.proofs.FitLaws.{find-pair}
 use Rattle.blorb.specs.Bytes.{Byte}
-use Rattle.blorb.proofs.Checks.{then-accept, check-accept, accepts, holds-last, pass, stop}
+use Rattle.blorb.proofs.Checks.{then-accept, check-accept, accepts, holds-last}
 use Rattle.blorb.proofs.Accept.{accept-back}
-use Rattle.edits.specs.Run.{State, Call, edit, hundred, targetFault, editFault, editedFile, editRecord, noted, written}
+use Rattle.edits.specs.Run.{edit, hundred, targetFault, editFault, editedFile, editRecord, noted, written, fault, after, afterEdit}
 use Rattle.editor.specs.Moves.{recordOf}
 use Rattle.editor.specs.declared.Outcome.{Outcome}
 use Rattle.editor.specs.declared.Outcome.the-variants as outcome
-use Rattle.editor.specs.declared.Removal.{Removal}
+use Rattle.editor.specs.declared.Answer.{Answer}
 use Rattle.editor.specs.declared.Removal.the-variants.{Take, Not}
 use Rattle.reader.specs.declared.Piece.{Piece}
 use Rattle.reader.specs.declared.Target.the-variants as target
 use Rattle.reader.specs.declared.Facts.{Facts}
 use Rattle.reader.specs.declared.Inspection.the-variants.{Whole, Refused}
-use Rattle.reader.specs.Inspecting.{frontOf}
-use Rattle.editor.proofs.OpenLaws.{asked, asked-refused, asked-whole, target-at, target-nothing}
-use Rattle.editor.specs.Post.{verdictOf, removalOf, goneSize, Stands, Listed, Removable}
+use Rattle.reader.specs.Inspecting.{pieceOf, frontOf}
+use Rattle.editor.proofs.OpenLaws.{asked, asked-refused, asked-whole, target-at, target-nothing, place-is, start-is, length-is}
+use Rattle.editor.specs.Post.{verdictOf, doneWith, state, Called, removalOf, goneSize, Stands, Listed, Removable}
 use Rattle.editor.proofs.Writes.{file-length}
 use Rattle.editor.proofs.RemoveFault.{removed-length}
 use Rattle.editor.proofs.ChunkAt.{body-at}
-use Rattle.editor.proofs.CallLaws.{open-stands, edit-unopened, edit-off-target, edit-judged, edit-room, edit-no-journal, edit-fine}
+use Rattle.editor.proofs.CallLaws.{open-stands, edit-unopened, edit-off-target, edit-told, gave-done, part-size, part-length}
 
 -- the size that goes, by what the reader tells
-gone-is : (m : Model) (i x : ℕ) (sh : Bool) → sh ≡ shared m i → x ≡ length (chunkAt m (refAt m i .chunk) .body) → cond sh 0 (8 + (x + x % 2)) ≡ goneSize m i
+gone-is : (m : Model) (i : ℕ) (p : Piece) → p ≡ pieceOf m i → cond (p .shared) 0 (8 + (p .length + p .length % 2)) ≡ goneSize m i
 unfolding goneSize size sized
-gone-is m i x sh es ex = λ z. cond (es z) 0 (8 + (ex z + ex z % 2))
+gone-is m i p e = ap (λ (z : Piece). cond (z .shared) 0 (8 + (z .length + z .length % 2))) e
 
 gone-sized : (m : Model) (i : ℕ) → goneSize m i ≤ size (chunkAt m (refAt m i .chunk))
 unfolding goneSize
@@ -141,9 +138,6 @@ module _ (b : List ℕ) (l J U u n : ℕ) (bytes : All Byte (take l b)) where
     unfolding targetFault
     on-target = holds-last _ _ _ (lt-ltb _ _ (w .listed))
 
-    pub chunk-short : length (chunkAt m kc .body) ≤ 16777216
-    chunk-short = omega (arith, body-sized (chunkAt m kc), w .ends, w .stands .short)
-
   pub plan-unopened : (x k p : ℕ) → asked b l J U u n x ≡ Refused k p → Not k p ≡ removalOf Vd m u n
   plan-unopened x k p e = ap (λ (v : Verdict). removalOf v m u n) (sym (edit-unopened (length b) J f l U E k p (asked-refused b l J U u n x k p e)))
 
@@ -153,28 +147,14 @@ module _ (b : List ℕ) (l J U u n : ℕ) (bytes : All Byte (take l b)) where
     pub found : Found K
     pub count-is : fs .count ≡ K
     pub front-is : fs .front ≡ frontOf m
-    pub place-is : p .place ≡ i
-    pub start-is : p .start ≡ start m kc
-    pub type-is : p .kind ≡ chunkAt m kc .type
-    pub length-is : p .length ≡ length (chunkAt m kc .body)
-    pub shared-is : p .shared ≡ shared m i
+    pub piece-is : p ≡ pieceOf m i
 
   module _ (x : ℕ) (fs : Facts) (e : asked b l J U u n x ≡ Whole fs) where
     pub told : (p : Piece) → fs .target ≡ target.At p → Told fs p
     told p t =
         let w = asked-whole b l J U u n x fs e in
         let h = target-at m u n p (ap (λ (z : Facts). z .target) (sym (w .1)) ∙ t) in
-        record {
-          opened = w .0;
-          found = found (w .0) (ltb-true _ _ (h .0));
-          count-is = ap (λ (z : Facts). z .count) (w .1);
-          front-is = ap (λ (z : Facts). z .front) (w .1);
-          place-is = ap (λ (z : Piece). z .place) (h .1);
-          start-is = ap (λ (z : Piece). z .start) (h .1);
-          type-is = ap (λ (z : Piece). z .kind) (h .1);
-          length-is = ap (λ (z : Piece). z .length) (h .1);
-          shared-is = ap (λ (z : Piece). z .shared) (h .1);
-        }
+        record { opened = w .0; found = found (w .0) (ltb-true _ _ (h .0)); count-is = ap (λ (z : Facts). z .count) (w .1); front-is = ap (λ (z : Facts). z .front) (w .1); piece-is = h .1 }
 
     -- the entry is not there
     pub told-missing : fs .target ≡ target.Nothing → (O ≡ accept) × (ltb i K ≡ false)
@@ -188,53 +168,56 @@ module _ (b : List ℕ) (l J U u n : ℕ) (bytes : All Byte (take l b)) where
         let q : targetFault m E ≡ refuse 22 0 = (unfold targetFault check in rw (h .1)) in
         ap (λ (v : Verdict). removalOf v m u n) (sym (edit-off-target (length b) J f l U E 22 0 (h .0) q))
 
-  module _ (fs : Facts) (p : Piece) (w : Told fs p) where
+  -- the sizes of an entry that is there, as the code has them
+  module _ (p : Piece) (w : Found K) (e : p ≡ pieceOf m i) where
     pub body-short : p .length ≤ 16777216
-    body-short = omega (arith, w .length-is, chunk-short (w .found))
+    body-short = omega (arith, length-is m i p e, body-sized (chunkAt m kc), w .ends, w .stands .short)
 
+    record-now : 29 + cond (p .shared) 0 (p .length) ≡ length (editRecord f E)
+    record-now = ap (λ (z : Piece). 29 + cond (z .shared) 0 (z .length)) e ∙ sym (record-length w)
+
+    module _ (a : ℕ) (ea : a ≡ cond (p .shared) 0 (8 + (p .length + p .length % 2))) where
+      gone-now : a ≡ goneSize m i
+      gone-now = ea ∙ gone-is m i p e
+
+      pub shrinks : 12 + a ≤ l
+      shrinks = omega (arith, gone-now, gone-sized m i, w .ends, w .behind)
+
+      pub length-now : l - (12 + a) ≡ length (editedFile f E)
+      length-now = ap (λ (z : ℕ). l - (12 + z)) gone-now ∙ sym (new-length w)
+
+  module _ (fs : Facts) (p : Piece) (w : Told fs p) (a : ℕ) (ea : a ≡ cond (p .shared) 0 (8 + (p .length + p .length % 2))) where
     -- what remove_fault asks
-    pub listed : (a : ℕ) → a ≡ cond (p .shared) 0 (8 + (p .length + p .length % 2)) → Listed f u n (p .start) a × (fs .front ≡ frontOf m)
-    listed a ea =
-        let ga : a ≡ goneSize m i = ea ∙ gone-is m i (p .length) (p .shared) (w .shared-is) (w .length-is) in
-        (record { fine = w .found .stands .fine; found = w .found .listed; starts = w .start-is; gone = ga; small = omega (arith, gone-sized m i, w .found .ends, w .found .stands .short) }, w .front-is)
+    pub listed : Listed f u n (p .start) a × (fs .front ≡ frontOf m)
+    listed =
+        let st = w .found .stands in
+        let ga = gone-now p (w .found) (w .piece-is) a ea in
+        (record { fine = st .fine; found = w .found .listed; starts = start-is m i p (w .piece-is); gone = ga; small = omega (arith, gone-sized m i, w .found .ends, st .short) }, w .front-is)
 
-    module _ (r : Outcome) (judged : verdictOf r ≡ hundred (verdict plainRules (editedFile f E))) where
-      pub plan-judged : (k q : ℕ) → r ≡ outcome.Refused k q → Not k q ≡ removalOf Vd m u n
-      plan-judged k q e = ap (λ (v : Verdict). removalOf v m u n) (sym (edit-judged (length b) J f l U E k q (w .opened) (on-target (w .found)) (sym judged ∙ ap verdictOf e)))
+    module _ (x : ℕ) (ex : x ≡ cond (p .shared) 0 (p .length)) (j r : Outcome) (judged : verdictOf j ≡ hundred (verdict plainRules (editedFile f E)))
+        (e : verdictOf r ≡ verdictOf j then (check (leb (l - (12 + a)) (length b)) 24 0 then check (leb (29 + x) (J - U)) 25 0)) where
+      judged-is : Vd ≡ verdictOf r
+      judged-is =
+          edit-told (length b) J f l U E j r _ _ (w .opened) (on-target (w .found)) (w .found .used-in) judged (length-now p (w .found) (w .piece-is) a ea)
+          (ap (λ (z : ℕ). 29 + z) ex ∙ record-now p (w .found) (w .piece-is)) e
 
-      room : length (editedFile f E) ≤ length b
-      room = omega (arith, new-length (w .found), w .found .stands .inside)
+      pub plan-refused : (k q : ℕ) → r ≡ outcome.Refused k q → Not k q ≡ removalOf Vd m u n
+      plan-refused k q h = ap (λ (v : Verdict). removalOf v m u n) (sym (judged-is ∙ ap verdictOf h))
 
-      module _ (x : ℕ) (ex : x ≡ cond (p .shared) 0 (p .length)) (e : r ≡ outcome.Done) where
-        recorded : length (editRecord f E) ≡ 29 + x
-        recorded = record-length (w .found) ∙ (λ z. 29 + cond (sym (w .shared-is) z) 0 (sym (w .length-is) z)) ∙ ap (λ (z : ℕ). 29 + z) (sym ex)
-
-        pub plan-25 : J - U < 29 + x → Not 25 0 ≡ removalOf Vd m u n
-        plan-25 h =
-            let lt : J < U + length (editRecord f E) = omega (arith, recorded, w .found .used-in) in
-            ap (λ (v : Verdict). removalOf v m u n) (sym (edit-no-journal (length b) J f l U E (w .opened) (on-target (w .found)) (sym judged ∙ ap verdictOf e) room lt))
-
-        pub plan-fine : 29 + x ≤ J - U → Take (fs .count) (p .place) (p .start) (p .kind) (p .length) (p .shared) ≡ removalOf Vd m u n
-        plan-fine h =
-            let le : U + length (editRecord f E) ≤ J = omega (arith, recorded, w .found .used-in) in
-            (λ z. Take (w .count-is z) (w .place-is z) (w .start-is z) (w .type-is z) (w .length-is z) (w .shared-is z))
-            ∙ ap (λ (v : Verdict). removalOf v m u n) (sym (edit-fine (length b) J f l U E (w .opened) (on-target (w .found)) (sym judged ∙ ap verdictOf e) room le))
+      pub plan-fine : r ≡ outcome.Done → Take (fs .count) p ≡ removalOf Vd m u n
+      plan-fine h = (λ z. Take (w .count-is z) (w .piece-is z)) ∙ ap (λ (v : Verdict). removalOf v m u n) (sym (judged-is ∙ ap verdictOf h))
 
   -- what a plan to go on tells
-  pub record Ready (k p s t x : ℕ) (sh : Bool) : Type 0 where
+  pub record Ready (k : ℕ) (p : Piece) : Type 0 where
     pub fine : Vd ≡ accept
     pub found : Found K
     pub count-is : k ≡ K
-    pub place-is : p ≡ i
-    pub start-is : s ≡ start m kc
-    pub type-is : t ≡ chunkAt m kc .type
-    pub length-is : x ≡ length (chunkAt m kc .body)
-    pub shared-is : sh ≡ shared m i
+    pub piece-is : p ≡ pieceOf m i
     pub journal-room : U + length (editRecord f E) ≤ J
 
-  pub ready : (k p s t x : ℕ) (sh : Bool) → removalOf Vd m u n ≡ Take k p s t x sh → Ready k p s t x sh
+  pub ready : (k : ℕ) (p : Piece) → removalOf Vd m u n ≡ Take k p → Ready k p
   unfolding editFault targetFault
-  ready k p s t x sh e =
+  ready k p e =
       let v : Vd ≡ accept = go Vd e in
       let h1 = then-accept _ _ v in
       let h2 = then-accept _ _ (h1 .1) in
@@ -243,77 +226,86 @@ module _ (b : List ℕ) (l J U u n : ℕ) (bytes : All Byte (take l b)) where
       let h5 = then-accept _ _ (h4 .1) in
       let o : O ≡ accept = accepts _ _ (h1 .0) ∙ h2 .0 in
       let lt : i < K = ltb-true _ _ (check-accept _ _ _ (h3 .0)) in
-      let q : Take K i (start m kc) (chunkAt m kc .type) (length (chunkAt m kc .body)) (shared m i) ≡ Take k p s t x sh = ap (λ (z : Verdict). removalOf z m u n) (sym v) ∙ e in
-      record { fine = v; found = found o lt; count-is = cc; place-is = cc; start-is = cc; type-is = cc; length-is = cc; shared-is = cc; journal-room = leb-true _ _ (check-accept _ _ _ (h5 .1)) }
+      let q : Take K (pieceOf m i) ≡ Take k p = ap (λ (z : Verdict). removalOf z m u n) (sym v) ∙ e in
+      record { fine = v; found = found o lt; count-is = cc; piece-is = cc; journal-room = leb-true _ _ (check-accept _ _ _ (h5 .1)) }
     where
-      go : (v : Verdict) → removalOf v (model (take l b)) u n ≡ Take k p s t x sh → v ≡ accept
+      go : (v : Verdict) → removalOf v (model (take l b)) u n ≡ Take k p → v ≡ accept
       go accept e = refl
       go (refuse a c) e = let z : _≡_ {A = ℕ} 0 1 = cc in absurd (omega arith)
 
   -- the data of the entry's chunk, in the buffer
-  pub body-of : (s : ℕ) (w : Found K) → s ≡ start m kc → take (length (chunkAt m kc .body)) (drop (s + 8) b) ≡ chunkAt m kc .body
-  body-of s w es =
+  pub body-of : (w : Found K) → take (length (chunkAt m kc .body)) (drop (start m kc + 8) b) ≡ chunkAt m kc .body
+  body-of w =
       let c : Chunk = chunkAt m kc in
-      let e8 : s + 8 ≡ start m kc + 8 = ap (λ (z : ℕ). z + 8) es in
       let whole : b ≡ file m ++ drop l b = sym (take-append-drop l b) ∙ ap (λ (z : List ℕ). z ++ drop l b) (sym (w .whole)) in
       let h1 : start m kc + 8 ≤ length (file m) = omega (arith, body-sized c, w .ends, w .length-l) in
       let ld : length (drop (start m kc + 8) (file m)) ≡ length (file m) - (start m kc + 8) = length-drop (start m kc + 8) (file m) in
       let h2 : length (c .body) ≤ length (drop (start m kc + 8) (file m)) = omega (arith, body-sized c, w .ends, w .length-l) in
-      (λ z. take (length (c .body)) (drop (e8 z) (whole z)))
+      ap (λ (z : List ℕ). take (length (c .body)) (drop (start m kc + 8) z)) whole
       ∙ ap (take (length (c .body))) (drop-append-le (start m kc + 8) (file m) (drop l b) h1)
       ∙ take-append-le (length (c .body)) (drop (start m kc + 8) (file m)) (drop l b) h2
       ∙ body-at m kc (w .sound) (w .there) (omega (arith, w .length-l, w .stands .short))
 
-  module _ (k p s t x : ℕ) (sh : Bool) (r : Ready k p s t x sh) where
-    -- the sizes, as the code has them
-    pub gone-now : cond sh 0 (8 + (x + x % 2)) ≡ goneSize m i
-    gone-now = gone-is m i x sh (r .shared-is) (r .length-is)
+  module _ (k : ℕ) (p : Piece) (r : Ready k p) where
+    pub used-now : 29 + cond (p .shared) 0 (p .length) ≡ length (editRecord f E)
+    used-now = record-now p (r .found) (r .piece-is)
 
-    pub record-now : 29 + cond sh 0 x ≡ length (editRecord f E)
-    record-now = (λ z. 29 + cond (r .shared-is z) 0 (r .length-is z)) ∙ sym (record-length (r .found))
-
-    kept-less : cond sh 0 x ≤ x
-    kept-less = go sh
+    kept-less : cond (p .shared) 0 (p .length) ≤ p .length
+    kept-less = go (p .shared)
       where
-        go : (y : Bool) → cond y 0 x ≤ x
+        go : (y : Bool) → cond y 0 (p .length) ≤ p .length
         go true = omega arith
         go false = omega arith
 
-    pub body-in : s + 8 + cond sh 0 x ≤ l
-    body-in = omega (arith, kept-less, r .start-is, r .length-is, body-sized (chunkAt m kc), r .found .ends)
+    pub body-in : p .start + 8 + cond (p .shared) 0 (p .length) ≤ l
+    body-in = omega (arith, kept-less, start-is m i p (r .piece-is), length-is m i p (r .piece-is), body-sized (chunkAt m kc), r .found .ends)
 
-    pub removable : (a : ℕ) → a ≡ cond sh 0 (8 + (x + x % 2)) → Stands b l k × Removable b l k p s a
+    pub removable : (a : ℕ) → a ≡ cond (p .shared) 0 (8 + (p .length + p .length % 2)) → Stands b l k × Removable b l k (p .place) (p .start) a
     removable a ea =
         let w = r .found in
-        let ga : a ≡ goneSize m i = ea ∙ gone-now in
-        let ek = r .count-is in
-        let es = r .start-is in (
-          record { inside = w .stands .inside; fine = w .stands .fine; entries = ek; index = omega (arith, w .stands .index); short = w .stands .short },
+        let ga : a ≡ goneSize m i = gone-now p w (r .piece-is) a ea in
+        let es = start-is m i p (r .piece-is) in
+        let ep = place-is m i p (r .piece-is) in (
+          record { inside = w .stands .inside; fine = w .stands .fine; entries = r .count-is; index = omega (arith, r .count-is, w .stands .index); short = w .stands .short },
           record {
-            listed = omega (arith, r .place-is, w .listed);
-            starts = es ∙ ap (λ (z : ℕ). start m (refAt m z .chunk)) (sym (r .place-is));
-            gone = ga ∙ ap (goneSize m) (sym (r .place-is));
-            behind = omega (arith, w .behind);
+            listed = omega (arith, r .count-is, w .listed);
+            starts = es ∙ ap (λ (z : ℕ). start m (refAt m z .chunk)) (sym ep);
+            gone = ga ∙ ap (goneSize m) (sym ep);
+            behind = omega (arith, r .count-is, w .behind);
             ends = omega (arith, gone-sized m i, w .ends);
           },
         )
 
-    pub length-now : (a : ℕ) → a ≡ cond sh 0 (8 + (x + x % 2)) → l - (12 + a) ≡ length (editedFile f E)
-    length-now a ea = let ga : a ≡ goneSize m i = ea ∙ gone-now in ap (λ (z : ℕ). l - (12 + z)) ga ∙ sym (new-length (r .found))
-
-    pub shrinks : (a : ℕ) → a ≡ cond sh 0 (8 + (x + x % 2)) → 12 + a ≤ l
-    shrinks a ea = let ga : a ≡ goneSize m i = ea ∙ gone-now in omega (arith, gone-sized m i, r .found .ends, r .found .behind)
-
-    -- the data that the record keeps
-    body-now : take (length (chunkAt m kc .body)) (drop (s + 8) b) ≡ chunkAt m kc .body
-    body-now = body-of s (r .found) (r .start-is)
-
-    pub record-is : recordOf (cond sh 4 3) (record { usage = u; number = n; start = s }) p (cond sh 0 t) (take (cond sh 0 x) (drop (s + 8) b)) ≡ recOf m E
+    pub record-is : recordOf (cond (p .shared) 4 3) (record { usage = u; number = n; start = p .start }) (p .place) (cond (p .shared) 0 (p .kind)) (take (cond (p .shared) 0 (p .length)) (drop (p .start + 8) b)) ≡ recOf m E
     unfolding recordOf recOf removal
     record-is =
-        (λ z. recordOf (cond (r .shared-is z) 4 3) (record { usage = u; number = n; start = r .start-is z }) (r .place-is z) (cond (r .shared-is z) 0 (r .type-is z)) (take (cond (r .shared-is z) 0 (r .length-is z)) (drop (s + 8) b)))
+        ap (λ (z : Piece). recordOf (cond (z .shared) 4 3) (record { usage = u; number = n; start = z .start }) (z .place) (cond (z .shared) 0 (z .kind)) (take (cond (z .shared) 0 (z .length)) (drop (z .start + 8) b))) (r .piece-is)
         ∙ go (shared m i)
       where
-        go : (y : Bool) → recordOf (cond y 4 3) (record { usage = u; number = n; start = start m kc }) i (cond y 0 (chunkAt m kc .type)) (take (cond y 0 (length (chunkAt m kc .body))) (drop (s + 8) b)) ≡ removal y m u n i
+        go : (y : Bool) → recordOf (cond y 4 3) (record { usage = u; number = n; start = start m kc }) i (cond y 0 (chunkAt m kc .type)) (take (cond y 0 (length (chunkAt m kc .body))) (drop (start m kc + 8) b)) ≡ removal y m u n i
         go true = refl
-        go false = λ z. record { kind = 3; usage = u; number = n; place = i; start = start m kc; type = chunkAt m kc .type; body = body-now z }
+        go false = λ z. record { kind = 3; usage = u; number = n; place = i; start = start m kc; type = chunkAt m kc .type; body = body-of (r .found) z }
+
+-- the call, once its plan goes on: a bytes go, and x bytes of data are kept
+module _ (b j : List ℕ) (l U u n : ℕ) (bytes : All Byte (take l b)) (k : ℕ) (p : Piece) (r : Ready b l (length j) U u n bytes k p) (x : ℕ) (ex : x ≡ cond (p .shared) 0 (p .length)) where
+  pub part-in : p .start + 8 + x ≤ length b
+  part-in = omega (arith, body-in b l (length j) U u n bytes k p r, r .found .stands .inside)
+
+  pub used-room : U + (29 + x) ≤ length j
+  used-room = omega (arith, used-now b l (length j) U u n bytes k p r, r .journal-room)
+
+  pub record-room : U + (29 + length (take (p .start + 8 + x - (p .start + 8)) (drop (p .start + 8) b))) ≤ length j
+  record-room = let h = part-length b (p .start + 8) x part-in in omega (arith, used-room)
+
+  pub made : (a kd t : ℕ) (c : Answer) (b′ j′ : List ℕ) → a ≡ cond (p .shared) 0 (8 + (p .length + p .length % 2)) → kd ≡ cond (p .shared) 4 3 → t ≡ cond (p .shared) 0 (p .kind)
+      → c ≡ doneWith (l - (12 + a)) (U + (29 + x)) → b′ ≡ written b l (file (removed (model (take l b)) (p .place)))
+      → j′ ≡ noted j U (recBytes (recordOf kd (record { usage = u; number = n; start = p .start }) (p .place) t (take (p .start + 8 + x - (p .start + 8)) (drop (p .start + 8) b))))
+      → Called (state b l j U) (edit (remove u n)) c b′ j′
+  unfolding fault after afterEdit editedFile edited editRecord
+  made a kd t c b′ j′ ea ek et ec eb ej =
+      let px : p .start + 8 + x - (p .start + 8) ≡ cond (p .shared) 0 (p .length) = part-size (p .start + 8) x ∙ ex in
+      gave-done (state b l j U) (edit (remove u n)) c _ _ b′ j′ ec (r .fine) (length-now b l (length j) U u n bytes p (r .found) (r .piece-is) a ea)
+      (ap (λ (z : ℕ). U + (29 + z)) ex ∙ ap (λ (z : ℕ). U + z) (used-now b l (length j) U u n bytes k p r))
+      (eb ∙ ap (λ (z : ℕ). written b l (file (removed (model (take l b)) z))) (place-is (model (take l b)) (find u n (model (take l b) .refs)) p (r .piece-is)))
+      (ej ∙ (λ z. noted j U (recBytes (recordOf (ek z) (record { usage = u; number = n; start = p .start }) (p .place) (et z) (take (px z) (drop (p .start + 8) b)))))
+      ∙ ap (λ (z : Rec). noted j U (recBytes z)) (record-is b l (length j) U u n bytes k p r))

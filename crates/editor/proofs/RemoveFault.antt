@@ -1,29 +1,25 @@
 -- The refusals of a removal, without building its file: only rule 7's 19 can hold.
 use mathlib.Core.Path.{_≡_, refl, sym, ap, _∙_}
-use Prim.Native.Nat.{ℕ, zero, suc, _+_, _*_, _-_, _≤_, _<_, _%_}
-use mathlib.Core.List.{List, [], _∷_, _++_, map, append-assoc, append-nil}
+use Prim.Native.Nat.{ℕ, zero, suc, _+_, _*_, _-_, _≤_, _<_}
+use mathlib.Core.List.{List, [], _∷_, _++_, map}
 use mathlib.Core.Bool.{Bool, true, false, cond, _&&_, _||_, not}
 use native.Mathlib.Omega.{arith}
 use native.Mathlib.Nat.{le-of-suc-le-suc, not-suc-le-zero}
-use lib.ListN.{length, getD, take, drop, set, length-map}
-use lib.Seq.{length-take-le, take-length}
+use lib.ListN.{length, getD, take, drop, length-map}
 use lib.Dec.{eqb, leb, ltb}
-use borrow.Author.Tests.{eq-eqb, ne-eqb, eqb-true, eqb-false, le-leb, leb-true, lt-ltb, le-ltb, ltb-true, ltb-false, not-true}
-use Rattle.blorb.specs.Bytes.{rd32}
+use borrow.Author.Tests.{ne-eqb, eqb-false, le-leb, leb-true, lt-ltb, le-ltb, ltb-true, ltb-false}
 use Rattle.blorb.specs.Format.{Ref, Chunk, size, total}
-use Rattle.blorb.specs.Tags.{RIdx}
-use Rattle.blorb.specs.Verdict.{Rules, Verdict, accept, refuse, _then_, check, noChunk, pairIn, refFault, secondIndex, verdict}
+use Rattle.blorb.specs.Verdict.{Verdict, accept, refuse, _then_, check, noChunk, refFault, secondIndex, verdict}
 use Rattle.blorb.specs.Tags.{Pict, Rect, Fspc}
-use Rattle.blorb.specs.Rules.{plain, picture, typeIn, optional, plainRules}
+use Rattle.blorb.specs.Rules.{picture, typeIn, optional, plainRules}
 use Rattle.blorb.specs.Model.{Model, base, startAt, file, model}
-use Rattle.edits.specs.Edit.{Edit, remove, edited, lower, removed, removedBoth, removedEntry}
-use Rattle.blorb.specs.Queries.{find, noRef, refAt, chunkAt, without, uses, shared}
-use Rattle.blorb.specs.Queries.{start}
+use Rattle.edits.specs.Edit.{remove, edited, lower, removed, removedBoth, removedEntry}
+use Rattle.blorb.specs.Queries.{find, noRef, refAt, chunkAt, without, uses, shared, start, frontPlace, frontNumber}
 use Rattle.blorb.specs.All.{All}
 use Rattle.blorb.proofs.AllLaws.{all-getD}
 use Rattle.blorb.proofs.Sound.{W, RefOk, Sound}
 use Rattle.blorb.specs.Bytes.{Byte}
-use Rattle.blorb.proofs.Checks.{then-accept, check-accept, pass, accepts, holds-last}
+use Rattle.blorb.proofs.Checks.{then-accept, check-accept, pass, accepts}
 use Rattle.blorb.proofs.Accept.{accept-back}
 use Rattle.edits.proofs.AddVerdict.{second-any}
 use Rattle.edits.proofs.UndoLaws.{or-false, length-without, length-remaining}
@@ -32,8 +28,7 @@ use Rattle.edits.proofs.RemoveVerdict.{same-chunk, refs-removed, refs-without}
 use Rattle.edits.proofs.FitLaws.{edit-sound, find-pair}
 use Rattle.edits.proofs.Starts.{fallen, fell}
 use Rattle.edits.specs.Run.{hundred, editedFile}
-use Rattle.editor.specs.Post.{Stands, goneSize, Listed}
-use Rattle.blorb.specs.Queries.{frontPlace, frontNumber}
+use Rattle.editor.specs.Post.{goneSize, Listed}
 use Rattle.reader.specs.declared.Front.{Front}
 use Rattle.reader.specs.declared.Front.the-variants as front
 use Rattle.reader.specs.Inspecting.{frontOf}
@@ -42,7 +37,6 @@ use Rattle.edits.proofs.P13.{length-removed}
 use Rattle.edits.proofs.RuleSeven.{Plain, plain-plain}
 use Rattle.edits.proofs.FrontLaws.{like-self, like-without, optional-like, front-picture, picture-none}
 use Rattle.edits.proofs.ReadBack.{same, pair-gone}
-use Rattle.edits.proofs.FaultLaws.{hundred-check}
 use Rattle.editor.proofs.Writes.{file-length}
 
 -- no second index among fewer chunks

@@ -1,60 +1,47 @@
 -- The ways out of a replacement.
 use mathlib.Core.Path.{_≡_, refl, sym, ap, _∙_}
-use Prim.Native.Nat.{ℕ, zero, suc, _+_, _*_, _-_, _≤_, _<_, _%_}
-use mathlib.Core.List.{List, [], _∷_, _++_}
-use mathlib.Core.Bool.{Bool, true, false, cond, _&&_, not}
+use Prim.Native.Nat.{ℕ, _+_, _-_, _≤_, _<_, _%_}
+use mathlib.Core.List.{List}
+use mathlib.Core.Bool.{true, false, _&&_, not}
 use native.Mathlib.Omega.{arith}
-use native.Mathlib.Nat.{le-of-suc-le-suc, not-suc-le-zero}
-use lib.ListN.{length, take, drop, getD, take-append-drop, length-drop}
-use lib.Seq.{length-take-le, take-length, take-append-le, drop-append-le}
-use lib.Dec.{leb, ltb}
-use borrow.Author.Tests.{not-true, le-leb, lt-leb, leb-true, lt-ltb, le-ltb, ltb-true}
-use Rattle.blorb.specs.Format.{Chunk, size, sized, total}
-use Rattle.blorb.specs.Verdict.{Verdict, accept, refuse, _then_, check, verdict, noChunk}
+use lib.ListN.{length, take, drop}
+use lib.Seq.{length-take-le}
+use lib.Dec.{leb}
+use borrow.Author.Tests.{leb-true, lt-ltb, ltb-true}
+use Rattle.blorb.specs.Format.{size, sized}
+use Rattle.blorb.specs.Verdict.{Verdict, accept, refuse, _then_, check, verdict}
 use Rattle.blorb.specs.Rules.{plainRules}
-use Rattle.blorb.specs.Model.{Model, model, file, startAt, base}
+use Rattle.blorb.specs.Model.{Model, model, file}
 use Rattle.edits.specs.Edit.{Edit, replace, replaced, given, edited}
-use Rattle.blorb.specs.Queries.{find, refAt, chunkAt, shared, noRef}
-use Rattle.edits.specs.Journal.{recOf, recBytes, Rec, removal}
-use Rattle.blorb.specs.Queries.{start}
+use Rattle.blorb.specs.Queries.{find, refAt, chunkAt, shared, start}
+use Rattle.edits.specs.Journal.{recOf, recBytes, Rec}
 use Rattle.edits.proofs.JournalLaws.{length-recBytes}
 use Rattle.blorb.specs.All.{All}
-use Rattle.blorb.proofs.AllLaws.{all-getD}
-use Rattle.blorb.proofs.Sound.{W, RefOk, Sound}
-use Rattle.blorb.proofs.Places.{body-size}
-use Rattle.blorb.proofs.ModelLaws.{size-getD, total-take}
-use Rattle.blorb.proofs.VerdictLaws.{modelFault, verdict-file}
-use Rattle.edits.proofs.FitLaws.{find-pair}
 use Rattle.blorb.specs.Bytes.{Byte}
-use Rattle.blorb.proofs.Checks.{then-accept, check-accept, accepts, holds-last, pass, stop}
-use Rattle.blorb.proofs.Accept.{accept-back, accept-short}
-use Rattle.edits.specs.Run.{State, Call, edit, hundred, targetFault, editFault, editedFile, editRecord, noted, written}
+use Rattle.blorb.proofs.Checks.{then-accept, check-accept, accepts, holds-last, pass}
+use Rattle.blorb.proofs.Accept.{accept-short}
+use Rattle.edits.specs.Run.{edit, hundred, targetFault, editFault, editedFile, editRecord, noted, written, fault, after, afterEdit}
 use Rattle.editor.specs.Moves.{recordOf}
 use Rattle.editor.specs.declared.Outcome.{Outcome}
 use Rattle.editor.specs.declared.Outcome.the-variants as outcome
-use Rattle.editor.specs.declared.Change.{Change}
+use Rattle.editor.specs.declared.Answer.{Answer}
 use Rattle.editor.specs.declared.Change.the-variants.{Put, Keep}
 use Rattle.reader.specs.declared.Piece.{Piece}
 use Rattle.reader.specs.declared.Target.the-variants as target
 use Rattle.reader.specs.declared.Facts.{Facts}
 use Rattle.reader.specs.declared.Inspection.the-variants.{Whole, Refused}
-use Rattle.reader.specs.Inspecting.{frontOf}
-use Rattle.editor.proofs.OpenLaws.{asked, asked-refused}
-use Rattle.editor.specs.Post.{verdictOf, changeOf, Stands, Own, Replaceable}
-use Rattle.editor.proofs.Writes.{file-length}
+use Rattle.reader.specs.Inspecting.{pieceOf, frontOf}
+use Rattle.editor.proofs.OpenLaws.{asked, asked-refused, place-is, start-is, length-is, shared-is}
+use Rattle.editor.specs.Post.{verdictOf, doneWith, state, Called, changeOf, Stands, Own, Replaceable}
 use Rattle.edits.proofs.P13.{length-replaced}
 use Rattle.editor.proofs.Writes.{size-given}
 use Rattle.editor.proofs.RemoveCall.{Found, found, Told, told-missing, body-sized, body-of}
-use Rattle.editor.proofs.ChunkAt.{body-at}
-use Rattle.editor.proofs.CallLaws.{hundred-fine, open-stands, edit-unopened, edit-off-target, edit-judged, edit-room, edit-no-room, edit-no-journal, edit-fine}
+use Rattle.editor.proofs.ReplaceFault.{size-body}
+use Rattle.editor.proofs.CallLaws.{hundred-fine, edit-unopened, edit-off-target, edit-told, gave-done, part-size, part-length}
 
 pub change-no : (v : Verdict) (m : Model) (u n k p : ℕ) → changeOf v m u n ≡ Keep k p → v ≡ refuse k p
 change-no accept m u n k p e = let z : _≡_ {A = ℕ} 0 1 = cc in absurd (omega arith)
 change-no (refuse a b) m u n k p e = cc
-
-size-body : (c : Chunk) → size c ≡ 8 + (length (c .body) + length (c .body) % 2)
-unfolding size sized
-size-body c = refl
 
 module _ (b : List ℕ) (l J U u n t : ℕ) (d : List ℕ) (bytes : All Byte (take l b)) where
   abbrev pub f : List ℕ
@@ -101,78 +88,74 @@ module _ (b : List ℕ) (l J U u n t : ℕ) (d : List ℕ) (bytes : All Byte (ta
   unfolding editRecord recOf
   record-length = length-recBytes _
 
-  own-size : (a x : ℕ) → x ≡ length (chunkAt m kc .body) → a ≡ 8 + (x + x % 2) → a ≡ size (chunkAt m kc)
-  own-size a x ex ea = ea ∙ ap (λ (z : ℕ). 8 + (z + z % 2)) ex ∙ sym (size-body (chunkAt m kc))
+  -- an entry's own chunk, by what the reader tells
+  module _ (p : Piece) (w : Found b l J U u n bytes K) (e : p ≡ pieceOf m i) where
+    record-now : 29 + p .length ≡ length (editRecord f E)
+    record-now = ap (λ (z : Piece). 29 + z .length) e ∙ sym record-length
+
+    module _ (a : ℕ) (ea : a ≡ 8 + (p .length + p .length % 2)) where
+      size-now : a ≡ size (chunkAt m kc)
+      size-now = ea ∙ ap (λ (z : Piece). 8 + (z .length + z .length % 2)) e ∙ sym (size-body (chunkAt m kc))
+
+      pub inside : a ≤ l
+      inside = omega (arith, size-now, w .ends)
+
+      pub length-now : l - a + new ≡ length (editedFile f E)
+      length-now = ap (λ (z : ℕ). l - z + new) size-now ∙ sym (new-length w)
 
   module _ (fs : Facts) (p : Piece) (w : Told b l J U u n bytes fs p) where
     pub plan-23 : p .shared ≡ true → Keep 23 0 ≡ changeOf Vd m u n
     plan-23 h =
-        let q : targetFault m E ≡ refuse 23 0 = (unfold targetFault check _then_ in rw (lt-ltb i K (w .found .listed), sym (w .shared-is) ∙ h)) in
+        let q : targetFault m E ≡ refuse 23 0 = (unfold targetFault check _then_ in rw (lt-ltb i K (w .found .listed), sym (shared-is m i p (w .piece-is)) ∙ h)) in
         ap (λ (v : Verdict). changeOf v m u n) (sym (edit-off-target (length b) J f l U E 23 0 (w .opened) q))
 
-    module _ (alone : p .shared ≡ false) (a : ℕ) (ea : a ≡ 8 + (p .length + p .length % 2)) where
-      size-is : a ≡ size (chunkAt m kc)
-      size-is = own-size a (p .length) (w .length-is) ea
-
+    module _ (alone : p .shared ≡ false) where
       -- what replace_fault asks
-      pub own : Own f u n (p .place) (p .start) a × (fs .front ≡ frontOf m)
+      pub own : Own f u n p × (fs .front ≡ frontOf m)
       own =
           let st = w .found .stands in
-          let lf : length f ≡ l = length-take-le l b (st .inside) in (
+          let lf : length f ≡ l = length-take-le l b (st .inside) in
+          let sz = size-now p (w .found) (w .piece-is) (8 + (p .length + p .length % 2)) refl in (
             record {
               fine = st .fine;
               found = w .found .listed;
-              alone = sym (w .shared-is) ∙ alone;
-              place = w .place-is;
-              starts = w .start-is;
-              sized = size-is;
-              inside = omega (arith, size-is, w .found .ends);
+              piece = w .piece-is;
+              alone = alone;
+              inside = omega (arith, w .found .ends);
               short = omega (arith, st .short);
-              low = omega (arith, w .place-is, w .found .listed, st .index, st .short);
+              low = omega (arith, place-is m i p (w .piece-is), w .found .listed, st .index, st .short);
             },
             w .front-is,
           )
 
-      module _ (r : Outcome) (judged : verdictOf r ≡ hundred (verdict plainRules (editedFile f E))) where
-        on-target : targetFault m E ≡ accept
-        unfolding targetFault
-        on-target = pass _ _ _ _ (lt-ltb _ _ (w .found .listed)) ∙ holds-last _ _ _ (ap not (sym (w .shared-is) ∙ alone))
+      on-target : targetFault m E ≡ accept
+      unfolding targetFault
+      on-target = pass _ _ _ _ (lt-ltb _ _ (w .found .listed)) ∙ holds-last _ _ _ (ap not (sym (shared-is m i p (w .piece-is)) ∙ alone))
 
-        pub plan-judged : (k q : ℕ) → r ≡ outcome.Refused k q → Keep k q ≡ changeOf Vd m u n
-        plan-judged k q e = ap (λ (v : Verdict). changeOf v m u n) (sym (edit-judged (length b) J f l U E k q (w .opened) on-target (sym judged ∙ ap verdictOf e)))
+      module _ (a : ℕ) (ea : a ≡ 8 + (p .length + p .length % 2)) (j r : Outcome) (judged : verdictOf j ≡ hundred (verdict plainRules (editedFile f E)))
+          (e : verdictOf r ≡ verdictOf j then (check (leb (l - a + (8 + (length d + length d % 2))) (length b)) 24 0 then check (leb (29 + p .length) (J - U)) 25 0)) where
+        judged-is : Vd ≡ verdictOf r
+        judged-is = edit-told (length b) J f l U E j r _ _ (w .opened) on-target (w .found .used-in) judged (length-now p (w .found) (w .piece-is) a ea) (record-now p (w .found) (w .piece-is)) e
 
-        module _ (e : r ≡ outcome.Done) where
-          pub plan-24 : length b < l - a + new → Keep 24 0 ≡ changeOf Vd m u n
-          plan-24 h = ap (λ (v : Verdict). changeOf v m u n) (sym (edit-no-room (length b) J f l U E (w .opened) on-target (sym judged ∙ ap verdictOf e) (omega (arith, new-length (w .found), size-is))))
+        pub plan-refused : (k q : ℕ) → r ≡ outcome.Refused k q → Keep k q ≡ changeOf Vd m u n
+        plan-refused k q h = ap (λ (v : Verdict). changeOf v m u n) (sym (judged-is ∙ ap verdictOf h))
 
-          module _ (h : l - a + (8 + (length d + length d % 2)) ≤ length b) where
-            room : length (editedFile f E) ≤ length b
-            room = omega (arith, new-length (w .found), size-is)
-
-            pub plan-25 : J - U < 29 + p .length → Keep 25 0 ≡ changeOf Vd m u n
-            plan-25 g = ap (λ (v : Verdict). changeOf v m u n) (sym (edit-no-journal (length b) J f l U E (w .opened) on-target (sym judged ∙ ap verdictOf e) room (omega (arith, record-length, w .length-is, w .found .used-in))))
-
-            pub plan-fine : 29 + p .length ≤ J - U → Put (fs .count) (p .place) (p .start) (p .kind) (p .length) ≡ changeOf Vd m u n
-            plan-fine g =
-                (λ z. Put (w .count-is z) (w .place-is z) (w .start-is z) (w .type-is z) (w .length-is z))
-                ∙ ap (λ (v : Verdict). changeOf v m u n) (sym (edit-fine (length b) J f l U E (w .opened) on-target (sym judged ∙ ap verdictOf e) room (omega (arith, record-length, w .length-is, w .found .used-in))))
+        pub plan-fine : r ≡ outcome.Done → Put (fs .count) p ≡ changeOf Vd m u n
+        plan-fine h = (λ z. Put (w .count-is z) (w .piece-is z)) ∙ ap (λ (v : Verdict). changeOf v m u n) (sym (judged-is ∙ ap verdictOf h))
 
   -- what a plan to go on tells
-  pub record Ready (k p s y x : ℕ) : Type 0 where
+  pub record Ready (k : ℕ) (p : Piece) : Type 0 where
     pub fine : Vd ≡ accept
     pub found : Found b l J U u n bytes K
     pub count-is : k ≡ K
-    pub place-is : p ≡ i
-    pub start-is : s ≡ start m kc
-    pub type-is : y ≡ chunkAt m kc .type
-    pub length-is : x ≡ length (chunkAt m kc .body)
+    pub piece-is : p ≡ pieceOf m i
     pub room : length (editedFile f E) ≤ length b
     pub short : length (editedFile f E) ≤ 16777216
     pub journal-room : U + length (editRecord f E) ≤ J
 
-  pub ready : (k p s y x : ℕ) → changeOf Vd m u n ≡ Put k p s y x → Ready k p s y x
+  pub ready : (k : ℕ) (p : Piece) → changeOf Vd m u n ≡ Put k p → Ready k p
   unfolding editFault targetFault
-  ready k p s y x e =
+  ready k p e =
       let v : Vd ≡ accept = go Vd e in
       let h1 = then-accept _ _ v in
       let h2 = then-accept _ _ (h1 .1) in
@@ -181,58 +164,74 @@ module _ (b : List ℕ) (l J U u n t : ℕ) (d : List ℕ) (bytes : All Byte (ta
       let h5 = then-accept _ _ (h4 .1) in
       let o : O ≡ accept = accepts _ _ (h1 .0) ∙ h2 .0 in
       let lt : i < K = ltb-true _ _ (check-accept _ _ _ (then-accept _ _ (h3 .0) .0)) in
-      let q : Put K i (start m kc) (chunkAt m kc .type) (length (chunkAt m kc .body)) ≡ Put k p s y x = ap (λ (z : Verdict). changeOf z m u n) (sym v) ∙ e in
+      let q : Put K (pieceOf m i) ≡ Put k p = ap (λ (z : Verdict). changeOf z m u n) (sym v) ∙ e in
       record {
         fine = v;
         found = found b l J U u n bytes o lt;
         count-is = cc;
-        place-is = cc;
-        start-is = cc;
-        type-is = cc;
-        length-is = cc;
+        piece-is = cc;
         room = leb-true _ _ (check-accept _ _ _ (h5 .0));
         short = accept-short plainRules (editedFile f E) (hundred-fine _ (h4 .0));
         journal-room = leb-true _ _ (check-accept _ _ _ (h5 .1));
       }
     where
-      go : (v : Verdict) → changeOf v (model (take l b)) u n ≡ Put k p s y x → v ≡ accept
+      go : (v : Verdict) → changeOf v (model (take l b)) u n ≡ Put k p → v ≡ accept
       go accept e = refl
       go (refuse a c) e = let z : _≡_ {A = ℕ} 0 1 = cc in absurd (omega arith)
 
-  module _ (k p s y x : ℕ) (r : Ready k p s y x) (a : ℕ) (ea : a ≡ 8 + (x + x % 2)) where
-    size-now : a ≡ size (chunkAt m kc)
-    size-now = own-size a x (r .length-is) ea
+  module _ (k : ℕ) (p : Piece) (r : Ready k p) where
+    pub used-now : 29 + p .length ≡ length (editRecord f E)
+    used-now = record-now p (r .found) (r .piece-is)
 
-    pub length-now : l - a + new ≡ length (editedFile f E)
-    length-now = ap (λ (z : ℕ). l - z + new) size-now ∙ sym (new-length (r .found))
+    pub body-in : p .start + 8 + p .length ≤ l
+    body-in = omega (arith, start-is m i p (r .piece-is), length-is m i p (r .piece-is), body-sized (chunkAt m kc), r .found .ends)
 
-    pub record-now : 29 + x ≡ length (editRecord f E)
-    record-now = ap (λ (z : ℕ). 29 + z) (r .length-is) ∙ sym record-length
-
-    pub body-in : s + 8 + x ≤ l
-    body-in = omega (arith, r .start-is, r .length-is, body-sized (chunkAt m kc), r .found .ends)
-
-    pub inside : a ≤ l
-    inside = omega (arith, size-now, r .found .ends)
-
-    pub replaceable : Stands b l k × (Replaceable b l k p s a × ((l - a + new ≤ length b) × (l - a + new ≤ 16777216)))
-    replaceable =
-        let w = r .found in (
+    pub replaceable : (a : ℕ) → a ≡ 8 + (p .length + p .length % 2) → Stands b l k × (Replaceable b l k (p .place) (p .start) a × ((l - a + new ≤ length b) × (l - a + new ≤ 16777216)))
+    replaceable a ea =
+        let w = r .found in
+        let sz = size-now p w (r .piece-is) a ea in
+        let ln = length-now p w (r .piece-is) a ea in
+        let es = start-is m i p (r .piece-is) in
+        let ep = place-is m i p (r .piece-is) in (
           record { inside = w .stands .inside; fine = w .stands .fine; entries = r .count-is; index = omega (arith, r .count-is, w .stands .index); short = w .stands .short },
           (
             record {
-              listed = omega (arith, r .place-is, r .count-is, w .listed);
-              starts = r .start-is ∙ ap (λ (z : ℕ). start m (refAt m z .chunk)) (sym (r .place-is));
-              sized = size-now ∙ ap (λ (z : ℕ). size (chunkAt m (refAt m z .chunk))) (sym (r .place-is));
-              behind = omega (arith, r .start-is, r .count-is, w .behind);
-              ends = omega (arith, size-now, r .start-is, w .ends);
+              listed = omega (arith, r .count-is, w .listed);
+              starts = es ∙ ap (λ (z : ℕ). start m (refAt m z .chunk)) (sym ep);
+              sized = sz ∙ ap (λ (z : ℕ). size (chunkAt m (refAt m z .chunk))) (sym ep);
+              behind = omega (arith, r .count-is, w .behind);
+              ends = omega (arith, w .ends);
             },
-            (omega (arith, length-now, r .room), omega (arith, length-now, r .short)),
+            (omega (arith, r .room), omega (arith, r .short)),
           ),
         )
 
-    pub record-is : recordOf 2 (record { usage = u; number = n; start = s }) p y (take x (drop (s + 8) b)) ≡ recOf m E
+    pub record-is : recordOf 2 (record { usage = u; number = n; start = p .start }) (p .place) (p .kind) (take (p .length) (drop (p .start + 8) b)) ≡ recOf m E
     unfolding recordOf recOf
     record-is =
-        let bn : take x (drop (s + 8) b) ≡ chunkAt m kc .body = ap (λ (z : ℕ). take z (drop (s + 8) b)) (r .length-is) ∙ body-of b l J U u n bytes s (r .found) (r .start-is) in
-        λ z. record { kind = 2; usage = u; number = n; place = r .place-is z; start = r .start-is z; type = r .type-is z; body = bn z }
+        ap (λ (z : Piece). recordOf 2 (record { usage = u; number = n; start = z .start }) (z .place) (z .kind) (take (z .length) (drop (z .start + 8) b))) (r .piece-is)
+        ∙ (λ z. record { kind = 2; usage = u; number = n; place = i; start = start m kc; type = chunkAt m kc .type; body = body-of b l J U u n bytes (r .found) z })
+
+-- the call, once its plan goes on
+module _ (b j : List ℕ) (l U u n t : ℕ) (d : List ℕ) (bytes : All Byte (take l b)) (k : ℕ) (p : Piece) (r : Ready b l (length j) U u n t d bytes k p) where
+  pub part-in : p .start + 8 + p .length ≤ length b
+  part-in = omega (arith, body-in b l (length j) U u n t d bytes k p r, r .found .stands .inside)
+
+  pub used-room : U + (29 + p .length) ≤ length j
+  used-room = omega (arith, used-now b l (length j) U u n t d bytes k p r, r .journal-room)
+
+  pub record-room : U + (29 + length (take (p .start + 8 + p .length - (p .start + 8)) (drop (p .start + 8) b))) ≤ length j
+  record-room = let h = part-length b (p .start + 8) (p .length) part-in in omega (arith, used-room)
+
+  pub made : (a : ℕ) (c : Answer) (b′ j′ : List ℕ) → a ≡ 8 + (p .length + p .length % 2)
+      → c ≡ doneWith (l - a + (8 + (length d + length d % 2))) (U + (29 + p .length))
+      → b′ ≡ written b l (file (replaced (model (take l b)) (refAt (model (take l b)) (p .place) .chunk) (given t d)))
+      → j′ ≡ noted j U (recBytes (recordOf 2 (record { usage = u; number = n; start = p .start }) (p .place) (p .kind) (take (p .start + 8 + p .length - (p .start + 8)) (drop (p .start + 8) b))))
+      → Called (state b l j U) (edit (replace u n t d)) c b′ j′
+  unfolding fault after afterEdit editedFile edited editRecord
+  made a c b′ j′ ea ec eb ej =
+      gave-done (state b l j U) (edit (replace u n t d)) c _ _ b′ j′ ec (r .fine) (length-now b l (length j) U u n t d bytes p (r .found) (r .piece-is) a ea)
+      (ap (λ (z : ℕ). U + z) (used-now b l (length j) U u n t d bytes k p r))
+      (eb ∙ ap (λ (z : ℕ). written b l (file (replaced (model (take l b)) (refAt (model (take l b)) z .chunk) (given t d)))) (place-is (model (take l b)) (find u n (model (take l b) .refs)) p (r .piece-is)))
+      (ej ∙ ap (λ (z : ℕ). noted j U (recBytes (recordOf 2 (record { usage = u; number = n; start = p .start }) (p .place) (p .kind) (take z (drop (p .start + 8) b))))) (part-size (p .start + 8) (p .length))
+      ∙ ap (λ (z : Rec). noted j U (recBytes z)) (record-is b l (length j) U u n t d bytes k p r))

@@ -1,29 +1,28 @@
 -- The refusals of a replacement, without building its file: 101, 109, 114 and 119.
 use mathlib.Core.Path.{_≡_, refl, sym, ap, _∙_}
 use Prim.Native.Nat.{ℕ, zero, suc, _+_, _*_, _-_, _≤_, _<_, _%_}
-use mathlib.Core.List.{List, [], _∷_, _++_, map}
-use mathlib.Core.Bool.{Bool, true, false, cond, _&&_, _||_, not}
+use mathlib.Core.List.{List, [], _∷_}
+use mathlib.Core.Bool.{Bool, true, false, cond, _&&_, not}
 use native.Mathlib.Omega.{arith}
 use native.Mathlib.Nat.{le-of-suc-le-suc, not-suc-le-zero}
-use lib.ListN.{length, getD, take, drop, set, length-set}
-use lib.Dec.{eqb, leb, ltb}
+use lib.ListN.{length, getD, take, set}
+use lib.Dec.{eqb, leb}
 use borrow.Author.Tests.{eq-eqb, ne-eqb, le-leb, lt-leb, leb-true}
-use Rattle.blorb.specs.Format.{Ref, Chunk, size, total}
+use Rattle.blorb.specs.Format.{Ref, Chunk, sized, size, total}
 use Rattle.blorb.specs.Tags.{RIdx}
-use Rattle.blorb.specs.Verdict.{Rules, Verdict, accept, refuse, _then_, check, noChunk, refFault, secondIndex, verdict}
+use Rattle.blorb.specs.Verdict.{Verdict, accept, refuse, _then_, check, noChunk, secondIndex, verdict}
 use Rattle.blorb.specs.Tags.{Pict, Rect, Fspc}
 use Rattle.blorb.specs.Rules.{plain, picture, typeIn, optional, plainRules}
 use Rattle.blorb.specs.Model.{Model, base, startAt, file, model}
-use Rattle.edits.specs.Edit.{Edit, replace, edited, replaced, given}
-use Rattle.blorb.specs.Queries.{find, noRef, refAt, chunkAt, without, uses, shared}
-use Rattle.blorb.specs.Queries.{start}
+use Rattle.edits.specs.Edit.{replace, edited, replaced, given}
+use Rattle.blorb.specs.Queries.{find, noRef, refAt, chunkAt, shared, start, frontPlace, frontNumber}
 use Rattle.blorb.specs.All.{All}
 use Rattle.blorb.proofs.AllLaws.{all-getD}
 use Rattle.blorb.proofs.Sound.{W, RefOk, Sound}
 use Rattle.blorb.specs.Bytes.{Byte}
-use Rattle.blorb.proofs.Checks.{then-accept, check-accept, pass, accepts, holds-last}
+use Rattle.blorb.proofs.Checks.{then-accept, check-accept, pass}
 use Rattle.blorb.proofs.Accept.{accept-back}
-use Rattle.edits.proofs.AddVerdict.{second-any, then-assoc, then-end}
+use Rattle.edits.proofs.AddVerdict.{second-any, then-end}
 use Rattle.blorb.proofs.VerdictLaws.{refsFault, modelFault, verdict-file}
 use Rattle.edits.proofs.ReplaceVerdict.{refs-replaced}
 use Rattle.edits.proofs.FitLaws.{edit-sound, find-pair}
@@ -32,17 +31,17 @@ use Rattle.edits.proofs.P13.{length-replaced}
 use Rattle.blorb.proofs.ModelLaws.{size-getD}
 use Rattle.editor.proofs.Writes.{file-length, size-given}
 use Rattle.edits.specs.Run.{hundred, editedFile}
-use Rattle.blorb.specs.Queries.{frontPlace, frontNumber}
+use Rattle.reader.specs.declared.Piece.{Piece}
 use Rattle.reader.specs.declared.Front.{Front}
 use Rattle.reader.specs.declared.Front.the-variants as front
 use Rattle.reader.specs.Inspecting.{frontOf}
 use Rattle.blorb.specs.Usages.{chunkOf}
-use Rattle.editor.proofs.OpenLaws.{front-nothing, front-at}
+use Rattle.editor.proofs.OpenLaws.{shared-is, front-nothing, front-at}
 use Rattle.editor.specs.Post.{Own}
 use Rattle.edits.proofs.RuleSeven.{Plain, plain-plain}
 use Rattle.edits.proofs.FrontLaws.{optional-replaced}
 use Rattle.editor.proofs.RemoveFault.{entry-plain, hundred-front}
-use Rattle.edits.proofs.FaultLaws.{hundred-then, hundred-check, unlooked}
+use Rattle.edits.proofs.FaultLaws.{hundred-then, hundred-check}
 
 -- a second index: only the new chunk can be one
 second-set : (at at′ : ℕ) (cs : List Chunk) (k : ℕ) (c : Chunk) → k < length cs → secondIndex at cs ≡ accept → secondIndex at′ (set cs k c) ≡ check (not (eqb (c .type) RIdx)) 9 (startAt at′ cs k)
@@ -151,10 +150,17 @@ replace-fault f u n t d bytes fine hu hn ht found alone =
     spread : (a b c : Bool) (p q : ℕ) (v : Verdict) → hundred (check a 1 0 then (check b 9 p then (check c 14 q then v))) ≡ check a 101 0 then (check b 109 p then (check c 114 q then hundred v))
     spread a b c p q v = simp (hundred-then, hundred-check)
 
+pub size-body : (c : Chunk) → size c ≡ 8 + (length (c .body) + length (c .body) % 2)
+unfolding size sized
+size-body c = refl
+
 -- the ways out of the code
-module _ (f : List ℕ) (r : Front) (u n t : ℕ) (d : List ℕ) (i s a : ℕ) (bytes : All Byte f) (pre : Own f u n i s a × (r ≡ frontOf (model f))) (hu : u < W) (hn : n < W) (ht : t < W) where
-  o : Own f u n i s a
+module _ (f : List ℕ) (r : Front) (p : Piece) (u n t : ℕ) (d : List ℕ) (bytes : All Byte f) (pre : Own f u n p × (r ≡ frontOf (model f))) (hu : u < W) (hn : n < W) (ht : t < W) where
+  o : Own f u n p
   o = pre .0
+
+  abbrev a : ℕ
+  a = 8 + (p .length + p .length % 2)
 
   abbrev H : Verdict
   H = hundred (verdict plainRules (editedFile f (replace u n t d)))
@@ -163,46 +169,48 @@ module _ (f : List ℕ) (r : Front) (u n t : ℕ) (d : List ℕ) (i s a : ℕ) (
   new = 8 + (length d + length d % 2)
 
   shape : (b : Bool) → typeIn Fspc (model f .chunks) ≡ b
-      → hundred (verdict plainRules (editedFile f (replace u n t d))) ≡ check (leb (length f - a + (8 + (length d + length d % 2))) 16777216) 101 0 then (check (not (eqb t RIdx)) 109 s then (check (plain u (given t d)) 114 (24 + 12 * i)
-      then cond b (check (not ((eqb u Pict && eqb n (frontNumber (model f .chunks))) && eqb t Rect)) 119 (behind s a (8 + (length d + length d % 2)) (start (model f) (frontPlace (model f .chunks))) + 8)) accept))
+      → hundred (verdict plainRules (editedFile f (replace u n t d))) ≡ check (leb (length f - a + (8 + (length d + length d % 2))) 16777216) 101 0 then (check (not (eqb t RIdx)) 109 (p .start) then (check (plain u (given t d)) 114 (24 + 12 * p .place)
+      then cond b (check (not ((eqb u Pict && eqb n (frontNumber (model f .chunks))) && eqb t Rect)) 119 (behind (p .start) a (8 + (length d + length d % 2)) (start (model f) (frontPlace (model f .chunks))) + 8)) accept))
   shape b e =
       let sz : size (given t d) ≡ new = size-given t d ∙ omega arith in
-      replace-fault f u n t d bytes (o .fine) hu hn ht (o .found) (o .alone)
-      ∙ (λ z. check (leb (length f - sym (o .sized) z + sz z) 16777216) 101 0 then (check (not (eqb t RIdx)) 109 (sym (o .starts) z) then (check (plain u (given t d)) 114 (24 + 12 * sym (o .place) z)
-      then cond (e z) (check (not ((eqb u Pict && eqb n (frontNumber (model f .chunks))) && eqb t Rect)) 119 (behind (sym (o .starts) z) (sym (o .sized) z) (sz z) (start (model f) (frontPlace (model f .chunks))) + 8)) accept)))
+      let i : ℕ = find u n (model f .refs) in
+      let sp : size (chunkAt (model f) (refAt (model f) i .chunk)) ≡ a = size-body (chunkAt (model f) (refAt (model f) i .chunk)) ∙ ap (λ (z : Piece). 8 + (z .length + z .length % 2)) (sym (o .piece)) in
+      replace-fault f u n t d bytes (o .fine) hu hn ht (o .found) (sym (shared-is (model f) i p (o .piece)) ∙ o .alone)
+      ∙ (λ z. check (leb (length f - sp z + sz z) 16777216) 101 0 then (check (not (eqb t RIdx)) 109 (sym (o .piece) z .start) then (check (plain u (given t d)) 114 (24 + 12 * sym (o .piece) z .place)
+      then cond (e z) (check (not ((eqb u Pict && eqb n (frontNumber (model f .chunks))) && eqb t Rect)) 119 (behind (sym (o .piece) z .start) (sp z) (sz z) (start (model f) (frontPlace (model f .chunks))) + 8)) accept)))
 
   pub out-101 : 16777216 < length f - a + new → refuse 101 0 ≡ H
   unfolding check _then_
   out-101 h = sym (shape (typeIn Fspc (model f .chunks)) refl ∙ rw (lt-leb _ _ h))
 
-  pub out-109 : length f - a + new ≤ 16777216 → t ≡ RIdx → refuse 109 s ≡ H
+  pub out-109 : length f - a + new ≤ 16777216 → t ≡ RIdx → refuse 109 (p .start) ≡ H
   unfolding check _then_
   out-109 h e = sym (shape (typeIn Fspc (model f .chunks)) refl ∙ rw (le-leb _ _ h, eq-eqb t RIdx e))
 
-  pub out-114 : length f - a + new ≤ 16777216 → (t ≡ RIdx → ⊥) → plain u (chunkOf t d) ≡ false → refuse 114 (24 + 12 * i) ≡ H
+  pub out-114 : length f - a + new ≤ 16777216 → (t ≡ RIdx → ⊥) → plain u (chunkOf t d) ≡ false → refuse 114 (24 + 12 * p .place) ≡ H
   unfolding check _then_ given
-  out-114 h e p = sym (shape (typeIn Fspc (model f .chunks)) refl ∙ rw (le-leb _ _ h, ne-eqb t RIdx e, p))
+  out-114 h e q = sym (shape (typeIn Fspc (model f .chunks)) refl ∙ rw (le-leb _ _ h, ne-eqb t RIdx e, q))
 
-  module _ (h : length f - a + (8 + (length d + length d % 2)) ≤ 16777216) (e : t ≡ RIdx → ⊥) (p : plain u (chunkOf t d) ≡ true) where
+  module _ (h : length f - a + (8 + (length d + length d % 2)) ≤ 16777216) (e : t ≡ RIdx → ⊥) (pl : plain u (chunkOf t d) ≡ true) where
     pub out-nothing : r ≡ front.Nothing → accept ≡ hundred (verdict plainRules (editedFile f (replace u n t d)))
     unfolding check _then_ given
-    out-nothing q = sym (shape false (front-nothing (model f) (sym (pre .1) ∙ q)) ∙ rw (le-leb _ _ h, ne-eqb t RIdx e, p))
+    out-nothing q = sym (shape false (front-nothing (model f) (sym (pre .1) ∙ q)) ∙ rw (le-leb _ _ h, ne-eqb t RIdx e, pl))
 
     module _ (at q : ℕ) (fr : r ≡ front.At at q) where
-      there-is : hundred (verdict plainRules (editedFile f (replace u n t d))) ≡ check (not ((eqb u Pict && eqb n q) && eqb t Rect)) 119 (behind s a (8 + (length d + length d % 2)) at + 8)
+      there-is : hundred (verdict plainRules (editedFile f (replace u n t d))) ≡ check (not ((eqb u Pict && eqb n q) && eqb t Rect)) 119 (behind (p .start) a (8 + (length d + length d % 2)) at + 8)
       unfolding given
       there-is =
           let w = front-at (model f) at q (sym (pre .1) ∙ fr) in
-          let g : check (leb (length f - a + (8 + (length d + length d % 2))) 16777216) 101 0 then (check (not (eqb t RIdx)) 109 s then (check (plain u (given t d)) 114 (24 + 12 * i)
-          then check (not ((eqb u Pict && eqb n q) && eqb t Rect)) 119 (behind s a (8 + (length d + length d % 2)) at + 8)))
-          ≡ check (not ((eqb u Pict && eqb n q) && eqb t Rect)) 119 (behind s a (8 + (length d + length d % 2)) at + 8)
-          = pass _ _ _ _ (le-leb _ _ h) ∙ pass _ _ _ _ (ap not (ne-eqb t RIdx e)) ∙ pass _ _ _ _ p in
+          let g : check (leb (length f - a + (8 + (length d + length d % 2))) 16777216) 101 0 then (check (not (eqb t RIdx)) 109 (p .start) then (check (plain u (given t d)) 114 (24 + 12 * p .place)
+          then check (not ((eqb u Pict && eqb n q) && eqb t Rect)) 119 (behind (p .start) a (8 + (length d + length d % 2)) at + 8)))
+          ≡ check (not ((eqb u Pict && eqb n q) && eqb t Rect)) 119 (behind (p .start) a (8 + (length d + length d % 2)) at + 8)
+          = pass _ _ _ _ (le-leb _ _ h) ∙ pass _ _ _ _ (ap not (ne-eqb t RIdx e)) ∙ pass _ _ _ _ pl in
           shape true (w .0)
-          ∙ (λ z. check (leb (length f - a + (8 + (length d + length d % 2))) 16777216) 101 0 then (check (not (eqb t RIdx)) 109 s then (check (plain u (given t d)) 114 (24 + 12 * i)
-          then check (not ((eqb u Pict && eqb n (sym (w .2) z)) && eqb t Rect)) 119 (behind s a (8 + (length d + length d % 2)) (sym (w .1) z) + 8))))
+          ∙ (λ z. check (leb (length f - a + (8 + (length d + length d % 2))) 16777216) 101 0 then (check (not (eqb t RIdx)) 109 (p .start) then (check (plain u (given t d)) 114 (24 + 12 * p .place)
+          then check (not ((eqb u Pict && eqb n (sym (w .2) z)) && eqb t Rect)) 119 (behind (p .start) a (8 + (length d + length d % 2)) (sym (w .1) z) + 8))))
           ∙ g
 
-      pub out-119 : ((eqb u Pict && eqb n q) && eqb t Rect) ≡ true → refuse 119 (behind s a (8 + (length d + length d % 2)) at + 8) ≡ hundred (verdict plainRules (editedFile f (replace u n t d)))
+      pub out-119 : ((eqb u Pict && eqb n q) && eqb t Rect) ≡ true → refuse 119 (behind (p .start) a (8 + (length d + length d % 2)) at + 8) ≡ hundred (verdict plainRules (editedFile f (replace u n t d)))
       unfolding check
       out-119 x = sym (there-is ∙ rw x)
 

@@ -2,3 +2,4 @@ pub mod Shift
 pub mod Moves
 pub mod Post
 pub mod LastRecord
+pub mod ReadsBack

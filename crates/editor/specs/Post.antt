@@ -1,21 +1,20 @@
 -- What a call of the editor promises.
 use mathlib.Core.Path.{_≡_}
-use Prim.Native.Nat.{ℕ, _+_, _*_, _-_, _≤_}
-use lib.ListN.{length, take, replicate}
-use Rattle.edits.specs.Run.{noted}
-use Rattle.editor.specs.Shift.{moved as slid}
+use Prim.Native.Nat.{ℕ, _+_, _*_, _-_, _%_, _≤_, _<_}
+use mathlib.Core.List.{List}
 use mathlib.Core.Bool.{Bool, true, false, cond}
+use lib.ListN.{length, take, replicate}
 use lib.Dec.{ltb}
-use Prim.Native.Nat.{_<_}
 use Rattle.blorb.specs.Format.{size, placeOf}
+use Rattle.blorb.specs.Verdict.{Verdict, accept, refuse, verdict}
+use Rattle.blorb.specs.Rules.{plainRules}
 use Rattle.blorb.specs.Model.{Model, model, base}
 use Rattle.edits.specs.Journal.{Rec}
-use Rattle.blorb.specs.Queries.{refAt, chunkAt, shared, find}
-use Rattle.blorb.specs.Queries.{start}
-use mathlib.Core.List.{List}
-use Rattle.blorb.specs.Verdict.{Rules, Verdict, accept, refuse, verdict}
-use Rattle.blorb.specs.Rules.{plainRules}
-use Rattle.edits.specs.Run.{State, Call, fault, step}
+use Rattle.blorb.specs.Queries.{refAt, chunkAt, shared, find, start}
+use Rattle.edits.specs.Run.{State, Call, fault, step, noted}
+use Rattle.editor.specs.Shift.{moved as slid}
+use Rattle.reader.specs.declared.Piece.{Piece}
+use Rattle.reader.specs.Inspecting.{pieceOf}
 use Rattle.editor.specs.declared.Outcome.{Outcome}
 use Rattle.editor.specs.declared.Outcome.the-variants.{Done, Refused}
 use Rattle.editor.specs.declared.Answer.{Answer}
@@ -30,6 +29,13 @@ use Rattle.editor.specs.declared.Plan.the-variants.{Go, No}
 abbrev pub verdictOf : Outcome → Verdict
 verdictOf Done = accept
 verdictOf (Refused k p) = refuse k p
+
+-- the answer of a refused call and of one that was made
+abbrev pub refusedWith : ℕ → ℕ → ℕ → ℕ → Answer
+refusedWith k p l u = record { outcome = Refused k p; len = l; used = u }
+
+abbrev pub doneWith : ℕ → ℕ → Answer
+doneWith l u = record { outcome = Done; len = l; used = u }
 
 -- go on with k entries, or the refusal
 abbrev pub planOf : Verdict → ℕ → Plan
@@ -102,33 +108,27 @@ pub record Replaceable (b : List ℕ) (l k i s a : ℕ) : Type 0 where
   pub behind : 24 + 12 * k ≤ s
   pub ends : s + a ≤ l
 
--- the removal of (u, n) goes on with the count, the entry's place, its chunk's start, type and length and whether it is shared; or the refusal
+-- the removal of (u, n) goes on with the count, the entry and its chunk; or the refusal
 abbrev pub removalOf : Verdict → Model → ℕ → ℕ → Removal
-removalOf accept m u n =
-    Take (length (m .refs)) (find u n (m .refs)) (start m (refAt m (find u n (m .refs)) .chunk)) (chunkAt m (refAt m (find u n (m .refs)) .chunk) .type)
-    (length (chunkAt m (refAt m (find u n (m .refs)) .chunk) .body)) (shared m (find u n (m .refs)))
+removalOf accept m u n = Take (length (m .refs)) (pieceOf m (find u n (m .refs)))
 removalOf (refuse k p) m u n = Not k p
 
--- the entry (u, n), at place i of the accepted file f, has a chunk of its own: a bytes at s
-pub record Own (f : List ℕ) (u n i s a : ℕ) : Type 0 where
+-- the entry (u, n) of the accepted file f has the chunk p, its own
+pub record Own (f : List ℕ) (u n : ℕ) (p : Piece) : Type 0 where
   pub fine : verdict plainRules f ≡ accept
   pub found : find u n (model f .refs) < length (model f .refs)
-  pub alone : shared (model f) (find u n (model f .refs)) ≡ false
-  pub place : i ≡ find u n (model f .refs)
-  pub starts : s ≡ start (model f) (refAt (model f) (find u n (model f .refs)) .chunk)
-  pub sized : a ≡ size (chunkAt (model f) (refAt (model f) (find u n (model f .refs)) .chunk))
-  pub inside : a ≤ length f
+  pub piece : p ≡ pieceOf (model f) (find u n (model f .refs))
+  pub alone : p .shared ≡ false
+  pub inside : 8 + (p .length + p .length % 2) ≤ length f
   pub short : length f ≤ 16777216
-  pub low : i ≤ 16777216
+  pub low : p .place ≤ 16777216
 
--- the replacement for (u, n) goes on with the count, the entry's place and its chunk's start, type and length; or the refusal
+-- the replacement for (u, n) goes on with the count, the entry and its chunk; or the refusal
 abbrev pub changeOf : Verdict → Model → ℕ → ℕ → Change
-changeOf accept m u n =
-    Put (length (m .refs)) (find u n (m .refs)) (start m (refAt m (find u n (m .refs)) .chunk)) (chunkAt m (refAt m (find u n (m .refs)) .chunk) .type)
-    (length (chunkAt m (refAt m (find u n (m .refs)) .chunk) .body))
+changeOf accept m u n = Put (length (m .refs)) (pieceOf m (find u n (m .refs)))
 changeOf (refuse k p) m u n = Keep k p
 
 -- blank's answer (01, The edits: "The answer is L = 24, U = 0"; "a buffer under 24 bytes: refusal 24 with L and U 0"): it has room, or not
 abbrev pub blankAnswer : Bool → Answer
-blankAnswer true = record { outcome = Done; len = 24; used = 0 }
-blankAnswer false = record { outcome = Refused 24 0; len = 0; used = 0 }
+blankAnswer true = doneWith 24 0
+blankAnswer false = refusedWith 24 0 0 0

@@ -3,25 +3,28 @@ use crate::Outcome;
 use blorb::Known;
 use blorb::Usage;
 use reader::Front;
+use reader::Piece;
 use reader::Target;
 ghost use mathlib.Core.Path.{_≡_};
-ghost use Prim.Native.Nat.{_+_, _-_, _*_, _%_, _≤_, _<_};
-ghost use mathlib.Core.List.{[], _∷_, _++_};
-ghost use lib.ListN.{length, take, drop, replicate};
-ghost use Rattle.blorb.specs.Verdict.{Verdict, accept, refuse, verdict};
+ghost use Prim.Native.Nat.{_≤_, _<_};
+ghost use mathlib.Core.Bool.{not, _&&_, _||_};
+ghost use lib.ListN.{length};
+ghost use lib.Dec.{eqb};
+ghost use Rattle.blorb.specs.Verdict.{verdict};
 ghost use Rattle.blorb.specs.Rules.{plainRules};
 ghost use Rattle.blorb.specs.Tags.{Exec, Pict, Rect};
-ghost use Rattle.blorb.specs.Model.{model, file};
-ghost use Rattle.edits.specs.Edit.{add, replace, remove, removed, replaced, given};
-ghost use Rattle.blorb.specs.Queries.{refAt};
-ghost use Rattle.edits.specs.Run.{written, noted, editedFile, editRecord, edit, undo};
-ghost use mathlib.Core.Bool.{true, cond, not, _&&_, _||_};
-ghost use lib.Dec.{leb, eqb};
-ghost use Rattle.blorb.specs.Verdict.{_then_, check, knownUsage};
+ghost use Rattle.blorb.specs.Model.{model};
+ghost use Rattle.edits.specs.Edit.{add, replace, remove};
+ghost use Rattle.edits.specs.Run.{hundred, editedFile};
 ghost use Rattle.edits.proofs.Starts.{fallen, behind};
-ghost use Rattle.edits.specs.Run.{hundred, editFault};
 ghost use Rattle.reader.specs.Inspecting.{targetOf, frontOf};
-ghost use Rattle.editor.specs.Post.{verdictOf, planOf, removalOf, changeOf, state, Called, Stands, closed, resized, Removable, Listed, Replaceable, Own};
+ghost use Rattle.editor.specs.Post.{verdictOf, Stands, Listed, Own};
+
+pub(crate) fn refused(number: u64, place: usize) -> Outcome
+    ensures { λ r. ⌜ r ≡ Outcome.Refused number place ⌝ }
+{
+    Outcome::Refused { number, place }
+}
 
 // An Exec has number 0.
 pub(crate) fn number_fits(usage: u32, number: u32) -> bool
@@ -49,47 +52,26 @@ pub(crate) fn add_fault(
     let len = s.len();
     let m = d.len();
     if 16777216 < len + (20 + (m + m % 2)) {
-        return Outcome::Refused {
-            number: 101,
-            place: 0,
-        };
+        return refused(101, 0);
     }
     if kind == 0x52496478 {
-        return Outcome::Refused {
-            number: 109,
-            place: len + 12,
-        };
+        return refused(109, len + 12);
     }
     if 4096 < count + 1 {
-        return Outcome::Refused {
-            number: 111,
-            place: 20,
-        };
+        return refused(111, 20);
     }
     let at = 24 + 12 * count;
     if let Known::Unknown = Usage::of_code(usage as u64) {
-        return Outcome::Refused {
-            number: 112,
-            place: at,
-        };
+        return refused(112, at);
     }
     if !blorb::type_allowed(usage as u64, kind as u64, d) {
-        return Outcome::Refused {
-            number: 114,
-            place: at,
-        };
+        return refused(114, at);
     }
     if !number_fits(usage, number) {
-        return Outcome::Refused {
-            number: 115,
-            place: at + 4,
-        };
+        return refused(115, at + 4);
     }
     match target {
-        Target::At(_) => Outcome::Refused {
-            number: 116,
-            place: at,
-        },
+        Target::At(_) => refused(116, at),
         Target::Nothing => Outcome::Done,
     }
 }
@@ -142,10 +124,7 @@ pub(crate) fn remove_fault(
         } => {
             if is_picture(usage, number, q) {
                 let p = fallen_start(at, start, size);
-                return Outcome::Refused {
-                    number: 119,
-                    place: p as usize + 8,
-                };
+                return refused(119, p as usize + 8);
             }
             Outcome::Done
         }
@@ -176,41 +155,31 @@ pub(crate) fn behind_start(at: u32, start: u32, old: u32, new: u32) -> u64
     at as u64
 }
 
-// 100 + k for a replacement in the accepted file `s` with this frontispiece: entry `place`'s own chunk has `old` bytes at `start`.
+// 100 + k for a replacement in the accepted file `s` with this frontispiece: `piece` is the entry's own chunk.
 pub(crate) fn replace_fault(
     s: &[u8],
     front: Front,
+    piece: Piece,
     usage: u32,
     number: u32,
     kind: u32,
     d: &[u8],
-    place: usize,
-    start: u32,
-    old: u32,
 ) -> Outcome
-    requires { ⌜ Own (now s) usage number place start old × (front ≡ frontOf (model (now s))) ⌝ }
+    requires { ⌜ Own (now s) usage number piece × (front ≡ frontOf (model (now s))) ⌝ }
     ensures { λ r. ⌜ verdictOf r ≡ hundred (verdict plainRules (editedFile (now (s .entry)) (replace usage number kind (now (d .entry))))) ⌝ }
 {
     let len = s.len();
     let m = d.len();
+    let old = 8 + (piece.length + piece.length % 2);
     let new = 8 + (m + m % 2);
     if 16777216 < len - old as usize + new {
-        return Outcome::Refused {
-            number: 101,
-            place: 0,
-        };
+        return refused(101, 0);
     }
     if kind == 0x52496478 {
-        return Outcome::Refused {
-            number: 109,
-            place: start as usize,
-        };
+        return refused(109, piece.start as usize);
     }
     if !blorb::type_allowed(usage as u64, kind as u64, d) {
-        return Outcome::Refused {
-            number: 114,
-            place: 24 + 12 * place,
-        };
+        return refused(114, 24 + 12 * piece.place);
     }
     match front {
         Front::Nothing => Outcome::Done,
@@ -219,11 +188,8 @@ pub(crate) fn replace_fault(
             number: q,
         } => {
             if spoils(usage, number, q, kind) {
-                let p = behind_start(at, start, old, new as u32);
-                return Outcome::Refused {
-                    number: 119,
-                    place: p as usize + 8,
-                };
+                let p = behind_start(at, piece.start, old, new as u32);
+                return refused(119, p as usize + 8);
             }
             Outcome::Done
         }

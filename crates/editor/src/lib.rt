@@ -1,26 +1,20 @@
 // The editor: edits and undo in place.
 ghost use mathlib.Core.Path.{_≡_};
-ghost use Prim.Native.Nat.{_+_, _-_, _*_, _%_, _≤_, _<_};
-ghost use mathlib.Core.List.{[], _∷_, _++_};
-ghost use lib.ListN.{length, take, drop, replicate};
-ghost use Rattle.blorb.specs.Verdict.{Verdict, accept, refuse, verdict};
-ghost use Rattle.blorb.specs.Rules.{plainRules};
-ghost use Rattle.blorb.specs.Tags.{Exec, Pict, Rect};
-ghost use Rattle.blorb.specs.Model.{model, file};
-ghost use Rattle.edits.specs.Edit.{add, replace, remove, removed, replaced, given};
-ghost use Rattle.blorb.specs.Queries.{refAt};
-ghost use Rattle.edits.specs.Run.{written, noted, editedFile, editRecord, edit, undo};
-ghost use mathlib.Core.Bool.{true, cond, not, _&&_, _||_};
-ghost use lib.Dec.{leb, eqb};
-ghost use Rattle.blorb.specs.Verdict.{_then_, check, knownUsage};
-ghost use Rattle.edits.proofs.Starts.{fallen, behind};
-ghost use Rattle.edits.specs.Run.{hundred, editFault};
+ghost use Prim.Native.Nat.{_+_, _%_, _≤_};
+ghost use mathlib.Core.Bool.{cond, _&&_};
+ghost use lib.ListN.{length, take};
+ghost use lib.Dec.{leb};
 ghost use Rattle.blorb.specs.Bytes.{rd32};
-ghost use Rattle.blorb.specs.Rules.{plainVerdict};
+ghost use Rattle.blorb.specs.Verdict.{_then_, check};
+ghost use Rattle.blorb.specs.Rules.{plainRules, plainVerdict};
+ghost use Rattle.blorb.specs.Model.{model};
+ghost use Rattle.edits.specs.Edit.{add, replace, remove};
+ghost use Rattle.edits.specs.Run.{edit, editFault};
 ghost use Rattle.edits.specs.Blank.{blanked};
 ghost use Rattle.reader.specs.Inspecting.{inspectionOf};
-ghost use Rattle.editor.specs.Post.{blankAnswer, verdictOf, planOf, removalOf, changeOf, state, Called, Stands, closed, resized, Removable, Listed, Replaceable, Own};
+ghost use Rattle.editor.specs.Post.{verdictOf, refusedWith, doneWith, planOf, removalOf, changeOf, state, Called, blankAnswer};
 use reader::Inspection;
+use reader::Piece;
 use reader::Target;
 
 mod journal;
@@ -40,9 +34,32 @@ pub struct Answer {
     pub used: usize,
 }
 
-pub enum Plan {
+impl Answer {
+    // A refused call gives back the lengths as given.
+    fn refused(number: u64, place: usize, len: usize, used: usize) -> Answer
+        ensures { λ r. ⌜ r ≡ refusedWith number place len used ⌝ }
+    {
+        Answer {
+            outcome: Outcome::Refused { number, place },
+            len,
+            used,
+        }
+    }
+
+    fn done(len: usize, used: usize) -> Answer
+        ensures { λ r. ⌜ r ≡ doneWith len used ⌝ }
+    {
+        Answer {
+            outcome: Outcome::Done,
+            len,
+            used,
+        }
+    }
+}
+
+enum Plan {
     Go { count: usize },
-    No { number: u64, place: usize },
+    No(u64, usize),
 }
 
 // 20 and the reader's refusals, for the first `len` bytes of `buf` and `used` bytes of a journal of `room`; else what the file tells.
@@ -72,6 +89,22 @@ fn opened(
     reader::inspect(&buf[..len], usage, number, at)
 }
 
+// What was judged, then 24 and 25: a new file of `size` bytes in a buffer of `room`, a record of `more` bytes where `left` are left.
+fn with_room(judged: Outcome, size: usize, room: usize, more: usize, left: usize) -> Outcome
+    ensures { λ r. ⌜ verdictOf r ≡ verdictOf judged then (check (leb size room) 24 0 then check (leb more left) 25 0) ⌝ }
+{
+    if let Outcome::Refused { number, place } = judged {
+        return judge::refused(number, place);
+    }
+    if room < size {
+        return judge::refused(24, 0);
+    }
+    if left < more {
+        return judge::refused(25, 0);
+    }
+    Outcome::Done
+}
+
 // An add's refusal, or the file's count where it can be made.
 fn add_plan(
     buf: &[u8],
@@ -86,28 +119,15 @@ fn add_plan(
     ensures { λ r. ⌜ r ≡ planOf (editFault plainRules (length (now (buf .entry))) room (take len (now (buf .entry))) len used (add usage number kind (now (d .entry)))) (length (model (take len (now (buf .entry))) .refs)) ⌝ }
 {
     match opened(buf, len, room, used, usage, number, 0) {
-        Inspection::Refused { number: k, place } => Plan::No { number: k, place },
+        Inspection::Refused { number: k, place } => Plan::No(k, place),
         Inspection::Whole(facts) => {
             let count = facts.count;
             let target = facts.target;
-            match judge::add_fault(&buf[..len], count, target, usage, number, kind, d) {
-                Outcome::Refused { number: k, place } => Plan::No { number: k, place },
-                Outcome::Done => {
-                    let m = d.len();
-                    if buf.len() - len < 20 + (m + m % 2) {
-                        return Plan::No {
-                            number: 24,
-                            place: 0,
-                        };
-                    }
-                    if room - used < 29 {
-                        return Plan::No {
-                            number: 25,
-                            place: 0,
-                        };
-                    }
-                    Plan::Go { count }
-                }
+            let judged = judge::add_fault(&buf[..len], count, target, usage, number, kind, d);
+            let m = d.len();
+            match with_room(judged, len + (20 + (m + m % 2)), buf.len(), 29, room - used) {
+                Outcome::Refused { number: k, place } => Plan::No(k, place),
+                Outcome::Done => Plan::Go { count },
             }
         }
     }
@@ -127,11 +147,7 @@ fn add_entry(
     ensures { λ r. ⌜ Called (state (now (buf .entry)) len (now (jrn .entry)) used) (edit (add usage number kind (now (d .entry)))) r (now (buf .exit)) (now (jrn .exit)) ⌝ }
 {
     match add_plan(buf, len, jrn.len(), used, usage, number, kind, d) {
-        Plan::No { number: k, place } => Answer {
-            outcome: Outcome::Refused { number: k, place },
-            len,
-            used,
-        },
+        Plan::No(k, place) => Answer::refused(k, place, len, used),
         Plan::Go { count } => {
             let m = d.len();
             rewrite::add_bytes(buf, len, count, usage, number, kind, d);
@@ -148,28 +164,14 @@ fn add_entry(
                 0,
                 &d[0..0],
             );
-            Answer {
-                outcome: Outcome::Done,
-                len: len + (20 + (m + m % 2)),
-                used: used + 29,
-            }
+            Answer::done(len + (20 + (m + m % 2)), used + 29)
         }
     }
 }
 
-pub enum Removal {
-    Take {
-        count: usize,
-        place: usize,
-        start: u32,
-        kind: u32,
-        m: u32,
-        shared: bool,
-    },
-    Not {
-        number: u64,
-        place: usize,
-    },
+enum Removal {
+    Take { count: usize, piece: Piece },
+    Not(u64, usize),
 }
 
 // What goes of a chunk with `m` data bytes: nothing of a shared one.
@@ -207,37 +209,28 @@ fn remove_plan(buf: &[u8], len: usize, room: usize, used: usize, usage: u32, num
     ensures { λ r. ⌜ r ≡ removalOf (editFault plainRules (length (now (buf .entry))) room (take len (now (buf .entry))) len used (remove usage number)) (model (take len (now (buf .entry)))) usage number ⌝ }
 {
     match opened(buf, len, room, used, usage, number, 0) {
-        Inspection::Refused { number: k, place } => Removal::Not { number: k, place },
+        Inspection::Refused { number: k, place } => Removal::Not(k, place),
         Inspection::Whole(facts) => {
             let target = facts.target;
-            let Target::At(p) = target else {
-                return Removal::Not {
-                    number: 22,
-                    place: 0,
-                };
+            let Target::At(piece) = target else {
+                return Removal::Not(22, 0);
             };
-            let m = p.length;
-            let shared = p.shared;
-            let size = gone_size(shared, m);
+            let size = gone_size(piece.shared, piece.length);
+            let body = kept_number(piece.shared, piece.length) as usize;
             let front = facts.front;
-            match judge::remove_fault(&buf[..len], front, usage, number, p.start, size) {
-                Outcome::Refused { number: k, place } => Removal::Not { number: k, place },
-                Outcome::Done => {
-                    if room - used < 29 + kept_number(shared, m) as usize {
-                        return Removal::Not {
-                            number: 25,
-                            place: 0,
-                        };
-                    }
-                    Removal::Take {
-                        count: facts.count,
-                        place: p.place,
-                        start: p.start,
-                        kind: p.kind,
-                        m,
-                        shared,
-                    }
-                }
+            let judged = judge::remove_fault(&buf[..len], front, usage, number, piece.start, size);
+            match with_room(
+                judged,
+                len - (12 + size as usize),
+                buf.len(),
+                29 + body,
+                room - used,
+            ) {
+                Outcome::Refused { number: k, place } => Removal::Not(k, place),
+                Outcome::Done => Removal::Take {
+                    count: facts.count,
+                    piece,
+                },
             }
         }
     }
@@ -255,58 +248,35 @@ fn remove_entry(
     ensures { λ r. ⌜ Called (state (now (buf .entry)) len (now (jrn .entry)) used) (edit (remove usage number)) r (now (buf .exit)) (now (jrn .exit)) ⌝ }
 {
     match remove_plan(buf, len, jrn.len(), used, usage, number) {
-        Removal::Not { number: k, place } => Answer {
-            outcome: Outcome::Refused { number: k, place },
-            len,
-            used,
-        },
-        Removal::Take {
-            count,
-            place,
-            start,
-            kind,
-            m,
-            shared,
-        } => {
-            let size = gone_size(shared, m) as usize;
-            let body = kept_number(shared, m) as usize;
+        Removal::Not(k, place) => Answer::refused(k, place, len, used),
+        Removal::Take { count, piece } => {
+            let start = piece.start;
+            let size = gone_size(piece.shared, piece.length) as usize;
+            let body = kept_number(piece.shared, piece.length) as usize;
             let from = start as usize + 8;
             let to = from + body;
             moves::put_record(
                 jrn,
                 used,
-                removal_kind(shared),
+                removal_kind(piece.shared),
                 moves::Entry {
                     usage,
                     number,
                     start,
                 },
-                place as u64,
-                kept_number(shared, kind) as u64,
+                piece.place as u64,
+                kept_number(piece.shared, piece.kind) as u64,
                 &buf[from..to],
             );
-            rewrite::remove_bytes(buf, len, count, place, start as usize, size);
-            Answer {
-                outcome: Outcome::Done,
-                len: len - (12 + size),
-                used: used + (29 + body),
-            }
+            rewrite::remove_bytes(buf, len, count, piece.place, start as usize, size);
+            Answer::done(len - (12 + size), used + (29 + body))
         }
     }
 }
 
-pub enum Change {
-    Put {
-        count: usize,
-        place: usize,
-        start: u32,
-        kind: u32,
-        m: u32,
-    },
-    Keep {
-        number: u64,
-        place: usize,
-    },
+enum Change {
+    Put { count: usize, piece: Piece },
+    Keep(u64, usize),
 }
 
 // A replacement's refusal, or what it needs to be made.
@@ -323,58 +293,27 @@ fn replace_plan(
     ensures { λ r. ⌜ r ≡ changeOf (editFault plainRules (length (now (buf .entry))) room (take len (now (buf .entry))) len used (replace usage number kind (now (d .entry)))) (model (take len (now (buf .entry)))) usage number ⌝ }
 {
     match opened(buf, len, room, used, usage, number, 0) {
-        Inspection::Refused { number: k, place } => Change::Keep { number: k, place },
+        Inspection::Refused { number: k, place } => Change::Keep(k, place),
         Inspection::Whole(facts) => {
             let target = facts.target;
-            let Target::At(p) = target else {
-                return Change::Keep {
-                    number: 22,
-                    place: 0,
-                };
+            let Target::At(piece) = target else {
+                return Change::Keep(22, 0);
             };
-            if p.shared {
-                return Change::Keep {
-                    number: 23,
-                    place: 0,
-                };
+            if piece.shared {
+                return Change::Keep(23, 0);
             }
-            let m = p.length;
-            let old = gone_size(false, m);
+            let old = gone_size(false, piece.length);
             let front = facts.front;
-            match judge::replace_fault(
-                &buf[..len],
-                front,
-                usage,
-                number,
-                kind,
-                d,
-                p.place,
-                p.start,
-                old,
-            ) {
-                Outcome::Refused { number: k, place } => Change::Keep { number: k, place },
-                Outcome::Done => {
-                    let x = d.len();
-                    if buf.len() < len - old as usize + (8 + (x + x % 2)) {
-                        return Change::Keep {
-                            number: 24,
-                            place: 0,
-                        };
-                    }
-                    if room - used < 29 + m as usize {
-                        return Change::Keep {
-                            number: 25,
-                            place: 0,
-                        };
-                    }
-                    Change::Put {
-                        count: facts.count,
-                        place: p.place,
-                        start: p.start,
-                        kind: p.kind,
-                        m,
-                    }
-                }
+            let judged = judge::replace_fault(&buf[..len], front, piece, usage, number, kind, d);
+            let m = d.len();
+            let size = len - old as usize + (8 + (m + m % 2));
+            let more = 29 + piece.length as usize;
+            match with_room(judged, size, buf.len(), more, room - used) {
+                Outcome::Refused { number: k, place } => Change::Keep(k, place),
+                Outcome::Done => Change::Put {
+                    count: facts.count,
+                    piece,
+                },
             }
         }
     }
@@ -394,22 +333,13 @@ fn replace_chunk(
     ensures { λ r. ⌜ Called (state (now (buf .entry)) len (now (jrn .entry)) used) (edit (replace usage number kind (now (d .entry)))) r (now (buf .exit)) (now (jrn .exit)) ⌝ }
 {
     match replace_plan(buf, len, jrn.len(), used, usage, number, kind, d) {
-        Change::Keep { number: k, place } => Answer {
-            outcome: Outcome::Refused { number: k, place },
-            len,
-            used,
-        },
-        Change::Put {
-            count,
-            place,
-            start,
-            kind: was,
-            m,
-        } => {
-            let old = gone_size(false, m) as usize;
-            let x = d.len();
+        Change::Keep(k, place) => Answer::refused(k, place, len, used),
+        Change::Put { count, piece } => {
+            let start = piece.start;
+            let old = gone_size(false, piece.length) as usize;
+            let m = d.len();
             let from = start as usize + 8;
-            let to = from + m as usize;
+            let to = from + piece.length as usize;
             moves::put_record(
                 jrn,
                 used,
@@ -419,16 +349,13 @@ fn replace_chunk(
                     number,
                     start,
                 },
-                place as u64,
-                was as u64,
+                piece.place as u64,
+                piece.kind as u64,
                 &buf[from..to],
             );
-            rewrite::replace_bytes(buf, len, count, place, start as usize, old, kind, d);
-            Answer {
-                outcome: Outcome::Done,
-                len: len - old + (8 + (x + x % 2)),
-                used: used + (29 + m as usize),
-            }
+            rewrite::replace_bytes(buf, len, count, piece.place, start as usize, old, kind, d);
+            let size = len - old + (8 + (m + m % 2));
+            Answer::done(size, used + (29 + piece.length as usize))
         }
     }
 }
@@ -518,21 +445,10 @@ pub fn blank(buf: &mut [u8]) -> Answer
     ensures { λ r. ⌜ (r ≡ blankAnswer (leb 24 (length (now (buf .entry))))) × (now (buf .exit) ≡ blanked (now (buf .entry))) ⌝ }
 {
     if buf.len() < Session::BLANK_SIZE {
-        return Answer {
-            outcome: Outcome::Refused {
-                number: 24,
-                place: 0,
-            },
-            len: 0,
-            used: 0,
-        };
+        return Answer::refused(24, 0, 0, 0);
     }
     let file = Session::BLANK;
     moves::copy_in(buf, 0, &file);
     let fresh = Session::fresh();
-    Answer {
-        outcome: Outcome::Done,
-        len: fresh.len,
-        used: fresh.used,
-    }
+    Answer::done(fresh.len, fresh.used)
 }

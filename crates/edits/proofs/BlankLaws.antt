@@ -1,16 +1,16 @@
 -- The blank file: its length, the model whose file it is, and that the reader accepts it.
 use mathlib.Core.Path.{_≡_, refl, sym, ap, _∙_}
 use Prim.Native.Nat.{ℕ, _≤_, _<_}
-use mathlib.Core.List.{List, [], _++_, map, append-nil}
+use mathlib.Core.List.{List, []}
 use native.Mathlib.Omega.{arith}
-use lib.ListN.{length, drop}
+use lib.ListN.{length}
 use lib.Dec.{leb}
 use borrow.Author.Tests.{le-leb, lt-leb}
 use Rattle.blorb.specs.Bytes.{be32}
-use Rattle.blorb.specs.Format.{Chunk, sized, size, total, chunkBytes, chunksBytes, fileBytes, entriesBytes, indexChunk}
+use Rattle.blorb.specs.Format.{sized, size, total, chunkBytes, chunksBytes, fileBytes, entriesBytes, indexChunk}
 use Rattle.blorb.specs.Verdict.{accept, _then_, check, secondIndex, verdict}
 use Rattle.blorb.specs.Rules.{plainRules, optional, chunkRules}
-use Rattle.blorb.specs.Model.{Model, base, entryOf, file, model}
+use Rattle.blorb.specs.Model.{Model, file, model}
 use Rattle.blorb.proofs.Sound.{Sound}
 use Rattle.blorb.proofs.ModelLaws.{model-file}
 use Rattle.blorb.proofs.VerdictLaws.{refsFault, modelFault, verdict-file}

@@ -1,5 +1,3 @@
-use native.Mathlib.Omega.{arith}
-use mathlib.Core.Path.{_≡_}
 use denote.Ref.{now}
 use Rattle.edits.specs.Edit.{add}
 use Rattle.edits.specs.Run.{edit}
@@ -7,10 +5,6 @@ use Rattle.editor.proofs.CallLaws.{called-as}
 use borrow.Author.Needs.{needs}
 use Rattle.editor.proofs.add.Statement.{statement}
 use Rattle.editor.proofs.add.Tie as tie
-use Rattle.editor.proofs.add.Reads as reads
-use Rattle.editor.proofs.add.Lts as lts
-use Rattle.editor.proofs.add_entry.Reads as add-entry-reads
-use Rattle.editor.proofs.code_of.Reads as code-of-reads
 
 -- src/lib.rt:295:9
 code-of-requires : tie.Need-code-of-requires

@@ -1,5 +1,4 @@
-use native.Mathlib.Omega.{arith}
-use mathlib.Core.Path.{_≡_, refl, sym, ap, _∙_}
+use mathlib.Core.Path.{sym, _∙_}
 use lib.ListN.{length, take}
 use lib.Seq.{length-take-le}
 use denote.Ref.{now}
@@ -9,9 +8,6 @@ use Rattle.editor.proofs.OpenLaws.{opened-first, opened-second, opened-
 use borrow.Author.Needs.{needs}
 use Rattle.editor.proofs.opened.Statement.{statement}
 use Rattle.editor.proofs.opened.Tie as tie
-use Rattle.editor.proofs.opened.Reads as reads
-use Rattle.editor.proofs.opened.Lts as lts
-use Rattle.reader.proofs.inspect.Reads as inspect-reads
 
 -- src/lib.rt:52:9
 returns : tie.Need-returns

@@ -1,16 +1,9 @@
-use native.Mathlib.Omega.{arith}
-use mathlib.Core.Path.{_≡_}
-use denote.Ref.{now}
 use Rattle.edits.specs.Edit.{remove}
 use Rattle.edits.specs.Run.{edit}
 use Rattle.editor.proofs.CallLaws.{called-as}
 use borrow.Author.Needs.{needs}
 use Rattle.editor.proofs.remove.Statement.{statement}
 use Rattle.editor.proofs.remove.Tie as tie
-use Rattle.editor.proofs.remove.Reads as reads
-use Rattle.editor.proofs.remove.Lts as lts
-use Rattle.editor.proofs.code_of.Reads as code-of-reads
-use Rattle.editor.proofs.remove_entry.Reads as remove-entry-reads
 
 -- src/lib.rt:313:9
 code-of-requires : tie.Need-code-of-requires

@@ -1,5 +1,3 @@
-use native.Mathlib.Omega.{arith}
-use mathlib.Core.Path.{_≡_}
 use denote.Ref.{now}
 use Rattle.edits.specs.Edit.{replace}
 use Rattle.edits.specs.Run.{edit}
@@ -7,10 +5,6 @@ use Rattle.editor.proofs.CallLaws.{called-as}
 use borrow.Author.Needs.{needs}
 use Rattle.editor.proofs.replace.Statement.{statement}
 use Rattle.editor.proofs.replace.Tie as tie
-use Rattle.editor.proofs.replace.Reads as reads
-use Rattle.editor.proofs.replace.Lts as lts
-use Rattle.editor.proofs.code_of.Reads as code-of-reads
-use Rattle.editor.proofs.replace_chunk.Reads as replace-chunk-reads
 
 -- src/lib.rt:304:9
 code-of-requires : tie.Need-code-of-requires

@@ -1,20 +1,8 @@
-use Prim.Native.Nat.{ℕ, zero, suc, _+_, _*_, _-_, _%_, _≤_, _<_}
-use mathlib.Core.Path.{_≡_, refl, ap, sym, _∙_}
-use mathlib.Core.List.{List, [], _∷_, _++_, append-assoc}
 use native.Mathlib.Omega.{arith}
-use lib.ListN.{length, length-set, replicate, take, drop, length-replicate}
-use lib.Seq.{paste, paste-zero, sets-eq}
-use denote.Ref.{now}
-use Rattle.blorb.specs.Bytes.{be32, rd32}
-use Rattle.blorb.proofs.ByteLaws.{rd32-at, length-be32}
-use Rattle.edits.specs.Run.{noted}
-use Rattle.edits.proofs.RunLaws.{length-noted}
 use borrow.Author.Tests.{lt-ltb, le-ltb}
 use borrow.Author.Needs.{needs}
 use Rattle.editor.proofs.judge.behind_start.Statement.{statement}
 use Rattle.editor.proofs.judge.behind_start.Tie as tie
-use Rattle.editor.proofs.judge.behind_start.Reads as reads
-use Rattle.editor.proofs.judge.behind_start.Lts as lts
 
 -- src/lib.rt:412:17
 add-x : tie.Need-add-x

@@ -1,0 +1,163 @@
+-- What a file holds for a pair, told by its model; what a successful edit tells of the models before and after it.
+use mathlib.Core.Path.{_≡_, refl, sym, ap, _∙_}
+use Prim.Native.Nat.{ℕ, _<_}
+use mathlib.Core.List.{List}
+use mathlib.Core.Bool.{Bool, true, false, _&&_}
+use native.Mathlib.Omega.{arith}
+use lib.ListN.{length}
+use lib.Dec.{eqb}
+use borrow.Author.Tests.{eq-eqb, eqb-true, ltb-true, not-true}
+use Rattle.blorb.specs.Bytes.{Byte}
+use Rattle.blorb.specs.All.{All}
+use Rattle.blorb.specs.Format.{Chunk}
+use Rattle.blorb.specs.Verdict.{accept, verdict, refFault, pairIn}
+use Rattle.blorb.specs.Rules.{plainRules, plainVerdict}
+use Rattle.blorb.specs.Model.{Model, model, file}
+use Rattle.blorb.specs.Queries.{find, refAt, noRef}
+use Rattle.blorb.specs.Lookup.{Look, missing, here, lookup}
+use Rattle.blorb.proofs.AllLaws.{all-getD}
+use Rattle.blorb.proofs.Sound.{RefOk, Sound}
+use Rattle.blorb.proofs.Checks.{then-accept, check-accept, both-true}
+use Rattle.blorb.proofs.Accept.{accept-back, accept-short}
+use Rattle.blorb.proofs.ModelLaws.{model-file}
+use Rattle.blorb.proofs.VerdictLaws.{modelFault, verdict-file}
+use Rattle.reader.specs.Reading.{lookupOf, partOf}
+use Rattle.reader.specs.declared.Looked.the-variants.{Found, Refused}
+use Rattle.reader.proofs.Promises.{lookup-here, lookup-nowhere}
+use Rattle.edits.specs.Edit.{Edit, add, replace, remove, added, edited, given}
+use Rattle.edits.specs.Run.{ArgsOk, targetFault, editedFile, editFault}
+use Rattle.edits.proofs.Applies.{Applies}
+use Rattle.edits.proofs.AddVerdict.{added-verdict}
+use Rattle.edits.proofs.FitLaws.{edit-sound, find-pair}
+use Rattle.edits.proofs.ReadBack.{same, add-reads, add-keeps, replace-reads, replace-keeps, remove-gone, remove-keeps}
+use Rattle.editor.specs.ReadsBack.{Content, nothing, holds, contentOf, Holds, OwnPair, Apart, OtherPair}
+use Rattle.editor.proofs.CallLaws.{hundred-fine}
+
+-- the two answers of a lookup
+content-found : (f : List ℕ) (u n t x m : ℕ) → lookupOf f u n ≡ Found t x m → contentOf f u n ≡ holds t (partOf (lookupOf f u n) f)
+unfolding contentOf
+content-found f u n t x m e = rw e
+
+content-refused : (f : List ℕ) (u n k p : ℕ) → lookupOf f u n ≡ Refused k p → contentOf f u n ≡ nothing
+unfolding contentOf
+content-refused f u n k p e = rw e
+
+-- an accepted file holds for a pair what its model has
+abbrev pub contentIn : Look → Content
+contentIn missing = nothing
+contentIn (here c) = holds (c .type) (c .body)
+
+pub content-is : (f : List ℕ) (u n : ℕ) → plainVerdict f ≡ accept → contentOf f u n ≡ contentIn (lookup (model f) u n)
+content-is f u n h = go (lookup (model f) u n) refl
+  where
+    go : (l : Look) → lookup (model f) u n ≡ l → contentOf f u n ≡ contentIn l
+    go missing e = content-refused f u n 22 0 (lookup-nowhere f u n h e)
+    go (here c) e = let p = lookup-here f u n h c e in content-found f u n _ _ _ (p .0) ∙ ap (holds (c .type)) (p .1)
+
+pub holds-given : (f : List ℕ) (u n t : ℕ) (d : List ℕ) → plainVerdict f ≡ accept → lookup (model f) u n ≡ here (given t d) → Holds f u n t d
+unfolding given
+holds-given f u n t d h e =
+    let p = lookup-here f u n h (record { type = t; body = d }) e in
+    record { start = _; found = p .0; content = content-found f u n _ _ _ (p .0) ∙ ap (holds t) (p .1) }
+
+-- a successful edit of the file f: both files are accepted, and the new one's model is the edited model
+pub record Told (f : List ℕ) (e : Edit) : Type 0 where
+  pub old : plainVerdict f ≡ accept
+  pub new : plainVerdict (editedFile f e) ≡ accept
+  pub sound : Sound (model f)
+  pub judged : modelFault plainRules (model f) ≡ accept
+  pub judged-new : modelFault plainRules (edited (model f) e) ≡ accept
+  pub applies : Applies (model f) e
+  pub same : model (editedFile f e) ≡ edited (model f) e
+
+target-applies : (m : Model) (e : Edit) → targetFault m e ≡ accept → Applies m e
+unfolding targetFault
+target-applies m (add u n t d) h = tt
+target-applies m (replace u n t d) h =
+    let p = then-accept _ _ h in
+    (ltb-true _ _ (check-accept _ _ _ (p .0)), not-true _ (check-accept _ _ _ (p .1)))
+target-applies m (remove u n) h = ltb-true _ _ (check-accept _ _ _ h)
+
+judged-as : (m : Model) → Sound m → verdict plainRules (file m) ≡ accept → modelFault plainRules m ≡ accept
+judged-as m s h = then-accept _ _ (sym (verdict-file plainRules m s) ∙ h) .1
+
+pub edit-told : (N J : ℕ) (f : List ℕ) (L U : ℕ) (e : Edit) → All Byte f → ArgsOk e → editFault plainRules N J f L U e ≡ accept → Told f e
+unfolding editFault editedFile plainVerdict
+edit-told N J f L U e bytes args h =
+    let h2 = then-accept _ _ (then-accept _ _ h .1) in
+    let h3 = then-accept _ _ (h2 .1) in
+    let g = accept-back plainRules f bytes (h2 .0) in
+    let ap : Applies (model f) e = target-applies (model f) e (h3 .0) in
+    let new : verdict plainRules (file (edited (model f) e)) ≡ accept = hundred-fine _ (then-accept _ _ (h3 .1) .0) in
+    let sd : Sound (edited (model f) e) = edit-sound (model f) e (g .1) args ap in
+    record {
+      old = h2 .0;
+      new = new;
+      sound = g .1;
+      judged = judged-as (model f) (g .1) (rw (g .0) (h2 .0));
+      judged-new = judged-as (edited (model f) e) sd new;
+      applies = ap;
+      same = model-file (edited (model f) e) sd (omega (arith, accept-short plainRules (file (edited (model f) e)) new));
+    }
+
+-- the pair of an accepted add was in no entry before: 16 would have refused it
+not-there : (m : Model) (u n : ℕ) (c : Chunk) → Sound m → modelFault plainRules m ≡ accept → modelFault plainRules (added m u n c) ≡ accept → pairIn u n (m .refs) ≡ false
+unfolding refFault
+not-there m u n c s h k =
+    let a = then-accept _ _ (sym (added-verdict plainRules m u n c s h) ∙ k) in
+    let b = then-accept _ _ (then-accept _ _ (a .1) .1) in
+    let d = then-accept _ _ (then-accept _ _ (b .0) .1) in
+    not-true _ (check-accept _ _ _ (then-accept _ _ (d .1) .1))
+
+-- an entry's chunk is there
+chunk-there : (m : Model) (i : ℕ) → Sound m → i < length (m .refs) → refAt m i .chunk < length (m .chunks)
+chunk-there m i s h = all-getD (RefOk (length (m .chunks))) (m .refs) i noRef (s .refs-ok) h .chunk-there
+
+-- the entry that find gives has the pair sought, so no other
+found-same : (m : Model) (u n : ℕ) → find u n (m .refs) < length (m .refs) → same (refAt m (find u n (m .refs))) u n ≡ true
+found-same m u n h =
+    let p = find-pair u n (m .refs) h in
+    both-true _ _ (eq-eqb _ _ (p .0)) (eq-eqb _ _ (p .1))
+
+apart-eqb : (u n v k : ℕ) → Apart u n v k → (eqb u v && eqb n k) ≡ false
+apart-eqb u n v k o = go (eqb u v) (eqb n k) refl refl
+  where
+    go : (a b : Bool) → eqb u v ≡ a → eqb n k ≡ b → a && b ≡ false
+    go true true p q = absurd (o (eqb-true u v p, eqb-true n k q))
+    go true false p q = refl
+    go false b p q = refl
+
+found-apart : (m : Model) (u n v k : ℕ) → find u n (m .refs) < length (m .refs) → Apart u n v k → same (refAt m (find u n (m .refs))) v k ≡ false
+found-apart m u n v k h o =
+    let p = find-pair u n (m .refs) h in
+    apart-eqb _ _ v k (λ e. o (sym (p .0) ∙ e .0, sym (p .1) ∙ e .1))
+
+-- the edit's own pair in the new file
+pub own-pair : (f : List ℕ) (e : Edit) → Told f e → OwnPair e (editedFile f e)
+unfolding edited modelFault
+own-pair f (add u n t d) k =
+    let fresh : pairIn u n (model f .refs) ≡ false = not-there (model f) u n (given t d) (k .sound) (k .judged) (k .judged-new) in
+    holds-given (editedFile f (add u n t d)) u n t d (k .new)
+    (ap (λ (m : Model). lookup m u n) (k .same) ∙ add-reads (model f) u n (given t d) (k .sound) fresh)
+own-pair f (replace u n t d) k =
+    holds-given (editedFile f (replace u n t d)) u n t d (k .new)
+    (ap (λ (m : Model). lookup m u n) (k .same) ∙ replace-reads (model f) u n (given t d) (k .applies .0) (chunk-there (model f) (find u n (model f .refs)) (k .sound) (k .applies .0)))
+own-pair f (remove u n) k =
+    let i : ℕ = find u n (model f .refs) in
+    let refs = then-accept _ _ (then-accept _ _ (then-accept _ _ (k .judged) .1) .1) .0 in
+    lookup-nowhere (editedFile f (remove u n)) u n (k .new)
+    (ap (λ (m : Model). lookup m u n) (k .same) ∙ remove-gone plainRules (model f) i u n refs (k .applies) (found-same (model f) u n (k .applies)))
+
+-- every other pair
+keeps : (m : Model) (e : Edit) (v k : ℕ) → Sound m → Applies m e → OtherPair e v k → lookup (edited m e) v k ≡ lookup m v k
+unfolding edited
+keeps m (add u n t d) v k s a o = add-keeps m u n (given t d) v k s (apart-eqb u n v k o)
+keeps m (replace u n t d) v k s a o = replace-keeps m (find u n (m .refs)) (given t d) v k (a .0) (a .1) (found-apart m u n v k (a .0) o)
+keeps m (remove u n) v k s a o = remove-keeps m (find u n (m .refs)) v k a (found-apart m u n v k a o)
+
+pub other-pair : (f : List ℕ) (e : Edit) (v k : ℕ) → Told f e → OtherPair e v k → contentOf (editedFile f e) v k ≡ contentOf f v k
+other-pair f e v k t o =
+    content-is (editedFile f e) v k (t .new)
+    ∙ ap (λ (m : Model). contentIn (lookup m v k)) (t .same)
+    ∙ ap contentIn (keeps (model f) e v k (t .sound) (t .applies) o)
+    ∙ sym (content-is f v k (t .old))

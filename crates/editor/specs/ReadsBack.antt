@@ -1,0 +1,65 @@
+-- What was put in reads back: what a file holds for a pair (usage, number), as the reader's own lookup tells it, and what an edit makes of that.
+use mathlib.Core.Path.{_≡_}
+use Prim.Native.Nat.{ℕ}
+use mathlib.Core.List.{List}
+use lib.ListN.{length, take}
+use Rattle.reader.specs.Reading.{lookupOf, partOf}
+use Rattle.reader.specs.declared.Looked.{Looked}
+use Rattle.reader.specs.declared.Looked.the-variants.{Found, Refused}
+use Rattle.blorb.specs.Rules.{plainRules}
+use Rattle.edits.specs.Edit.{Edit, add, replace, remove}
+use Rattle.edits.specs.Run.{State, Call, step}
+
+-- what a pair has: nothing, or a type and data
+pub data Content : Type 0 where
+  nothing : Content
+  holds : ℕ → List ℕ → Content
+
+-- "A lookup gives the chunk's type and the part of the caller's slice that is its data" (01, Found resources): both, for the answer of
+-- reader::lookup and the part that reader::data gives; a refused lookup gives nothing
+abbrev pub contentBy : Looked → List ℕ → Content
+contentBy (Found t a m) f = holds t (partOf (Found t a m) f)
+contentBy (Refused k p) f = nothing
+
+-- what the file f holds for usage u and number n
+unfoldable pub contentOf : List ℕ → ℕ → ℕ → Content
+contentOf f u n = contentBy (lookupOf f u n) f
+
+-- "the editor's file is the first L bytes of a lent buffer" (01, What the shelf needs)
+abbrev pub fileOf : State → List ℕ
+fileOf s = take (s .L) (s .buffer)
+
+-- the file after a call
+abbrev pub fileAfter : State → Call → List ℕ
+fileAfter s c = fileOf (step plainRules s c)
+
+-- the file f holds type t and data d for the pair: its lookup isn't refused, but finds type t and as many data bytes as d has, and these
+-- bytes are d
+pub record Holds (f : List ℕ) (u n t : ℕ) (d : List ℕ) : Type 0 where
+  pub start : ℕ
+  pub found : lookupOf f u n ≡ Found t start (length d)
+  pub content : contentOf f u n ≡ holds t d
+
+-- what an edit leaves for its own pair in the file f after it: the type and data that were given, exactly ("the chunk in the same
+-- position takes the new type and data"), or no entry ("the entry goes"; "22 no such entry")
+abbrev pub OwnPair : Edit → List ℕ → Type 0
+OwnPair (add u n t d) f = Holds f u n t d
+OwnPair (replace u n t d) f = Holds f u n t d
+OwnPair (remove u n) f = lookupOf f u n ≡ Refused 22 0
+
+-- two pairs that aren't the same: not both the usage and the number
+abbrev pub Apart : ℕ → ℕ → ℕ → ℕ → Type 0
+Apart u n v k = (u ≡ v) × (n ≡ k) → ⊥
+
+-- the pair (v, k) isn't the edit's own
+abbrev pub OtherPair : Edit → ℕ → ℕ → Type 0
+OtherPair (add u n t d) v k = Apart u n v k
+OtherPair (replace u n t d) v k = Apart u n v k
+OtherPair (remove u n) v k = Apart u n v k
+
+-- the edit e has made the file g of the file f, as a reader of both sees it
+pub record ReadsBack (e : Edit) (f g : List ℕ) : Type 0 where
+  -- its own pair has what was put in
+  pub own : OwnPair e g
+  -- "All other chunks keep their bytes and order" (01, The edits): every other pair has what it had, be it nothing
+  pub others : (v k : ℕ) → OtherPair e v k → contentOf g v k ≡ contentOf f v k
