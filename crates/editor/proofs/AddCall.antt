@@ -27,7 +27,8 @@ use Rattle.editor.specs.declared.Plan.the-variants.{Go, No}
 use Rattle.reader.specs.declared.Facts.{Facts}
 use Rattle.reader.specs.declared.Inspection.the-variants.{Whole, Refused}
 use Rattle.reader.specs.Inspecting.{targetOf}
-use Rattle.editor.specs.Post.{verdictOf, planOf, Stands}
+use Rattle.editor.specs.Called.{verdictOf}
+use Rattle.editor.specs.Post.{planOf, Stands}
 use Rattle.editor.proofs.OpenLaws.{asked, asked-refused, asked-whole}
 use Rattle.editor.proofs.Writes.{size-given}
 use Rattle.editor.proofs.CallLaws.{plan-go, hundred-fine, open-stands, stands-part, edit-unopened, edit-told}

@@ -28,6 +28,7 @@ use Rattle.edits.specs.Edit.{Edit, add, replace, remove, added, edited, given}
 use Rattle.edits.specs.Run.{ArgsOk, targetFault, editedFile, editFault}
 use Rattle.edits.proofs.Applies.{Applies}
 use Rattle.edits.proofs.AddVerdict.{added-verdict}
+use Rattle.edits.proofs.RunLaws.{target-applies}
 use Rattle.edits.proofs.FitLaws.{edit-sound, find-pair}
 use Rattle.edits.proofs.ReadBack.{same, add-reads, add-keeps, replace-reads, replace-keeps, remove-gone, remove-keeps}
 use Rattle.editor.specs.ReadsBack.{Content, nothing, holds, contentOf, Holds, OwnPair, Apart, OtherPair}
@@ -69,14 +70,6 @@ pub record Told (f : List ℕ) (e : Edit) : Type 0 where
   pub judged-new : modelFault plainRules (edited (model f) e) ≡ accept
   pub applies : Applies (model f) e
   pub same : model (editedFile f e) ≡ edited (model f) e
-
-target-applies : (m : Model) (e : Edit) → targetFault m e ≡ accept → Applies m e
-unfolding targetFault
-target-applies m (add u n t d) h = tt
-target-applies m (replace u n t d) h =
-    let p = then-accept _ _ h in
-    (ltb-true _ _ (check-accept _ _ _ (p .0)), not-true _ (check-accept _ _ _ (p .1)))
-target-applies m (remove u n) h = ltb-true _ _ (check-accept _ _ _ h)
 
 judged-as : (m : Model) → Sound m → verdict plainRules (file m) ≡ accept → modelFault plainRules m ≡ accept
 judged-as m s h = then-accept _ _ (sym (verdict-file plainRules m s) ∙ h) .1

@@ -16,7 +16,7 @@ use Rattle.editor.specs.declared.journal.Record.{Record}
 use Rattle.editor.specs.declared.journal.Last.{Last}
 use Rattle.editor.specs.declared.journal.Last.the-variants.{Good, Bad}
 use Rattle.editor.specs.LastRecord.{numbersOf, lastBy, lastOf, recordAt}
-use Rattle.editor.specs.Post.{state}
+use Rattle.editor.specs.Called.{state}
 
 pub is-bad : (j : List ℕ) → wellFormed j ≡ false → Bad ≡ lastOf j
 unfolding lastOf

@@ -18,3 +18,4 @@ pub mod ReplaceCall
 pub mod LastRead
 pub mod ContentLaws
 pub mod ReadsBack
+pub mod Runs

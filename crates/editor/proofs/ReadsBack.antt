@@ -20,7 +20,7 @@ use Rattle.edits.specs.Run.{State, Call, edit, undo, ArgsOk, fault, step, answe
 use Rattle.edits.proofs.RunLaws.{length-written, take-written, length-noted, take-noted, Good, Made, made}
 use Rattle.editor.specs.declared.Outcome.the-variants.{Done, Refused}
 use Rattle.editor.specs.declared.Answer.{Answer}
-use Rattle.editor.specs.Post.{verdictOf, Called}
+use Rattle.editor.specs.Called.{verdictOf, Called}
 use Rattle.editor.specs.ReadsBack.{contentOf, fileOf, fileAfter, ReadsBack}
 use Rattle.editor.proofs.ContentLaws.{edit-told, own-pair, other-pair}
 

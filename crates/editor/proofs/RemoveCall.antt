@@ -37,7 +37,8 @@ use Rattle.reader.specs.declared.Facts.{Facts}
 use Rattle.reader.specs.declared.Inspection.the-variants.{Whole, Refused}
 use Rattle.reader.specs.Inspecting.{pieceOf, frontOf}
 use Rattle.editor.proofs.OpenLaws.{asked, asked-refused, asked-whole, target-at, target-nothing, place-is, start-is, length-is}
-use Rattle.editor.specs.Post.{verdictOf, doneWith, state, Called, removalOf, goneSize, Stands, Listed, Removable}
+use Rattle.editor.specs.Called.{verdictOf, state, Called}
+use Rattle.editor.specs.Post.{doneWith, removalOf, goneSize, Stands, Listed, Removable}
 use Rattle.editor.proofs.Writes.{file-length}
 use Rattle.editor.proofs.RemoveFault.{removed-length}
 use Rattle.editor.proofs.ChunkAt.{body-at}

@@ -1,4 +1,4 @@
--- What a call of the editor promises.
+-- What the parts of a call are told and what they promise.
 use mathlib.Core.Path.{_≡_}
 use Prim.Native.Nat.{ℕ, _+_, _*_, _-_, _%_, _≤_, _<_}
 use mathlib.Core.List.{List}
@@ -25,11 +25,6 @@ use Rattle.editor.specs.declared.Removal.the-variants.{Take, Not}
 use Rattle.editor.specs.declared.Plan.{Plan}
 use Rattle.editor.specs.declared.Plan.the-variants.{Go, No}
 
--- the answer's number and place, as document 01 has them
-abbrev pub verdictOf : Outcome → Verdict
-verdictOf Done = accept
-verdictOf (Refused k p) = refuse k p
-
 -- the answer of a refused call and of one that was made
 abbrev pub refusedWith : ℕ → ℕ → ℕ → ℕ → Answer
 refusedWith k p l u = record { outcome = Refused k p; len = l; used = u }
@@ -41,17 +36,6 @@ doneWith l u = record { outcome = Done; len = l; used = u }
 abbrev pub planOf : Verdict → ℕ → Plan
 planOf accept k = Go k
 planOf (refuse n p) k = No n p
-
-abbrev pub state : List ℕ → ℕ → List ℕ → ℕ → State
-state b l j u = record { buffer = b; L = l; journal = j; U = u }
-
--- a call c in state s gives the answer r and leaves these buffers
-pub record Called (s : State) (c : Call) (r : Answer) (b j : List ℕ) : Type 0 where
-  pub outcome : verdictOf (r .outcome) ≡ fault plainRules s c
-  pub len : r .len ≡ step plainRules s c .L
-  pub used : r .used ≡ step plainRules s c .U
-  pub file : b ≡ step plainRules s c .buffer
-  pub journal : j ≡ step plainRules s c .journal
 
 -- the first l bytes of b are an accepted file with k entries
 pub record Stands (b : List ℕ) (l k : ℕ) : Type 0 where

@@ -18,7 +18,8 @@ ghost use Rattle.edits.specs.Edit.{add, replace, remove};
 ghost use Rattle.edits.specs.Run.{hundred, editedFile};
 ghost use Rattle.edits.proofs.Starts.{fallen, behind};
 ghost use Rattle.reader.specs.Inspecting.{targetOf, frontOf};
-ghost use Rattle.editor.specs.Post.{verdictOf, Stands, Listed, Own};
+ghost use Rattle.editor.specs.Called.{verdictOf};
+ghost use Rattle.editor.specs.Post.{Stands, Listed, Own};
 
 pub(crate) fn refused(number: u64, place: usize) -> Outcome
     ensures { λ r. ⌜ r ≡ Outcome.Refused number place ⌝ }

@@ -49,7 +49,7 @@ take-noted j U r h =
     (take-at (take U j ++ r) (drop (U + length r) j) (U + length r) (simp (length-append, length-take) (omega arith)))
 
 -- what an edit that is made tells of its target
-target-applies : (m : Model) (e : Edit) → targetFault m e ≡ accept → Applies m e
+pub target-applies : (m : Model) (e : Edit) → targetFault m e ≡ accept → Applies m e
 unfolding targetFault
 target-applies m (add u n t d) h = tt
 target-applies m (replace u n t d) h =

@@ -8,7 +8,7 @@ use Rattle.blorb.specs.All.{All}
 use Rattle.blorb.proofs.AllLaws.{all-take}
 use Rattle.edits.specs.Edit.{add}
 use Rattle.edits.specs.Run.{edit, fault, after, afterEdit}
-use Rattle.editor.specs.Post.{state}
+use Rattle.editor.specs.Called.{state}
 use Prim.Native.Nat.{ℕ, _+_}
 use Rattle.editor.proofs.AddCall.{ready, record-written}
 use Rattle.editor.proofs.CallLaws.{plan-no, gave-refused, gave-done}

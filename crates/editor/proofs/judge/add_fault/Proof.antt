@@ -6,7 +6,7 @@ use Rattle.blorb.specs.Bytes.{Byte}
 use Rattle.blorb.proofs.Accept.{bytes-all}
 use Rattle.blorb.specs.All.{All}
 use Rattle.blorb.proofs.UsageLaws.{known-is, known-not}
-use Rattle.editor.specs.Post.{verdictOf}
+use Rattle.editor.specs.Called.{verdictOf}
 use Rattle.editor.proofs.AddFault.{out-101, out-109, out-111, out-112, out-114, out-115, out-116, out-done}
 use borrow.Author.Needs.{needs}
 use Rattle.editor.proofs.judge.add_fault.Statement.{statement}

@@ -6,7 +6,7 @@ use Rattle.blorb.specs.Verdict.{refuse}
 use Rattle.blorb.specs.Bytes.{Byte}
 use Rattle.blorb.proofs.Accept.{bytes-all}
 use Rattle.blorb.specs.All.{All}
-use Rattle.editor.specs.Post.{verdictOf}
+use Rattle.editor.specs.Called.{verdictOf}
 use Rattle.editor.proofs.RemoveFault.{no-front, lost-front, kept-front}
 use borrow.Author.Needs.{needs}
 use Rattle.editor.proofs.judge.remove_fault.Statement.{statement}

@@ -7,7 +7,7 @@ use Rattle.blorb.specs.Verdict.{refuse}
 use Rattle.blorb.specs.Bytes.{Byte}
 use Rattle.blorb.proofs.Accept.{bytes-all}
 use Rattle.blorb.specs.All.{All}
-use Rattle.editor.specs.Post.{verdictOf}
+use Rattle.editor.specs.Called.{verdictOf}
 use Rattle.editor.proofs.ReplaceFault.{out-101, out-109, out-114, out-nothing, out-119, out-kept}
 use borrow.Author.Needs.{needs}
 use Rattle.editor.proofs.judge.replace_fault.Statement.{statement}
