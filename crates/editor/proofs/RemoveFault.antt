@@ -34,55 +34,18 @@ use Rattle.reader.specs.declared.Front.the-variants as front
 use Rattle.reader.specs.Inspecting.{frontOf}
 use Rattle.editor.proofs.OpenLaws.{front-nothing, front-at}
 use Rattle.edits.proofs.P13.{length-removed}
+use Rattle.edits.proofs.RemoveJudged.{second-without, picture-less, picture-lower, picture-without}
+use Rattle.edits.proofs.JudgedLaws.{chunk-plain}
 use Rattle.edits.proofs.RuleSeven.{Plain, plain-plain}
 use Rattle.edits.proofs.FrontLaws.{like-self, like-without, optional-like, front-picture, picture-none}
 use Rattle.edits.proofs.ReadBack.{same, pair-gone}
 use Rattle.editor.proofs.Writes.{file-length}
 
--- no second index among fewer chunks
-second-without : (at at′ : ℕ) (cs : List Chunk) (k : ℕ) → secondIndex at cs ≡ accept → secondIndex at′ (without k cs) ≡ accept
-unfolding secondIndex without
-second-without at at′ [] zero h = refl
-second-without at at′ [] (suc k) h = refl
-second-without at at′ (c ∷ cs) zero h = second-any (at + size c) at′ cs (then-accept _ _ h .1)
-second-without at at′ (c ∷ cs) (suc k) h =
-    let p = then-accept _ _ h in
-    pass _ _ _ _ (check-accept _ _ _ (p .0)) ∙ second-without (at + size c) (at′ + size c) cs k (p .1)
-
--- an entry's chunk is one that rule 5 allows
-pub entry-plain : (cs : List Chunk) (e : List Ref) (p : ℕ) (rs : List Ref) (i : ℕ) → refsFault plainRules cs e p rs ≡ accept → i < length rs → Plain (getD cs (getD rs i noRef .chunk) noChunk)
-unfolding refsFault refFault
-entry-plain cs e p [] i ok h = absurd (not-suc-le-zero h)
-entry-plain cs e p (r ∷ rs) zero ok h = plain-plain (r .usage) (getD cs (r .chunk) noChunk) (check-accept _ _ _ (then-accept _ _ (then-accept _ _ (then-accept _ _ ok .1) .0) .0))
-entry-plain cs e p (r ∷ rs) (suc i) ok h = entry-plain cs (e ++ (r ∷ [])) (p + 12) rs i (then-accept _ _ (then-accept _ _ ok .1) .1) (le-of-suc-le-suc h)
-
--- the pictures after a removal
-picture-less : (q : ℕ) (cs : List Chunk) (i : ℕ) (rs : List Ref) → i < length rs → same (getD rs i noRef) Pict q ≡ false → picture q cs rs ≡ true → picture q cs (without i rs) ≡ true
-unfolding picture without
-picture-less q cs i [] l ne h = absurd (not-suc-le-zero l)
-picture-less q cs zero (r ∷ rs) l ne h = rw ne at h
-picture-less q cs (suc i) (r ∷ rs) l ne h = go (same r Pict q && not (eqb (getD cs (r .chunk) noChunk .type) Rect)) (picture q cs rs) (picture q cs (take i rs ++ drop (suc i) rs)) h (picture-less q cs i rs (le-of-suc-le-suc l) ne)
-  where
-    go : (a b b′ : Bool) → a || b ≡ true → (b ≡ true → b′ ≡ true) → a || b′ ≡ true
-    go true b b′ h f = refl
-    go false b b′ h f = f h
-
-picture-lower : (q : ℕ) (cs : List Chunk) (k : ℕ) (rs : List Ref) → uses k rs ≡ false → picture q (without k cs) (map (lower k) rs) ≡ picture q cs rs
-unfolding picture uses
-picture-lower q cs k [] h = refl
-picture-lower q cs k (r ∷ rs) h =
-    let o = or-false (eqb (r .chunk) k) (uses k rs) h in
-    rw (same-chunk cs k r (o .0), picture-lower q cs k rs (o .1)) (unfold lower in refl)
-
-pub picture-without : (q : ℕ) (cs : List Chunk) (i : ℕ) (rs : List Ref) → refsFault plainRules cs [] 24 rs ≡ accept → i < length rs → picture q cs rs ≡ true
-    → picture q cs (without i rs) ≡ not (same (getD rs i noRef) Pict q)
-picture-without q cs i rs ok l h = go (same (getD rs i noRef) Pict q) refl
-  where
-    go : (b : Bool) → same (getD rs i noRef) Pict q ≡ b → picture q cs (without i rs) ≡ not b
-    go true e = picture-none q cs (without i rs) (pair-gone plainRules cs [] 24 Pict q i rs ok l e)
-    go false e = picture-less q cs i rs l e h
-
 -- the frontispiece's place among fewer chunks
+not-flip : (x y : Bool) → not x ≡ y → x ≡ not y
+not-flip true y e = ap not e
+not-flip false y e = ap not e
+
 front-without : (cs : List Chunk) (k : ℕ) → k < length cs → Plain (getD cs k noChunk) → (frontPlace (without k cs) ≡ lower k (record { usage = 0; number = 0; chunk = frontPlace cs }) .chunk) × (eqb (frontPlace cs) k ≡ false)
 unfolding frontPlace without lower
 front-without [] k h p = absurd (not-suc-le-zero h)
@@ -142,7 +105,10 @@ module _ (m : Model) (i u n : ℕ) (s : Sound m) (ok : modelFault plainRules m �
   pair q = rw (eu, en)
 
   still : (q : ℕ) → typeIn Fspc (m .chunks) ≡ true → q ≡ frontNumber (m .chunks) → picture q (m .chunks) (without i (m .refs)) ≡ not (eqb u Pict && eqb n q)
-  still q e w = picture-without q cs i rs (parts .2) h (ap (λ (z : ℕ). picture z cs rs) w ∙ front-picture (base (length rs)) rs cs (parts .3) e) ∙ ap not (pair q)
+  still q e w =
+      not-flip (picture q cs (without i rs)) (same (getD rs i noRef) Pict q)
+        (picture-without q cs i rs (parts .2) h (ap (λ (z : ℕ). picture z cs rs) w ∙ front-picture (base (length rs)) rs cs (parts .3) e))
+      ∙ ap not (pair q)
 
   pick : (b : Bool) (x y p p′ : ℕ) (t t′ : Bool) → typeIn Fspc (m .chunks) ≡ b → (b ≡ true → t ≡ t′) → p ≡ p′ → cond b (check t 19 (p + 8)) accept ≡ cond b (check t′ 19 (p′ + 8)) accept
   pick true x y p p′ t t′ e f w = λ z. check (f refl z) 19 (w z + 8)
@@ -152,7 +118,7 @@ module _ (m : Model) (i u n : ℕ) (s : Sound m) (ok : modelFault plainRules m �
       → optional (base (length (removedBoth m i k .refs))) (removedBoth m i k .refs) (removedBoth m i k .chunks) ≡ lostFront m i u n
   unfolding lostFront removedBoth shared start
   both-seven alone gs =
-      let pl = entry-plain cs [] 24 rs i (parts .2) h in
+      let pl = chunk-plain cs [] 24 rs i (parts .2) h in
       let fw = front-without cs k there pl in
       let x : Ref = record { usage = 0; number = 0; chunk = frontPlace cs } in
       let n1 : length (map (lower k) (without i rs)) ≡ length (without i rs) = length-map (without i rs) (lower k) in

@@ -40,7 +40,8 @@ use Rattle.editor.proofs.OpenLaws.{shared-is, front-nothing, front-at}
 use Rattle.editor.specs.Post.{Own}
 use Rattle.edits.proofs.RuleSeven.{Plain, plain-plain}
 use Rattle.edits.proofs.FrontLaws.{optional-replaced}
-use Rattle.editor.proofs.RemoveFault.{entry-plain, hundred-front}
+use Rattle.edits.proofs.JudgedLaws.{chunk-plain}
+use Rattle.editor.proofs.RemoveFault.{hundred-front}
 use Rattle.edits.proofs.FaultLaws.{hundred-then, hundred-check}
 
 -- a second index: only the new chunk can be one
@@ -100,7 +101,7 @@ module _ (m : Model) (u n t : ℕ) (d : List ℕ) (s : Sound m) (ok : modelFault
   seven : plain u (given t d) ≡ true → optional (base (length (m .refs))) (m .refs) (set (m .chunks) k (given t d)) ≡ spoiltFront
   unfolding spoiltFront shared start given
   seven pl =
-      let o = entry-plain cs [] 24 rs i (parts .2) h in
+      let o = chunk-plain cs [] 24 rs i (parts .2) h in
       let q = plain-plain u c pl in
       let place : startAt (base (length rs)) (set cs k c) (frontPlace (set cs k c)) ≡ behind (startAt (base (length rs)) cs k) (size (getD cs k noChunk)) (size c) (startAt (base (length rs)) cs (frontPlace cs))
       = ap (startAt (base (length rs)) (set cs k c)) (front-set cs k c there o q) ∙ shifted (base (length rs)) cs k c (frontPlace cs) there in

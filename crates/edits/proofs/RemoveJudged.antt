@@ -30,7 +30,7 @@ use Rattle.edits.proofs.ReadBack.{same, pair-gone}
 use Rattle.edits.proofs.JudgedLaws.{model-parts, accepted-file, accepted-front, isFront, find-at, chunk-in, chunk-plain}
 
 -- no second index among fewer chunks
-second-without : (at at′ : ℕ) (cs : List Chunk) (k : ℕ) → secondIndex at cs ≡ accept → secondIndex at′ (without k cs) ≡ accept
+pub second-without : (at at′ : ℕ) (cs : List Chunk) (k : ℕ) → secondIndex at cs ≡ accept → secondIndex at′ (without k cs) ≡ accept
 unfolding secondIndex without
 second-without at at′ [] zero h = refl
 second-without at at′ [] (suc k) h = refl
@@ -40,7 +40,7 @@ second-without at at′ (c ∷ cs) (suc k) h =
     pass _ _ _ _ (check-accept _ _ _ (p .0)) ∙ second-without (at + size c) (at′ + size c) cs k (p .1)
 
 -- the pictures after an entry has gone, and its chunk
-picture-less : (q : ℕ) (cs : List Chunk) (i : ℕ) (rs : List Ref) → i < length rs → same (getD rs i noRef) Pict q ≡ false → picture q cs rs ≡ true → picture q cs (without i rs) ≡ true
+pub picture-less : (q : ℕ) (cs : List Chunk) (i : ℕ) (rs : List Ref) → i < length rs → same (getD rs i noRef) Pict q ≡ false → picture q cs rs ≡ true → picture q cs (without i rs) ≡ true
 unfolding picture without
 picture-less q cs i [] l ne h = absurd (not-suc-le-zero l)
 picture-less q cs zero (r ∷ rs) l ne h = rw ne at h
@@ -50,14 +50,14 @@ picture-less q cs (suc i) (r ∷ rs) l ne h = go (same r Pict q && not (eqb (get
     go true b b′ h f = refl
     go false b b′ h f = f h
 
-picture-lower : (q : ℕ) (cs : List Chunk) (k : ℕ) (rs : List Ref) → uses k rs ≡ false → picture q (without k cs) (map (lower k) rs) ≡ picture q cs rs
+pub picture-lower : (q : ℕ) (cs : List Chunk) (k : ℕ) (rs : List Ref) → uses k rs ≡ false → picture q (without k cs) (map (lower k) rs) ≡ picture q cs rs
 unfolding picture uses
 picture-lower q cs k [] h = refl
 picture-lower q cs k (r ∷ rs) h =
     let o = or-false (eqb (r .chunk) k) (uses k rs) h in
     rw (same-chunk cs k r (o .0), picture-lower q cs k rs (o .1)) (unfold lower in refl)
 
-picture-without : (q : ℕ) (cs : List Chunk) (i : ℕ) (rs : List Ref) → refsFault plainRules cs [] 24 rs ≡ accept → i < length rs → picture q cs rs ≡ true
+pub picture-without : (q : ℕ) (cs : List Chunk) (i : ℕ) (rs : List Ref) → refsFault plainRules cs [] 24 rs ≡ accept → i < length rs → picture q cs rs ≡ true
     → not (picture q cs (without i rs)) ≡ same (getD rs i noRef) Pict q
 picture-without q cs i rs ok l h = go (same (getD rs i noRef) Pict q) refl
   where

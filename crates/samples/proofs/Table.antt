@@ -3,17 +3,20 @@
 use mathlib.Core.Path.{_≡_, refl}
 use Prim.Native.Nat.{ℕ}
 use mathlib.Core.List.{List, [], _∷_, _++_}
-use lib.ListN.{take, set}
+use lib.ListN.{take, set, replicate}
 use Rattle.blorb.specs.Bytes.{be32, rd32}
 use Rattle.blorb.specs.Tags.{FORM, IFRS, Pict, Data, Rect, TEXT, BINA}
 use Rattle.blorb.specs.declared.Usage.the-variants as usage
 use Rattle.blorb.specs.All.{All}
 use Rattle.edits.specs.Edit.{Edit, add, replace, remove}
+use Rattle.edits.specs.Blank.{blanked, blankFile}
+use Rattle.blorb.specs.Verdict.{accept, refuse}
+use Rattle.edits.specs.Run.{edit, undo}
 use Rattle.reader.specs.declared.Reading.the-variants.{Accepted, Refused}
 use Rattle.reader.specs.declared.Asked.the-variants.{Given, Refused as NotGiven}
 use Rattle.reader.specs.declared.Looked.the-variants.{Found, Refused as NotFound}
 use Rattle.samples.specs.Files.{blank, A, B, withoutEel, binary, eel, sides, addedEel, addedRect, removedEel, replacedEel}
-use Rattle.samples.specs.Rows.{Row, reads, asks, looks, edits, undoes, Holds}
+use Rattle.samples.specs.Rows.{Row, reads, asks, looks, edits, undoes, blanks, runs, Holds}
 use Rattle.blorb.specs.Format.{sized, size, chunkBytes, chunksBytes, total, fileBytes, chunkIn, chunksIn, chunksOf, entryIn, entriesIn, entryBytes, entriesBytes, indexChunk, entriesOf, isStart, placeOf, refOf}
 use Rattle.blorb.specs.Verdict.{_then_, check, headFault, chunkFault, walkFault, secondIndex, indexFault, pairIn, refFault, entriesFault, restFault, layoutFault, verdict}
 use Rattle.blorb.specs.Rules.{oneOf, plain, picture, typeIn, single, chunkRule, chunkRules, optional, plainVerdict}
@@ -22,12 +25,12 @@ use Rattle.blorb.specs.Queries.{without, find, uses, shared, start, frontPlace}
 use Rattle.blorb.specs.Usages.{usageOf}
 use Rattle.edits.specs.Edit.{with-at, lower, raise, added, replaced, removedBoth, removedEntry, removed, given, edited}
 use Rattle.edits.specs.Journal.{recBody, recBytes, removal, recOf, trailer, recIn, lastBody, lastRec, zeros, wellFormed, fits1, fits2, fits3, fits4, fits, undo1, undo2, undo3, undo4, undone}
-use Rattle.edits.specs.Run.{targetFault, editedFile, editRecord, undoneFile, editFault, undoFault}
+use Rattle.edits.specs.Run.{targetFault, editedFile, editRecord, undoneFile, editFault, undoFault, written, noted, afterEdit, afterUndo, after, fault, step, run, answers}
 use Rattle.reader.specs.Reading.{indexOf, readOf, entryOf as readerEntryOf, hitIn, lookupOf}
 
 -- opens every definition that a row computes with: a definition opens what its own line names
 computed : ℕ
-unfolding be32 rd32 sized size chunkBytes chunksBytes total fileBytes chunkIn chunksIn chunksOf entryIn entriesIn entryBytes entriesBytes indexChunk entriesOf isStart placeOf refOf _then_ check headFault chunkFault walkFault secondIndex indexFault pairIn refFault entriesFault restFault layoutFault verdict oneOf plain picture typeIn single chunkRule chunkRules optional plainVerdict base startAt entryOf file modelOf model without find uses shared start frontPlace usageOf with-at lower raise added replaced removedBoth removedEntry removed given edited recBody recBytes removal recOf trailer recIn lastBody lastRec zeros wellFormed fits1 fits2 fits3 fits4 fits undo1 undo2 undo3 undo4 undone targetFault editedFile editRecord undoneFile editFault undoFault indexOf readOf readerEntryOf hitIn lookupOf
+unfolding be32 rd32 sized size chunkBytes chunksBytes total fileBytes chunkIn chunksIn chunksOf entryIn entriesIn entryBytes entriesBytes indexChunk entriesOf isStart placeOf refOf _then_ check headFault chunkFault walkFault secondIndex indexFault pairIn refFault entriesFault restFault layoutFault verdict oneOf plain picture typeIn single chunkRule chunkRules optional plainVerdict base startAt entryOf file modelOf model without find uses shared start frontPlace usageOf with-at lower raise added replaced removedBoth removedEntry removed given edited recBody recBytes removal recOf trailer recIn lastBody lastRec zeros wellFormed fits1 fits2 fits3 fits4 fits undo1 undo2 undo3 undo4 undone targetFault editedFile editRecord undoneFile editFault undoFault indexOf readOf readerEntryOf hitIn lookupOf written noted afterEdit afterUndo after fault step run answers blanked blankFile
 computed = 0
 
 unfoldable pub table : List Row
@@ -38,13 +41,19 @@ table =
     -- B: A, then add Pict 1 'Rect' 320 by 0
     edits A (add Pict 1 Rect sides) B addedRect ∷ (
     reads B (Accepted 76 2) ∷ (
+    asks B 0 (Given (record { usage = usage.Data; number = 7; start = 48 })) ∷ (
+    asks B 1 (Given (record { usage = usage.Pict; number = 1; start = 60 })) ∷ (
     -- undo gives A
     undoes B (addedEel ++ addedRect) A ∷ (
     -- B without Data 7, and back
     edits B (remove Data 7) withoutEel removedEel ∷ (
+    reads withoutEel (Accepted 52 1) ∷ (
+    asks withoutEel 0 (Given (record { usage = usage.Pict; number = 1; start = 36 })) ∷ (
     undoes withoutEel removedEel B ∷ (
     -- B with Data 7 as 'BINA', no data, and back
     edits B (replace Data 7 BINA []) binary replacedEel ∷ (
+    reads binary (Accepted 72 2) ∷ (
+    asks binary 1 (Given (record { usage = usage.Pict; number = 1; start = 56 })) ∷ (
     undoes binary replacedEel B ∷ (
     -- 11 bytes; 'FORM' 4 'IFRS'; blank
     reads (take 11 blank) (Refused 2 0) ∷ (
@@ -64,9 +73,18 @@ table =
     -- lookups
     looks A Data 7 (Found TEXT 44 3) eel ∷ (
     looks B Pict 1 (Found Rect 68 8) sides ∷ (
-    looks B Pict 7 (NotFound 22 0) [] ∷ [])))))))))))))))))))))
+    looks B Pict 7 (NotFound 22 0) [] ∷ (
+    -- a blank file in a buffer of 26 bytes, and in one of 23
+    blanks (replicate 26 9) (blank ++ (9 ∷ (9 ∷ []))) ∷ (
+    blanks (replicate 23 9) (replicate 23 9) ∷ (
+    -- from blank in 50 bytes, journal of 60: an add, one that finds no room (24), an undo, one too many (26); the zeros that the undo leaves, and
+    -- the bytes behind both ends
+    runs (record { buffer = blank ++ replicate 26 9; L = 24; journal = replicate 60 7; U = 0 })
+      (edit (add Data 7 TEXT eel) ∷ (edit (add Pict 1 Rect sides) ∷ (undo ∷ (undo ∷ []))))
+      (record { result = accept; L = 48; U = 29 } ∷ (record { result = refuse 24 0; L = 48; U = 29 } ∷ (record { result = accept; L = 24; U = 0 } ∷ (record { result = refuse 26 0; L = 24; U = 0 } ∷ []))))
+      (record { buffer = blank ++ (replicate 24 0 ++ (9 ∷ (9 ∷ []))); L = 24; journal = addedEel ++ replicate 31 7; U = 0 }) ∷ []))))))))))))))))))))))))))))))
 
 pub samples : All Holds table
 unfolding computed table
 samples =
-    ((refl, refl, refl), (refl, ((refl, refl, refl), (refl, ((refl, refl), ((refl, refl, refl), ((refl, refl), ((refl, refl, refl), ((refl, refl), (refl, (refl, (refl, (refl, (refl, (refl, (refl, (refl, (refl, (refl, ((refl, refl), ((refl, refl), ((refl, refl), tt))))))))))))))))))))))
+    ((refl, refl, refl), (refl, ((refl, refl, refl), (refl, (refl, (refl, ((refl, refl), ((refl, refl, refl), (refl, (refl, ((refl, refl), ((refl, refl, refl), (refl, (refl, ((refl, refl), (refl, (refl, (refl, (refl, (refl, (refl, (refl, (refl, (refl, (refl, ((refl, refl), ((refl, refl), ((refl, refl), (refl, (refl, ((refl, refl), tt)))))))))))))))))))))))))))))))

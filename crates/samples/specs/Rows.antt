@@ -6,7 +6,8 @@ use lib.ListN.{length}
 use Rattle.blorb.specs.Verdict.{accept}
 use Rattle.blorb.specs.Rules.{plainRules}
 use Rattle.edits.specs.Edit.{Edit}
-use Rattle.edits.specs.Run.{editFault, undoFault, editedFile, editRecord, undoneFile}
+use Rattle.edits.specs.Blank.{blanked}
+use Rattle.edits.specs.Run.{State, Call, Answer, editFault, undoFault, editedFile, editRecord, undoneFile, answers, run}
 use Rattle.reader.specs.declared.Reading.{Reading}
 use Rattle.reader.specs.declared.Asked.{Asked}
 use Rattle.reader.specs.declared.Looked.{Looked}
@@ -23,6 +24,10 @@ pub data Row : Type 0 where
   edits : List ℕ → Edit → List ℕ → List ℕ → Row
   -- a file, the journal's used bytes and the file after an undo; both buffers have 100 bytes
   undoes : List ℕ → List ℕ → List ℕ → Row
+  -- a buffer, and what it is after a blank file has been made in it
+  blanks : List ℕ → List ℕ → Row
+  -- a state, the calls of a run, their answers, and the state after it
+  runs : State → List Call → List Answer → State → Row
 
 abbrev pub Holds : Row → Type 0
 Holds (reads f r) = readOf f ≡ r
@@ -30,3 +35,5 @@ Holds (asks f i a) = entryOf f i ≡ a
 Holds (looks f u n a p) = (lookupOf f u n ≡ a) × (partOf a f ≡ p)
 Holds (edits f e g r) = (editFault plainRules 100 100 f (length f) 0 e ≡ accept) × (editedFile f e ≡ g) × (editRecord f e ≡ r)
 Holds (undoes f j g) = (undoFault plainRules 100 100 f (length f) (length j) j ≡ accept) × (undoneFile f j ≡ g)
+Holds (blanks b c) = blanked b ≡ c
+Holds (runs s cs ans t) = (answers plainRules s cs ≡ ans) × (run plainRules s cs ≡ t)
