@@ -19,3 +19,8 @@ pub mod LastRead
 pub mod ContentLaws
 pub mod ReadsBack
 pub mod Runs
+pub mod UndoTests
+pub mod UndoFits
+pub mod UndoAsked
+pub mod UndoBack
+pub mod UndoCall

@@ -107,7 +107,7 @@ module _ (m : Model) (i u n : ℕ) (s : Sound m) (ok : modelFault plainRules m �
   still : (q : ℕ) → typeIn Fspc (m .chunks) ≡ true → q ≡ frontNumber (m .chunks) → picture q (m .chunks) (without i (m .refs)) ≡ not (eqb u Pict && eqb n q)
   still q e w =
       not-flip (picture q cs (without i rs)) (same (getD rs i noRef) Pict q)
-        (picture-without q cs i rs (parts .2) h (ap (λ (z : ℕ). picture z cs rs) w ∙ front-picture (base (length rs)) rs cs (parts .3) e))
+      (picture-without q cs i rs (parts .2) h (ap (λ (z : ℕ). picture z cs rs) w ∙ front-picture (base (length rs)) rs cs (parts .3) e))
       ∙ ap not (pair q)
 
   pick : (b : Bool) (x y p p′ : ℕ) (t t′ : Bool) → typeIn Fspc (m .chunks) ≡ b → (b ≡ true → t ≡ t′) → p ≡ p′ → cond b (check t 19 (p + 8)) accept ≡ cond b (check t′ 19 (p′ + 8)) accept

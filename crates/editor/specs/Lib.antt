@@ -5,3 +5,4 @@ pub mod Post
 pub mod LastRecord
 pub mod ReadsBack
 pub mod Runs
+pub mod UndoPlan

@@ -9,7 +9,7 @@ ghost use Rattle.blorb.specs.Verdict.{_then_, check};
 ghost use Rattle.blorb.specs.Rules.{plainRules, plainVerdict};
 ghost use Rattle.blorb.specs.Model.{model};
 ghost use Rattle.edits.specs.Edit.{add, replace, remove};
-ghost use Rattle.edits.specs.Run.{edit, editFault};
+ghost use Rattle.edits.specs.Run.{edit, undo, editFault};
 ghost use Rattle.edits.specs.Blank.{blanked};
 ghost use Rattle.reader.specs.Inspecting.{inspectionOf};
 ghost use Rattle.editor.specs.Called.{verdictOf, state, Called};
@@ -23,6 +23,7 @@ mod judge;
 mod moves;
 mod rewrite;
 mod shift;
+mod undoing;
 
 pub enum Outcome {
     Done,
@@ -452,4 +453,32 @@ pub fn blank(buf: &mut [u8]) -> Answer
     moves::copy_in(buf, 0, &file);
     let fresh = Session::fresh();
     Answer::done(fresh.len, fresh.used)
+}
+
+// Undo: the last record's edit is taken back. The journal is only read.
+pub fn undo(buf: &mut [u8], len: usize, jrn: &[u8], used: usize) -> Answer
+    ensures { λ r. ⌜ Called (state (now (buf .entry)) len (now (jrn .entry)) used) undo r (now (buf .exit)) (now (jrn .entry)) ⌝ }
+{
+    match undoing::undo_plan(buf, len, jrn, used) {
+        undoing::Undoing::Not { number: k, place } => Answer {
+            outcome: Outcome::Refused { number: k, place },
+            len,
+            used,
+        },
+        undoing::Undoing::Go {
+            count,
+            at,
+            size,
+            to,
+            record,
+        } => {
+            let m = record.length as usize;
+            undoing::write_back(buf, len, jrn, used, count, at, size, record);
+            Answer {
+                outcome: Outcome::Done,
+                len: to,
+                used: used - (29 + m),
+            }
+        }
+    }
 }

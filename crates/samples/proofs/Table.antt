@@ -80,9 +80,9 @@ table =
     -- from blank in 50 bytes, journal of 60: an add, one that finds no room (24), an undo, one too many (26); the zeros that the undo leaves, and
     -- the bytes behind both ends
     runs (record { buffer = blank ++ replicate 26 9; L = 24; journal = replicate 60 7; U = 0 })
-      (edit (add Data 7 TEXT eel) ∷ (edit (add Pict 1 Rect sides) ∷ (undo ∷ (undo ∷ []))))
-      (record { result = accept; L = 48; U = 29 } ∷ (record { result = refuse 24 0; L = 48; U = 29 } ∷ (record { result = accept; L = 24; U = 0 } ∷ (record { result = refuse 26 0; L = 24; U = 0 } ∷ []))))
-      (record { buffer = blank ++ (replicate 24 0 ++ (9 ∷ (9 ∷ []))); L = 24; journal = addedEel ++ replicate 31 7; U = 0 }) ∷ []))))))))))))))))))))))))))))))
+    (edit (add Data 7 TEXT eel) ∷ (edit (add Pict 1 Rect sides) ∷ (undo ∷ (undo ∷ []))))
+    (record { result = accept; L = 48; U = 29 } ∷ (record { result = refuse 24 0; L = 48; U = 29 } ∷ (record { result = accept; L = 24; U = 0 } ∷ (record { result = refuse 26 0; L = 24; U = 0 } ∷ []))))
+    (record { buffer = blank ++ (replicate 24 0 ++ (9 ∷ (9 ∷ []))); L = 24; journal = addedEel ++ replicate 31 7; U = 0 }) ∷ []))))))))))))))))))))))))))))))
 
 pub samples : All Holds table
 unfolding computed table

@@ -1,0 +1,275 @@
+-- What a plan to go on tells, and that the writers give the file that the definitions say.
+use mathlib.Core.Path.{_≡_, refl, sym, ap, _∙_}
+use Prim.Native.Nat.{ℕ, _+_, _*_, _-_, _≤_, _<_, _%_}
+use mathlib.Core.List.{List, []}
+use mathlib.Core.Bool.{Bool, true, _&&_, cond}
+use native.Mathlib.Omega.{arith}
+use lib.ListN.{length, take, drop}
+use lib.Seq.{length-take-le}
+use lib.Dec.{leb}
+use borrow.Author.Tests.{leb-true}
+use Rattle.blorb.specs.Format.{size, placeOf}
+use Rattle.blorb.specs.Verdict.{Verdict, accept, refuse, _then_, verdict}
+use Rattle.blorb.specs.Rules.{plainRules}
+use Rattle.blorb.specs.Model.{Model, base, startAt, model, file}
+use Rattle.blorb.specs.Queries.{refAt, chunkAt, start, shared}
+use Rattle.blorb.specs.All.{All}
+use Rattle.blorb.proofs.AllLaws.{all-take}
+use Rattle.blorb.proofs.Sound.{W}
+use Rattle.blorb.specs.Bytes.{Byte}
+use Rattle.blorb.proofs.Checks.{then-accept, check-accept}
+use Rattle.blorb.proofs.Accept.{accept-short}
+use Rattle.blorb.proofs.ModelLaws.{length-file}
+use Rattle.edits.specs.Edit.{with-at, removed, replaced, given}
+use Rattle.edits.specs.Journal.{Rec, lastRec, wellFormed, fits, fits3, fits4, undo2, undo3, undo4, oldChunk}
+use Rattle.edits.specs.Run.{accepted, undoneFile, undoFault}
+use Rattle.edits.proofs.BoolLaws.{and-parts}
+use Rattle.edits.proofs.JudgedLaws.{chunk-in}
+use Rattle.edits.proofs.UndoJudged.{Stood, accepted-stood, fits1-facts, fits2-facts, undo1-removed, kind-1, kind-2, kind-3, kind-4}
+use Rattle.edits.proofs.FitFacts.{size-is, fits3-in}
+use Rattle.edits.proofs.UndoTold.{sizeOf, after-2, after-3, after-4}
+use Rattle.editor.specs.declared.journal.Record.{Record}
+use Rattle.editor.specs.declared.journal.Last.the-variants.{Good}
+use Rattle.editor.specs.declared.undoing.Undoing.the-variants.{Go, Not}
+use Rattle.editor.specs.Post.{Stands, Removable, Replaceable, Insertable, goneSize, goneRec}
+use Rattle.editor.specs.LastRecord.{numbersOf, lastOf}
+use Rattle.editor.specs.UndoPlan.{chunkStart, chunkSize, goOf, undoingOf, undoPlan}
+use Rattle.editor.proofs.LastRead.{Ends, good-ends}
+use Rattle.editor.proofs.InsertBytes.{insertable3, insertable4, gone-again}
+use Rattle.editor.proofs.UndoFits.{chunk-ends, at-1, at-2, at-3, at-4}
+
+-- the undo goes on with these numbers
+pub record Ready (b : List ℕ) (l : ℕ) (j : List ℕ) (u k a s t : ℕ) (r : Record) : Type 0 where
+  pub unrefused : undoFault plainRules (length b) (length j) (take l b) l u (take u j) ≡ accept
+  pub within : u ≤ length j
+  pub stands : Stands b l k
+  pub stood : Stood (take l b)
+  pub ends : Ends j u r
+  pub fit : fits (lastRec (take u j)) (model (take l b)) ≡ true
+  pub fine : verdict plainRules (undoneFile (take l b) (take u j)) ≡ accept
+  pub room : length (undoneFile (take l b) (take u j)) ≤ length b
+  pub at-is : a ≡ chunkStart (lastRec (take u j)) (model (take l b))
+  pub size-is : s ≡ chunkSize (lastRec (take u j)) (model (take l b))
+  pub to-is : t ≡ length (undoneFile (take l b) (take u j))
+
+plan-goes : (v : Verdict) (f j : List ℕ) (k a s t : ℕ) (r : Record) → undoingOf v f j ≡ Go k a s t r → (v ≡ accept) × (goOf f j ≡ Go k a s t r)
+plan-goes accept f j k a s t r e = (refl, e)
+plan-goes (refuse n p) f j k a s t r e = let z : _≡_ {A = ℕ} 0 1 = cc in absurd (omega arith)
+
+pub plan-not : (v : Verdict) (f j : List ℕ) (n p : ℕ) → undoingOf v f j ≡ Not n p → v ≡ refuse n p
+unfolding goOf
+plan-not accept f j n p e = let z : _≡_ {A = ℕ} 0 1 = cc in absurd (omega arith)
+plan-not (refuse k o) f j n p e = cc
+
+formed-last : (j : List ℕ) → wellFormed j ≡ true → lastOf j ≡ Good (numbersOf (lastRec j))
+unfolding lastOf
+formed-last j h = rw h
+
+accepted-fine : (v : Verdict) → accepted v ≡ true → v ≡ accept
+accepted-fine accept h = refl
+accepted-fine (refuse k p) h = cc
+
+index-in : (m : Model) → 24 + 12 * length (m .refs) ≤ length (file m)
+unfolding base
+index-in m = omega (arith, length-file m)
+
+start-behind : (m : Model) (k : ℕ) → 24 + 12 * length (m .refs) ≤ start m k
+unfolding start startAt base
+start-behind m k = omega arith
+
+-- where the plan goes on
+module _ (b : List ℕ) (l : ℕ) (j : List ℕ) (u k a s t : ℕ) (r : Record) (bytes : All Byte b) (e : undoPlan b l j u ≡ Go k a s t r) where
+  abbrev f : List ℕ
+  f = take l b
+
+  abbrev q : List ℕ
+  q = take u j
+
+  planned : (undoFault plainRules (length b) (length j) (take l b) l u (take u j) ≡ accept) × (goOf (take l b) (take u j) ≡ Go k a s t r)
+  unfolding undoPlan
+  planned = plan-goes (undoFault plainRules (length b) (length j) f l u q) f q k a s t r e
+
+  pub ready : Ready b l j u k a s t r
+  unfolding undoFault goOf
+  ready =
+      let h1 = then-accept _ _ (planned .0) in
+      let h2 = then-accept _ _ (h1 .1) in
+      let h3 = then-accept _ _ (h2 .1) in
+      let h4 = then-accept _ _ (h3 .1) in
+      let lens = and-parts (leb l (length b)) (leb u (length j)) (check-accept _ _ _ (h1 .0)) in
+      let test = and-parts (wellFormed q && fits (lastRec q) (model f)) (accepted (verdict plainRules (undoneFile f q))) (check-accept _ _ _ (h4 .0)) in
+      let good = and-parts (wellFormed q) (fits (lastRec q) (model f)) (test .0) in
+      let inside : l ≤ length b = leb-true l (length b) (lens .0) in
+      let len : length (take l b) ≡ l = length-take-le l b inside in
+      let g : Go (length (model f .refs)) (chunkStart (lastRec q) (model f)) (chunkSize (lastRec q) (model f)) (length (undoneFile f q)) (numbersOf (lastRec q)) ≡ Go k a s t r = planned .1 in
+      let n : numbersOf (lastRec q) ≡ r = cc in
+      let st = accepted-stood f (all-take Byte l b bytes) (h2 .0) in
+      let count : k ≡ length (model f .refs) = cc in
+      record {
+        unrefused = planned .0;
+        within = leb-true u (length j) (lens .1);
+        stands = record {
+          inside = inside;
+          fine = h2 .0;
+          entries = count;
+          index = omega (arith, count, index-in (model f), ap length (st .whole));
+          short = omega (arith, accept-short plainRules f (h2 .0));
+        };
+        stood = st;
+        ends = good-ends j u r (leb-true u (length j) (lens .1)) (formed-last q (good .0) ∙ ap Good n);
+        fit = good .1;
+        fine = accepted-fine _ (test .1);
+        room = leb-true _ _ (check-accept _ _ _ (h4 .1));
+        at-is = cc;
+        size-is = cc;
+        to-is = cc;
+      }
+
+-- then each writer may be called, and gives the file that the undo is to give
+module _ (b : List ℕ) (l : ℕ) (j : List ℕ) (u k a s t : ℕ) (r : Record) (bytes : All Byte b) (w : Ready b l j u k a s t r) where
+  abbrev m : Model
+  m = model (take l b)
+
+  abbrev rec : Rec
+  rec = lastRec (take u j)
+
+  -- the record's data, as the code lends them
+  abbrev d : List ℕ
+  d = take (u - 4 - (u - 4 - r .length)) (drop (u - 4 - r .length) j)
+
+  kind-is : (n : ℕ) → r .kind ≡ n → lastRec (take u j) .kind ≡ n
+  kind-is n h = ap (λ (z : Record). z .kind) (w .ends .numbers) ∙ h
+
+  place-is : lastRec (take u j) .place ≡ r .place
+  place-is = ap (λ (z : Record). z .place) (w .ends .numbers)
+
+  body-is : take (u - 4 - (u - 4 - r .length)) (drop (u - 4 - r .length) j) ≡ lastRec (take u j) .body
+  body-is =
+      let e : u - 4 - (u - 4 - r .length) ≡ r .length = omega (arith, w .ends .room) in
+      ap (λ (z : ℕ). take z (drop (u - 4 - r .length) j)) e ∙ sym (w .ends .lies)
+
+  old-is : given (r .sort) (take (u - 4 - (u - 4 - r .length)) (drop (u - 4 - r .length) j)) ≡ oldChunk (lastRec (take u j))
+  unfolding given
+  old-is = λ i. record { type = sym (w .ends .numbers) i .sort; body = body-is i }
+
+  file-is : length (take l b) ≡ l
+  file-is = length-take-le l b (w .stands .inside)
+
+  whole-is : length (file (model (take l b))) ≡ l
+  whole-is = ap length (w .stood .whole) ∙ file-is
+
+  small : length (file (model (take l b))) < W
+  small = omega (arith, w .stood .short)
+
+  after-short : length (undoneFile (take l b) (take u j)) ≤ 16777216
+  after-short = accept-short plainRules (undoneFile (take l b) (take u j)) (w .fine)
+
+  -- kind 1
+  pub back-added : r .kind ≡ 1 → Stands b l k × Removable b l k (r .place) a s
+  unfolding goneSize
+  back-added h =
+      let fit = sym (kind-1 rec m (kind-is 1 h) .0) ∙ w .fit in
+      let p = fits1-facts rec m fit in
+      let listed : rec .place < length (m .refs) = omega (arith, p .count) in
+      let there = chunk-in m (rec .place) (w .stood .sound) listed in
+      let c : ℕ = refAt m (rec .place) .chunk in
+      let ea : a ≡ start m c = w .at-is ∙ at-1 rec m (kind-is 1 h) .0 in
+      let es : s ≡ size (chunkAt m c) = w .size-is ∙ at-1 rec m (kind-is 1 h) .1 in (
+        w .stands,
+        record {
+          listed = omega (arith, listed, place-is, w .stands .entries);
+          starts = ea ∙ ap (λ (z : ℕ). start m (refAt m z .chunk)) place-is;
+          gone = es ∙ sym (ap (λ (z : Bool). cond z 0 (size (chunkAt m c))) (p .alone)) ∙ ap (λ (z : ℕ). cond (shared m z) 0 (size (chunkAt m (refAt m z .chunk)))) place-is;
+          behind = omega (arith, ea, start-behind m c, w .stands .entries);
+          ends = omega (arith, ea, es, chunk-ends m c (w .stood .sound) there small, whole-is);
+        },
+      )
+
+  pub written-added : r .kind ≡ 1 → file (removed (model (take l b)) (r .place)) ≡ undoneFile (take l b) (take u j)
+  unfolding undoneFile
+  written-added h =
+      let fit = sym (kind-1 rec m (kind-is 1 h) .0) ∙ w .fit in
+      ap file (ap (removed m) (sym place-is) ∙ sym (undo1-removed rec m (w .stood .sound) fit) ∙ sym (kind-1 rec m (kind-is 1 h) .1))
+
+  -- kind 2
+  pub back-replaced : (All Byte j) → r .kind ≡ 2
+      → Stands b l k × (Replaceable b l k (r .place) a s × ((l - s + (8 + (length d + length d % 2)) ≤ length b) × (l - s + (8 + (length d + length d % 2)) ≤ 16777216)))
+  back-replaced bj h =
+      let fit = sym (kind-2 rec m (kind-is 2 h) .0) ∙ w .fit in
+      let p = fits2-facts rec m fit in
+      let there = chunk-in m (rec .place) (w .stood .sound) (p .inside) in
+      let c : ℕ = refAt m (rec .place) .chunk in
+      let ea : a ≡ start m c = w .at-is ∙ at-2 rec m (kind-is 2 h) .0 in
+      let es : s ≡ size (chunkAt m c) = w .size-is ∙ at-2 rec m (kind-is 2 h) .1 in
+      let to : l - s + (8 + (length d + length d % 2)) ≡ length (undoneFile (take l b) (take u j))
+      = (λ i. sym file-is i - (es ∙ size-is (chunkAt m c)) i + sizeOf (length (body-is i))) ∙ sym (after-2 (take l b) (take u j) (w .stood) (all-take Byte u j bj) (kind-is 2 h) fit) in (
+        w .stands,
+        (
+          record {
+            listed = omega (arith, p .inside, place-is, w .stands .entries);
+            starts = ea ∙ ap (λ (z : ℕ). start m (refAt m z .chunk)) place-is;
+            sized = es ∙ ap (λ (z : ℕ). size (chunkAt m (refAt m z .chunk))) place-is;
+            behind = omega (arith, ea, start-behind m c, w .stands .entries);
+            ends = omega (arith, ea, es, chunk-ends m c (w .stood .sound) there small, whole-is);
+          },
+          (omega (arith, to, w .room), omega (arith, to, after-short)),
+        ),
+      )
+
+  pub written-replaced : r .kind ≡ 2 → file (replaced (model (take l b)) (refAt (model (take l b)) (r .place) .chunk) (given (r .sort) d)) ≡ undoneFile (take l b) (take u j)
+  unfolding undoneFile undo2
+  written-replaced h =
+      (λ i. file (replaced m (refAt m (sym place-is i) .chunk) (old-is i))) ∙ sym (ap file (kind-2 rec m (kind-is 2 h) .1))
+
+  -- kind 3, the one that is left
+  pub kind-3-left : (r .kind ≡ 1 → ⊥) → (r .kind ≡ 4 → ⊥) → (r .kind ≡ 2 → ⊥) → r .kind ≡ 3
+  kind-3-left n1 n4 n2 = omega (arith, w .ends .kind-low, w .ends .kind-high)
+
+  module _ (h : r .kind ≡ 3) where
+    fit-3 : fits3 (lastRec (take u j)) (model (take l b)) ≡ true
+    fit-3 = sym (kind-3 rec m (kind-is 3 h) .0) ∙ w .fit
+
+    at-3-is : a ≡ lastRec (take u j) .start - 12
+    at-3-is = w .at-is ∙ at-3 rec m (kind-is 3 h) .0
+
+    pub back-removed : (All Byte j) → Stands b l k × (Insertable b l k (r .place) a × ((l + (20 + (length d + length d % 2)) ≤ length b) × (l + (20 + (length d + length d % 2)) ≤ 16777216)))
+    back-removed bj =
+        let i = insertable3 b l k (w .stands) (all-take Byte l b bytes) rec fit-3 in
+        let to : length (undoneFile (take l b) (take u j)) ≡ l + 12 + sizeOf (length d)
+        = after-3 (take l b) (take u j) (w .stood) (all-take Byte u j bj) (kind-is 3 h) ∙ (λ i. file-is i + 12 + sizeOf (length (sym body-is i))) in
+        (w .stands, (coe 0 1 (z. Insertable b l k (place-is z) (sym at-3-is z)) i, (omega (arith, to, w .room), omega (arith, to, after-short))))
+
+    pub written-removed : file (undo3 (goneRec 3 (r .usage) (r .number) (r .place) a (r .sort) d) (model (take l b))) ≡ undoneFile (take l b) (take u j)
+    unfolding undoneFile
+    written-removed =
+        let n : r ≡ numbersOf rec = sym (w .ends .numbers) in
+        let low : 12 ≤ rec .start = omega (arith, fits3-in rec m fit-3 .behind) in
+        (λ i. file (undo3 (goneRec (sym (kind-is 3 h) i) (n i .usage) (n i .number) (n i .place) (at-3-is i) (n i .sort) (body-is i)) m))
+        ∙ ap (λ (z : Rec). file (undo3 z m)) (gone-again rec low) ∙ sym (ap file (kind-3 rec m (kind-is 3 h) .1))
+
+  -- kind 4
+  module _ (h : r .kind ≡ 4) where
+    fit-4 : fits4 (lastRec (take u j)) (model (take l b)) ≡ true
+    fit-4 = sym (kind-4 rec m (kind-is 4 h) .0) ∙ w .fit
+
+    at-4-is : a ≡ lastRec (take u j) .start - 12
+    at-4-is = w .at-is ∙ at-4 rec m (kind-is 4 h) .0
+
+    pub back-unlisted : (All Byte j) → Stands b l k × (Insertable b l k (r .place) a × ((l + 12 ≤ length b) × (l + 12 ≤ 16777216)))
+    back-unlisted bj =
+        let i = insertable4 b l k (w .stands) (all-take Byte l b bytes) rec fit-4 in
+        let to : length (undoneFile (take l b) (take u j)) ≡ l + 12
+        = after-4 (take l b) (take u j) (w .stood) (all-take Byte u j bj) (kind-is 4 h) fit-4 ∙ ap (λ (z : ℕ). z + 12) file-is in
+        (w .stands, (coe 0 1 (z. Insertable b l k (place-is z) (sym at-4-is z)) i, (omega (arith, to, w .room), omega (arith, to, after-short))))
+
+    -- its undo looks at neither type nor data
+    pub written-unlisted : file (undo4 (goneRec 4 (r .usage) (r .number) (r .place) a 0 []) (model (take l b))) ≡ undoneFile (take l b) (take u j)
+    unfolding undoneFile undo4
+    written-unlisted =
+        let n : r ≡ numbersOf rec = sym (w .ends .numbers) in
+        let e : a + 12 - 12 ≡ rec .start - 12 = omega (arith, at-4-is) in
+        (λ i. file (record {
+          refs = with-at (n i .place) (record { usage = n i .usage; number = n i .number; chunk = placeOf (e i) (base (length (m .refs))) (m .chunks) }) (m .refs);
+          chunks = m .chunks;
+        }))
+        ∙ sym (ap file (kind-4 rec m (kind-is 4 h) .1))

@@ -1,0 +1,90 @@
+use native.Mathlib.Omega.{arith}
+use mathlib.Core.Path.{sym, _∙_}
+use denote.Ref.{now}
+use Rattle.blorb.specs.Bytes.{Byte}
+use Rattle.blorb.proofs.Accept.{bytes-all}
+use Rattle.blorb.specs.All.{All}
+use Rattle.editor.proofs.UndoBack.{ready}
+use Rattle.editor.proofs.UndoCall.{undo-refused, undo-plan-to, undo-done}
+use borrow.Author.Needs.{needs}
+use Rattle.editor.proofs.undo.Statement.{statement}
+use Rattle.editor.proofs.undo.Tie as tie
+use Rattle.editor.proofs.undo.Reads as reads
+use Rattle.editor.proofs.undo.Lts as lts
+use Rattle.editor.proofs.undoing.undo_plan.Reads as undo-plan-reads
+use Rattle.editor.proofs.undoing.write_back.Reads as write-back-reads
+
+-- src/lib.rt:276:11
+undo-plan-requires : tie.Need-undo-plan-requires
+undo-plan-requires c κs = search needs
+
+-- src/lib.rt:277:41
+enum-known-k : tie.Need-enum-known-k
+enum-known-k c = search needs
+
+-- src/lib.rt:282:32
+enum-known-count : tie.Need-enum-known-count
+enum-known-count c = search needs
+
+-- src/lib.rt:283:21
+cast-m : tie.Need-cast-m
+cast-m c = search needs
+
+-- src/lib.rt:284:13
+write-back-requires : tie.Need-write-back-requires
+write-back-requires c κs =
+    let a = c .before .before .before .before .before .before .before .before .before .args in
+    let b = now (a .buf) in
+    let bytes : All Byte b = bytes-all b (λ i. omega (arith, c .before .before .before .before .before .before .before .before .slice-known .given i)) in
+    undo-plan-to b (a .len) (now (a .jrn)) (a .used) _ _ _ _ _ bytes (sym (c .before .before .before .before .before .undo-plan .ensures) ∙ c .before .before .before .count .given .1)
+
+-- src/lib.rt:288:31
+add-t22 : tie.Need-add-t22
+add-t22 c = search needs
+
+-- src/lib.rt:288:23
+sub-t23 : tie.Need-sub-t23
+sub-t23 c =
+    let a = c .before .before .before .before .before .before .before .before .before .before .before .before .args in
+    let b = now (a .buf) in
+    let bytes : All Byte b = bytes-all b (λ i. omega (arith, c .before .before .before .before .before .before .before .before .before .before .before .slice-known .given i)) in
+    let w = ready b (a .len) (now (a .jrn)) (a .used) _ _ _ _ _ bytes (sym (c .before .before .before .before .before .before .before .before .undo-plan .ensures) ∙ c .before .before .before .before .before .before .count .given .1) in
+    w .ends .room
+
+-- src/lib.rt:273:1
+same-length : tie.Need-same-length
+same-length c = search needs
+
+-- src/lib.rt:273:1
+returns : tie.Need-returns
+returns c =
+    let a = c .before .before .before .before .before .before .before .args in
+    undo-refused (now (a .buf)) (a .len) (now (a .jrn)) (a .used) _ _ (sym (c .before .before .before .undo-plan .ensures) ∙ c .before .k .given .1)
+
+-- src/lib.rt:273:1
+same-length-2 : tie.Need-same-length-2
+same-length-2 c = search needs
+
+-- src/lib.rt:273:1
+returns-2 : tie.Need-returns-2
+returns-2 c =
+    let a = c .before .before .before .before .before .before .before .before .before .before .before .before .args in
+    let b = now (a .buf) in
+    let bytes : All Byte b = bytes-all b (λ i. omega (arith, c .before .before .before .before .before .before .before .before .before .before .before .slice-known .given i)) in
+    undo-done b (a .len) (now (a .jrn)) (a .used) _ _ _ _ _ bytes (sym (c .before .before .before .before .before .before .before .before .undo-plan .ensures) ∙ c .before .before .before .before .before .before .count .given .1) _ (c .before .before .write-back .ensures)
+
+pub undo-spec : {M : Type 1} → statement M
+undo-spec =
+    tie.close
+    (tie.spec
+    undo-plan-requires
+    enum-known-k
+    enum-known-count
+    cast-m
+    write-back-requires
+    add-t22
+    sub-t23
+    same-length
+    returns
+    same-length-2
+    returns-2)
