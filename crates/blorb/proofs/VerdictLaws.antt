@@ -113,7 +113,7 @@ module _ (R : Rules) where
       secondIndex (base (length (m .refs))) (m .chunks)
       then check (leb (length (m .refs)) 4096) 11 20
       then refsFault (m .chunks) [] 24 (m .refs)
-      then R .single (base (length (m .refs))) (m .refs) (m .chunks)
+      then R .rule7 (base (length (m .refs))) (m .refs) (m .chunks)
 
   layout-file : (m : Model) → Sound m → length (file m) < W → layoutFault R (indexChunk (entries m) ∷ m .chunks) ≡ modelFault m
   unfolding layoutFault restFault modelFault

@@ -28,6 +28,10 @@ pub record Ref : Type 0 where
 unfoldable pub sized : ℕ → ℕ
 sized m = 8 + (m + m % 2)
 
+-- the same as the code computes it
+abbrev pub sizeOf : ℕ → ℕ
+sizeOf n = 8 + (n + n % 2)
+
 unfoldable pub size : Chunk → ℕ
 unfolding sized
 size c = sized (length (c .body))

@@ -53,7 +53,7 @@ optional base rs cs = chunkRules rs cs [] base cs
 
 -- 01's own rules
 abbrev pub plainRules : Rules
-plainRules = record { typed = plain; single = optional }
+plainRules = record { rule5 = plain; rule7 = optional }
 
 -- the verdict of a file
 unfoldable pub plainVerdict : List ℕ → Verdict

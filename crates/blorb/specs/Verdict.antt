@@ -75,14 +75,14 @@ pairIn u n (r ∷ rs) = (eqb (r .usage) u && eqb (r .number) n) || pairIn u n rs
 -- The rules that are a definition of their own: rule 5 for a usage and a chunk, and rule 7 (17 to 19) for the offset of the first chunk
 -- behind the index, the entries and the chunks.
 pub record Rules : Type 0 where
-  pub typed : ℕ → Chunk → Bool
-  pub single : ℕ → List Ref → List Chunk → Verdict
+  pub rule5 : ℕ → Chunk → Bool
+  pub rule7 : ℕ → List Ref → List Chunk → Verdict
 
 module _ (R : Rules) where
   -- 14 to 16 of one entry at p, whose chunk is known (rules 5 and 6); earlier: the entries before it
   unfoldable pub refFault : List Chunk → List Ref → ℕ → Ref → Verdict
   refFault cs earlier p r =
-      check (R .typed (r .usage) (getD cs (r .chunk) noChunk)) 14 p
+      check (R .rule5 (r .usage) (getD cs (r .chunk) noChunk)) 14 p
       then check (not (eqb (r .usage) Exec) || eqb (r .number) 0) 15 (p + 4)
       then check (not (pairIn (r .usage) (r .number) earlier)) 16 p
 
@@ -102,7 +102,7 @@ module _ (R : Rules) where
       secondIndex (12 + size c) cs
       then indexFault (c .body)
       then entriesFault (12 + size c) cs [] 24 (entriesOf c)
-      then R .single (12 + size c) (map (refOf (12 + size c) cs) (entriesOf c)) cs
+      then R .rule7 (12 + size c) (map (refOf (12 + size c) cs) (entriesOf c)) cs
 
   -- 8: "no chunk, or the first isn't 'RIdx'", at 12; then the rest
   unfoldable pub layoutFault : List Chunk → Verdict

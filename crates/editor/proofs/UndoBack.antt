@@ -27,7 +27,8 @@ use Rattle.edits.proofs.BoolLaws.{and-parts}
 use Rattle.edits.proofs.JudgedLaws.{chunk-in}
 use Rattle.edits.proofs.UndoJudged.{Stood, accepted-stood, fits1-facts, fits2-facts, undo1-removed, kind-1, kind-2, kind-3, kind-4}
 use Rattle.edits.proofs.FitFacts.{size-is, fits3-in}
-use Rattle.edits.proofs.UndoTold.{sizeOf, after-2, after-3, after-4}
+use Rattle.blorb.specs.Format.{sizeOf}
+use Rattle.edits.proofs.UndoTold.{after-2, after-3, after-4}
 use Rattle.editor.specs.declared.journal.Record.{Record}
 use Rattle.editor.specs.declared.journal.Last.the-variants.{Good}
 use Rattle.editor.specs.declared.undoing.Undoing.the-variants.{Go, Not}

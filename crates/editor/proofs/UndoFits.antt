@@ -28,7 +28,8 @@ use Rattle.edits.proofs.JudgedLaws.{isFront}
 use Rattle.edits.proofs.InsertJudged.{entryTests, entry-new, entry-twice}
 use Rattle.edits.proofs.UndoJudged.{Stood, fits1-facts, fits2-facts, found-at, kind-1, kind-2, kind-4}
 use Rattle.edits.proofs.FitFacts.{size-is, told3, told4}
-use Rattle.edits.proofs.UndoTold.{sizeOf, accepted2, accepted4, test-1, test-2, test-3, test-4, after-1, after-2, after-3, after-4}
+use Rattle.blorb.specs.Format.{sizeOf}
+use Rattle.edits.proofs.UndoTold.{accepted2, accepted4, test-1, test-2, test-3, test-4, after-1, after-2, after-3, after-4}
 use Rattle.reader.specs.declared.Piece.{Piece}
 use Rattle.reader.specs.declared.Facts.{Facts}
 use Rattle.editor.specs.declared.undoing.Undoing.{Undoing}

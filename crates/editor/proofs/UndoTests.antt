@@ -13,7 +13,7 @@ use Rattle.blorb.specs.Tags.{RIdx}
 use Rattle.blorb.specs.Format.{chunkIn}
 use Rattle.blorb.specs.Usages.{chunkOf}
 use Rattle.blorb.specs.Rules.{plain}
-use Rattle.edits.proofs.UndoTold.{sizeOf}
+use Rattle.blorb.specs.Format.{sizeOf}
 use Rattle.editor.specs.declared.journal.Record.{Record}
 use Rattle.reader.specs.declared.Piece.{Piece}
 use Rattle.reader.specs.declared.Facts.{Facts}

@@ -19,7 +19,7 @@ use Rattle.blorb.specs.Bytes.{Byte}
 use Rattle.edits.specs.Journal.{Rec, byKind, lastRec, fits}
 use Rattle.edits.specs.Run.{accepted, undoneFile, undoFault}
 use Rattle.edits.proofs.UndoJudged.{Stood}
-use Rattle.edits.proofs.UndoTold.{sizeOf}
+use Rattle.blorb.specs.Format.{sizeOf}
 use Rattle.editor.specs.declared.journal.Record.{Record}
 use Rattle.editor.specs.declared.journal.Last.{Last}
 use Rattle.editor.specs.declared.journal.Last.the-variants.{Good, Bad}

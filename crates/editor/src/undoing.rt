@@ -19,7 +19,7 @@ ghost use Rattle.blorb.specs.Format.{chunkIn};
 ghost use Rattle.blorb.specs.Rules.{plain};
 ghost use Rattle.blorb.specs.Verdict.{knownUsage};
 ghost use Rattle.edits.specs.Run.{written, undoneFile};
-ghost use Rattle.edits.proofs.UndoTold.{sizeOf};
+ghost use Rattle.blorb.specs.Format.{sizeOf};
 ghost use Rattle.editor.specs.LastRecord.{lastOf};
 ghost use Rattle.editor.specs.declared.undoing.Undoing.the-variants.{Go};
 ghost use Rattle.editor.specs.UndoPlan.{undoPlan, fittingPlan, roomy, numbersIn, Asked, frontIs, entryFine, Begins, fitsAdded, addedPlan, fitsReplaced, oldFine, replacedPlan, fitsRemoved, removedPlan, unlistedPlan};

@@ -65,7 +65,7 @@ module _ (R : Rules) where
       ≡ check (not (eqb (c .type) RIdx)) 9 (base (suc (length (m .refs))) + total (m .chunks))
       then check (leb (suc (length (m .refs))) 4096) 11 20
       then (check (knownUsage u) 12 (24 + 12 * length (m .refs)) then refFault R (m .chunks ++ (c ∷ [])) (m .refs) (24 + 12 * length (m .refs)) (record { usage = u; number = n; chunk = length (m .chunks) }))
-      then R .single (base (suc (length (m .refs)))) (m .refs ++ (record { usage = u; number = n; chunk = length (m .chunks) } ∷ [])) (m .chunks ++ (c ∷ []))
+      then R .rule7 (base (suc (length (m .refs)))) (m .refs ++ (record { usage = u; number = n; chunk = length (m .chunks) } ∷ [])) (m .chunks ++ (c ∷ []))
   unfolding modelFault added
   added-verdict m u n c s h =
       let x : Ref = record { usage = u; number = n; chunk = length (m .chunks) } in

@@ -34,14 +34,14 @@ module _ (R : Rules) (cs : List Chunk) (k : ℕ) (c : Chunk) (there : k < length
       rw (other earlier p r (q .0), others (earlier ++ (r ∷ [])) (p + 12) rs (q .1))
 
   -- the entry on the replaced chunk
-  own : (earlier : List Ref) (p : ℕ) (r : Ref) → r .chunk ≡ k → refFault R cs earlier p r ≡ accept → refFault R (set cs k c) earlier p r ≡ check (R .typed (r .usage) c) 14 p
+  own : (earlier : List Ref) (p : ℕ) (r : Ref) → r .chunk ≡ k → refFault R cs earlier p r ≡ accept → refFault R (set cs k c) earlier p r ≡ check (R .rule5 (r .usage) c) 14 p
   unfolding refFault
   own earlier p r e h =
       let g : getD (set cs k c) (r .chunk) noChunk ≡ c = rw e (getD-set-same cs k c noChunk there) in
-      rw g (ap (λ (v : Verdict). check (R .typed (r .usage) c) 14 p then v) (then-accept _ _ h .1) ∙ then-end _)
+      rw g (ap (λ (v : Verdict). check (R .rule5 (r .usage) c) 14 p then v) (then-accept _ _ h .1) ∙ then-end _)
 
   pub refs-replaced : (earlier : List Ref) (p : ℕ) (rs : List Ref) (i : ℕ) → i < length rs → getD rs i noRef .chunk ≡ k → uses k (without i rs) ≡ false
-      → refsFault R cs earlier p rs ≡ accept → refsFault R (set cs k c) earlier p rs ≡ check (R .typed (getD rs i noRef .usage) c) 14 (p + 12 * i)
+      → refsFault R cs earlier p rs ≡ accept → refsFault R (set cs k c) earlier p rs ≡ check (R .rule5 (getD rs i noRef .usage) c) 14 (p + 12 * i)
   unfolding refsFault uses without
   refs-replaced earlier p [] i h e alone ok = absurd (not-suc-le-zero h)
   refs-replaced earlier p (r ∷ rs) zero h e alone ok =
@@ -50,7 +50,7 @@ module _ (R : Rules) (cs : List Chunk) (k : ℕ) (c : Chunk) (there : k < length
       let z : p ≡ p + 12 * 0 = omega arith in
       pass _ _ _ _ (check-accept _ _ _ (a .0))
       ∙ ap (λ (v : Verdict). refFault R (set cs k c) earlier p r then v) (others (earlier ++ (r ∷ [])) (p + 12) rs alone ∙ b .1)
-      ∙ then-end _ ∙ own earlier p r e (b .0) ∙ ap (check (R .typed (r .usage) c) 14) z
+      ∙ then-end _ ∙ own earlier p r e (b .0) ∙ ap (check (R .rule5 (r .usage) c) 14) z
   refs-replaced earlier p (r ∷ rs) (suc i) h e alone ok =
       let a = then-accept _ _ ok in
       let b = then-accept _ _ (a .1) in
@@ -59,4 +59,4 @@ module _ (R : Rules) (cs : List Chunk) (k : ℕ) (c : Chunk) (there : k < length
       pass _ _ _ _ (check-accept _ _ _ (a .0))
       ∙ accepts _ _ (other earlier p r (q .0) ∙ b .0)
       ∙ refs-replaced (earlier ++ (r ∷ [])) (p + 12) rs i (le-of-suc-le-suc h) e (q .1) (b .1)
-      ∙ ap (check (R .typed (getD rs i noRef .usage) c) 14) z
+      ∙ ap (check (R .rule5 (getD rs i noRef .usage) c) 14) z

@@ -6,6 +6,7 @@ use mathlib.Core.List.{List}
 use mathlib.Core.Bool.{Bool, true, _&&_, not}
 use lib.ListN.{length, take, drop}
 use lib.Dec.{eqb, leb}
+use Rattle.blorb.specs.Format.{sizeOf}
 use Rattle.blorb.specs.Bytes.{rd32}
 use Rattle.blorb.specs.Tags.{RIdx}
 use Rattle.blorb.specs.Verdict.{verdict}
@@ -37,10 +38,6 @@ last-small j h = (small 1, small 5, small 17)
   where
     small : (k : ℕ) → rd32 (drop k (lastBody j)) < W
     small k = rd32-small (drop k (lastBody j)) (all-drop Byte k (lastBody j) (body-bytes j h))
-
--- the bytes of a chunk with n data bytes
-abbrev pub sizeOf : ℕ → ℕ
-sizeOf n = 8 + (n + n % 2)
 
 -- the file after an undo of kind 2, whose entry the reader found at i: its length, and whether it is accepted
 abbrev pub length2 : Rec → Model → ℕ → ℕ → ℕ

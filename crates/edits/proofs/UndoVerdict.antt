@@ -88,9 +88,9 @@ module _ (R : Rules) (cs : List Chunk) (x : Ref) where
 
   -- x's own tests
   abbrev pub ownTests : Bool
-  ownTests = knownUsage (x .usage) && (R .typed (x .usage) (getD cs (x .chunk) noChunk) && (not (eqb (x .usage) (tag 69 120 101 99)) || eqb (x .number) 0))
+  ownTests = knownUsage (x .usage) && (R .rule5 (x .usage) (getD cs (x .chunk) noChunk) && (not (eqb (x .usage) (tag 69 120 101 99)) || eqb (x .number) 0))
 
-  own : (e : List Ref) (p : ℕ) → accepted (refFault R cs e p x) ≡ (R .typed (x .usage) (getD cs (x .chunk) noChunk) && ((not (eqb (x .usage) (tag 69 120 101 99)) || eqb (x .number) 0) && not (pairIn (x .usage) (x .number) e)))
+  own : (e : List Ref) (p : ℕ) → accepted (refFault R cs e p x) ≡ (R .rule5 (x .usage) (getD cs (x .chunk) noChunk) && ((not (eqb (x .usage) (tag 69 120 101 99)) || eqb (x .number) 0) && not (pairIn (x .usage) (x .number) e)))
   unfolding refFault
   own e p = simp (accepted-then, accepted-check)
 
@@ -100,7 +100,7 @@ module _ (R : Rules) (cs : List Chunk) (x : Ref) where
   first e p rs ok =
       accepted-then _ _
       ∙ (λ i. accepted-check (knownUsage (x .usage)) 12 p i && (accepted-then (refFault R cs e p x) (refsFault R cs (e ++ (x ∷ [])) (p + 12) rs) ∙ (λ j. own e p j && refs-after e (e ++ (x ∷ [])) p (p + 12) rs (λ u n. pair-snoc u n e x) ok j)) i)
-      ∙ join (knownUsage (x .usage)) (R .typed (x .usage) (getD cs (x .chunk) noChunk)) (not (eqb (x .usage) (tag 69 120 101 99)) || eqb (x .number) 0) (pairIn (x .usage) (x .number) e) (pairIn (x .usage) (x .number) rs)
+      ∙ join (knownUsage (x .usage)) (R .rule5 (x .usage) (getD cs (x .chunk) noChunk)) (not (eqb (x .usage) (tag 69 120 101 99)) || eqb (x .number) 0) (pairIn (x .usage) (x .number) e) (pairIn (x .usage) (x .number) rs)
     where
       join : (a b c d f : Bool) → a && ((b && (c && not d)) && not f) ≡ (a && (b && c)) && not (d || f)
       join false b c d f = refl
