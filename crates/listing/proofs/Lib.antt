@@ -1,2 +1,5 @@
 pub mod TextLaws
 pub mod WriteLaws
+pub mod LineLaws
+pub mod EntryLaws
+pub mod ListLaws

@@ -16,15 +16,15 @@ use Rattle.listing.specs.declared.Listed.{Listed}
 use Rattle.listing.specs.declared.Listed.the-variants.{Written, NoRoom}
 
 -- `blorb 48 bytes 1 resources`
-abbrev pub headLine : ℕ → ℕ → List ℕ
+unfoldable pub headLine : ℕ → ℕ → List ℕ
 headLine size count = text "blorb " ++ decimal size ++ text " bytes " ++ decimal count ++ text " resources\n"
 
 -- `refused 7 at 47`
-abbrev pub refusedLine : ℕ → ℕ → List ℕ
+unfoldable pub refusedLine : ℕ → ℕ → List ℕ
 refusedLine number place = text "refused " ++ decimal number ++ text " at " ++ decimal place ++ text "\n"
 
 -- `Data 7 at 36 TEXT 3`: usage and type are printed as their four bytes, trailing space included
-abbrev pub entryLine : ℕ → ℕ → ℕ → ℕ → ℕ → List ℕ
+unfoldable pub entryLine : ℕ → ℕ → ℕ → ℕ → ℕ → List ℕ
 entryLine usage number start type size =
     be32 usage ++ text " " ++ decimal number ++ text " at " ++ decimal start ++ text " " ++ be32 type ++ text " " ++ decimal size ++ text "\n"
 
