@@ -22,6 +22,7 @@ use Rattle.listing.specs.InPlace.{Wrote, lineAt}
 use Rattle.listing.specs.declared.Listed.{Listed}
 use Rattle.listing.specs.declared.Listed.the-variants.{Written, NoRoom}
 use Rattle.listing.proofs.WriteLaws.{more, from-start}
+use Rattle.listing.proofs.LineLaws.{line-is}
 use Rattle.listing.proofs.EntryLaws.{listed-at, found-at}
 
 lines-snoc : (f : List ℕ) (es : List Entry) (e : Entry) → linesOf f (es ++ (e ∷ [])) ≡ linesOf f es ++ lineBy e (lookupOf f (e .usage) (e .number))
@@ -31,13 +32,13 @@ lines-snoc f (x ∷ es) e = ap (λ (l : List ℕ). lineBy x (lookupOf f (x .usag
 
 module _ (f : List ℕ) (count : ℕ) (g : Good f count) where
   -- the line of entry i, read in place
-  line-is : (i : ℕ) → i < count → lineBy (getD (indexOf f) i noEntry) (lookupOf f (getD (indexOf f) i noEntry .usage) (getD (indexOf f) i noEntry .number)) ≡ lineAt f (place i)
-  line-is i l = rw (listed-at f count g i l, found-at f count g i l)
+  line-of : (i : ℕ) → i < count → lineBy (getD (indexOf f) i noEntry) (lookupOf f (getD (indexOf f) i noEntry .usage) (getD (indexOf f) i noEntry .number)) ≡ lineAt f (place i)
+  line-of i l = rw (listed-at f count g i l, found-at f count g i l) (sym (line-is f (place i)))
 
   lines-on : (i : ℕ) → i < count → linesOf f (take (i + 1) (indexOf f)) ≡ linesOf f (take i (indexOf f)) ++ lineAt f (place i)
   lines-on i l =
       let h : i < length (indexOf f) = rw (g .many) l in
-      rw (add-one i, take-suc (indexOf f) i noEntry h) (lines-snoc f (take i (indexOf f)) (getD (indexOf f) i noEntry) ∙ ap (λ (t : List ℕ). linesOf f (take i (indexOf f)) ++ t) (line-is i l))
+      rw (add-one i, take-suc (indexOf f) i noEntry h) (lines-snoc f (take i (indexOf f)) (getD (indexOf f) i noEntry) ∙ ap (λ (t : List ℕ). linesOf f (take i (indexOf f)) ++ t) (line-of i l))
 
   pub lines-turn : (out mid after : List ℕ) (at i to end : ℕ) → i < count → Wrote out at (linesOf f (take i (indexOf f))) to mid → Wrote mid to (lineAt f (place i)) end after
       → Wrote out at (linesOf f (take (i + 1) (indexOf f))) end after

@@ -11,7 +11,7 @@ ghost use Rattle.reader.specs.Entries.{startAt};
 ghost use Rattle.reader.specs.declared.Reading.the-variants.{Accepted, Refused};
 ghost use Rattle.listing.specs.Text.{decimal};
 ghost use Rattle.listing.specs.Listing.{headLine, refusedLine, linesOf, listingBy, listingOf, inputListing, roomBy, roomFor, inputRoom, listedIn, outBy};
-ghost use Rattle.listing.specs.InPlace.{Wrote, lineAt};
+ghost use Rattle.listing.specs.InPlace.{Wrote, fieldsAt, chunkText, lineAt};
 
 // How many bytes of the buffer the listing takes up; nothing is written where the buffer has less than the listing's room.
 pub enum Listed {
@@ -58,10 +58,34 @@ fn put_number(out: &mut [u8], at: usize, text: &[u8], n: u64) -> usize
 // The four bytes of a usage or a type, which stand at `from` in the file.
 fn put_tag(out: &mut [u8], at: usize, file: &[u8], from: usize) -> usize
     requires { ⌜ (from + 4 ≤ length (now file)) × (at + 4 ≤ length (now out)) ⌝ }
-    ensures { λ r. ⌜ Wrote (now (out .entry)) at (be32 (rd32 (drop from (now (file .entry))))) r (now (out .exit)) ⌝ }
+    ensures { λ r. ⌜ Wrote (now (out .entry)) at (be32 (rd32 (drop from (now (file .entry))))) r (now (out .exit)) × (r ≡ at + 4) ⌝ }
 {
     let to = from + 4;
     put_text(out, at, &file[from..to])
+}
+
+// Usage, number and start of the entry at `p`.
+fn put_fields(out: &mut [u8], at: usize, file: &[u8], p: usize) -> usize
+    requires { ⌜ (p + 12 ≤ length (now file)) × (at + 29 ≤ length (now out)) ⌝ }
+    ensures { λ r. ⌜ Wrote (now (out .entry)) at (fieldsAt (now (file .entry)) p) r (now (out .exit)) × (r ≤ at + 29) ⌝ }
+{
+    let number = blorb::be32_at(file, p + 4);
+    let start = blorb::be32_at(file, p + 8);
+    let to1 = put_tag(out, at, file, p);
+    let to2 = put_number(out, to1, b" ", number);
+    put_number(out, to2, b" at ", start)
+}
+
+// Type and length of the chunk at `start`, and the line's end.
+fn put_chunk(out: &mut [u8], at: usize, file: &[u8], start: usize) -> usize
+    requires { ⌜ (start + 8 ≤ length (now file)) × (at + 17 ≤ length (now out)) ⌝ }
+    ensures { λ r. ⌜ Wrote (now (out .entry)) at (chunkText (now (file .entry)) start) r (now (out .exit)) × (r ≤ at + 17) ⌝ }
+{
+    let length = blorb::be32_at(file, start + 4);
+    let to1 = put_text(out, at, b" ");
+    let to2 = put_tag(out, to1, file, start);
+    let to3 = put_number(out, to2, b" ", length);
+    put_text(out, to3, b"\n")
 }
 
 // The line of the entry at `p`.
@@ -69,17 +93,9 @@ fn put_entry(out: &mut [u8], at: usize, file: &[u8], p: usize) -> usize
     requires { ⌜ (p + 12 ≤ length (now file)) × (startAt (now file) p + 8 ≤ length (now file)) × (at + 48 ≤ length (now out)) ⌝ }
     ensures { λ r. ⌜ Wrote (now (out .entry)) at (lineAt (now (file .entry)) p) r (now (out .exit)) × (r ≤ at + 48) ⌝ }
 {
-    let number = blorb::be32_at(file, p + 4);
-    let start = blorb::be32_at(file, p + 8);
-    let chunk = start as usize;
-    let length = blorb::be32_at(file, chunk + 4);
-    let to1 = put_tag(out, at, file, p);
-    let to2 = put_number(out, to1, b" ", number);
-    let to3 = put_number(out, to2, b" at ", start);
-    let to4 = put_text(out, to3, b" ");
-    let to5 = put_tag(out, to4, file, chunk);
-    let to6 = put_number(out, to5, b" ", length);
-    put_text(out, to6, b"\n")
+    let start = blorb::be32_at(file, p + 8) as usize;
+    let to = put_fields(out, at, file, p);
+    put_chunk(out, to, file, start)
 }
 
 // The lines of an accepted file's entries, in index order.

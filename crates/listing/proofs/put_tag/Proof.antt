@@ -3,6 +3,9 @@ use Prim.Native.Nat.{ℕ, _+_}
 use native.Mathlib.Omega.{arith}
 use borrow.Author.Needs.{needs}
 use denote.Ref.{now}
+use lib.ListN.{drop}
+use Rattle.blorb.specs.Bytes.{rd32}
+use Rattle.blorb.proofs.ByteLaws.{length-be32}
 use Rattle.blorb.proofs.All.{All}
 use Rattle.blorb.proofs.Accept.{Byte, bytes-all}
 use Rattle.listing.proofs.LineLaws.{tag-is}
@@ -42,7 +45,8 @@ returns c =
     let a = c .before .before .before .before .before .before .before .args in
     let f = now (a .file) in
     let bytes : All Byte f = bytes-all f (λ i. omega (arith, c .before .before .before .before .before .shared-slice-known .given i)) in
-    rw (tag-is f (a .from) (a .from + 4) bytes refl (c .before .before .before .before .before .before .before .pre .0)) at (c .before .before .put-text .ensures)
+    let w = rw (tag-is f (a .from) (a .from + 4) bytes refl (c .before .before .before .before .before .before .before .pre .0)) at (c .before .before .put-text .ensures) in
+    (w, omega (arith, w .0, length-be32 (rd32 (drop (a .from) f))))
 
 pub put-tag-spec : {M : Type 1} → statement M
 put-tag-spec =

@@ -1,0 +1,69 @@
+use borrow.Author.Needs.{needs}
+use Rattle.listing.proofs.put_chunk.Statement.{statement}
+use Rattle.listing.proofs.put_chunk.Tie as tie
+use Rattle.listing.proofs.put_chunk.Reads as reads
+use Rattle.listing.proofs.put_chunk.Lts as lts
+use Rattle.blorb.proofs.be32_at.Reads as be32-at-reads
+use Rattle.listing.proofs.put_number.Reads as put-number-reads
+use Rattle.listing.proofs.put_tag.Reads as put-tag-reads
+use Rattle.listing.proofs.put_text.Reads as put-text-reads
+
+-- src/lib.rt:84:39
+add-be32-at : tie.Need-add-be32-at
+add-be32-at c = search needs
+
+-- src/lib.rt:84:9
+be32-at-requires : tie.Need-be32-at-requires
+be32-at-requires c κs = search needs
+
+-- src/lib.rt:85:33
+slice-aggregate-put-text : tie.Need-slice-aggregate-put-text
+slice-aggregate-put-text c = search needs
+
+-- src/lib.rt:85:9
+put-text-requires : tie.Need-put-text-requires
+put-text-requires c κs = search needs
+
+-- src/lib.rt:86:9
+put-tag-requires : tie.Need-put-tag-requires
+put-tag-requires c κs = search needs
+
+-- src/lib.rt:87:36
+slice-aggregate-put-number : tie.Need-slice-aggregate-put-number
+slice-aggregate-put-number c = search needs
+
+-- src/lib.rt:87:9
+put-number-requires : tie.Need-put-number-requires
+put-number-requires c κs = ?
+
+-- src/lib.rt:88:24
+slice-aggregate-put-text-2 : tie.Need-slice-aggregate-put-text-2
+slice-aggregate-put-text-2 c = search needs
+
+-- src/lib.rt:88:5
+put-text-requires-2 : tie.Need-put-text-requires-2
+put-text-requires-2 c κs = ?
+
+-- src/lib.rt:80:1
+same-length : tie.Need-same-length
+same-length c = search needs
+
+-- src/lib.rt:80:1
+returns : tie.Need-returns
+returns c = ?
+
+pub put-chunk-spec : {M : Type 1} → statement M
+put-chunk-spec =
+    tie.close
+    (tie.spec
+    add-be32-at
+    be32-at-requires
+    slice-aggregate-put-text
+    put-text-requires
+    put-tag-requires
+    slice-aggregate-put-number
+    put-number-requires
+    slice-aggregate-put-text-2
+    put-text-requires-2
+    same-length
+    returns)
