@@ -1,3 +1,8 @@
+use native.Mathlib.Omega.{arith}
+use native.Mathlib.Omega.{arith}
+use denote.Ref.{now}
+use Rattle.listing.proofs.TextLaws.{decimal-10}
+use Rattle.listing.proofs.LineLaws.{chunk-text}
 use borrow.Author.Needs.{needs}
 use Rattle.listing.proofs.put_chunk.Statement.{statement}
 use Rattle.listing.proofs.put_chunk.Tie as tie
@@ -34,7 +39,7 @@ slice-aggregate-put-number c = search needs
 
 -- src/lib.rt:87:9
 put-number-requires : tie.Need-put-number-requires
-put-number-requires c κs = ?
+put-number-requires c κs = omega (arith, decimal-10 _ (c .before .before .before .before .before .before .before .before .before .before .before .be32-at .ensures .1), c .before .before .before .before .before .before .before .before .put-text .ensures .0, c .before .before .before .before .put-tag .ensures .1, c .before .before .before .before .before .before .before .before .before .before .before .before .before .before .pre .1)
 
 -- src/lib.rt:88:24
 slice-aggregate-put-text-2 : tie.Need-slice-aggregate-put-text-2
@@ -42,7 +47,7 @@ slice-aggregate-put-text-2 c = search needs
 
 -- src/lib.rt:88:5
 put-text-requires-2 : tie.Need-put-text-requires-2
-put-text-requires-2 c κs = ?
+put-text-requires-2 c κs = omega (arith, decimal-10 _ (c .before .before .before .before .before .before .before .before .before .before .before .before .before .before .before .before .be32-at .ensures .1), c .before .before .before .before .before .before .before .before .before .before .before .before .before .put-text .ensures .0, c .before .before .before .before .before .before .before .before .before .put-tag .ensures .1, c .before .before .before .before .put-number .ensures .0, c .before .before .before .before .before .before .before .before .before .before .before .before .before .before .before .before .before .before .before .pre .1)
 
 -- src/lib.rt:80:1
 same-length : tie.Need-same-length
@@ -50,7 +55,9 @@ same-length c = search needs
 
 -- src/lib.rt:80:1
 returns : tie.Need-returns
-returns c = ?
+returns c = let a = c .before .before .before .before .before .before .before .before .before .before .before .before .before .before .before .before .before .before .before .before .before .before .args in
+    chunk-text (now (a .file)) (a .start) _ (c .before .before .before .before .before .before .before .before .before .before .before .before .before .before .before .before .before .before .before .be32-at .ensures) (now (a .out)) (a .at) _ _ _ _ _ _ _ _
+    (c .before .before .before .before .before .before .before .before .before .before .before .before .before .before .before .before .put-text .ensures) (c .before .before .before .before .before .before .before .before .before .before .before .before .put-tag .ensures) (c .before .before .before .before .before .before .before .put-number .ensures) (c .before .before .put-text2 .ensures)
 
 pub put-chunk-spec : {M : Type 1} → statement M
 put-chunk-spec =

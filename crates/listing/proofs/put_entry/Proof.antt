@@ -1,3 +1,6 @@
+use native.Mathlib.Omega.{arith}
+use denote.Ref.{now}
+use Rattle.listing.proofs.LineLaws.{entry-text}
 use borrow.Author.Needs.{needs}
 use Rattle.listing.proofs.put_entry.Statement.{statement}
 use Rattle.listing.proofs.put_entry.Tie as tie
@@ -29,7 +32,8 @@ same-length c = search needs
 
 -- src/lib.rt:92:1
 returns : tie.Need-returns
-returns c = ?
+returns c = let a = c .before .before .before .before .before .before .before .before .before .before .before .args in
+    entry-text (now (a .file)) (now (a .out)) _ _ (a .p) _ (a .at) _ _ (c .before .before .before .before .before .before .before .before .be32-at .ensures .0) (c .before .before .before .before .before .before .put-fields .ensures) (c .before .before .put-chunk .ensures)
 
 pub put-entry-spec : {M : Type 1} → statement M
 put-entry-spec =

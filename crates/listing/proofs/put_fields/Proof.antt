@@ -1,3 +1,8 @@
+use native.Mathlib.Omega.{arith}
+use native.Mathlib.Omega.{arith}
+use denote.Ref.{now}
+use Rattle.listing.proofs.TextLaws.{decimal-10}
+use Rattle.listing.proofs.LineLaws.{fields-text}
 use borrow.Author.Needs.{needs}
 use Rattle.listing.proofs.put_fields.Statement.{statement}
 use Rattle.listing.proofs.put_fields.Tie as tie
@@ -33,7 +38,7 @@ slice-aggregate-put-number c = search needs
 
 -- src/lib.rt:75:9
 put-number-requires : tie.Need-put-number-requires
-put-number-requires c κs = ?
+put-number-requires c κs = omega (arith, decimal-10 _ (c .before .before .before .before .before .before .before .be32-at .ensures .1), c .before .before .before .before .put-tag .ensures .1, c .before .before .before .before .before .before .before .before .before .before .pre .1)
 
 -- src/lib.rt:76:26
 slice-aggregate-put-number-2 : tie.Need-slice-aggregate-put-number-2
@@ -41,7 +46,7 @@ slice-aggregate-put-number-2 c = search needs
 
 -- src/lib.rt:76:5
 put-number-requires-2 : tie.Need-put-number-requires-2
-put-number-requires-2 c κs = ?
+put-number-requires-2 c κs = omega (arith, decimal-10 _ (c .before .before .before .before .before .before .before .before .before .before .before .before .be32-at .ensures .1), decimal-10 _ (c .before .before .before .before .before .before .before .before .before .before .before .be32-at2 .ensures .1), c .before .before .before .before .before .before .before .before .before .put-tag .ensures .1, c .before .before .before .before .put-number .ensures .0, c .before .before .before .before .before .before .before .before .before .before .before .before .before .before .before .pre .1)
 
 -- src/lib.rt:68:1
 same-length : tie.Need-same-length
@@ -49,7 +54,9 @@ same-length c = search needs
 
 -- src/lib.rt:68:1
 returns : tie.Need-returns
-returns c = ?
+returns c = let a = c .before .before .before .before .before .before .before .before .before .before .before .before .before .before .before .before .before .before .args in
+    fields-text (now (a .file)) (a .p) _ _ (c .before .before .before .before .before .before .before .before .before .before .before .before .before .before .before .be32-at .ensures) (c .before .before .before .before .before .before .before .before .before .before .before .before .before .before .be32-at2 .ensures) (now (a .out)) (a .at) _ _ _ _ _ _
+    (c .before .before .before .before .before .before .before .before .before .before .before .before .put-tag .ensures) (c .before .before .before .before .before .before .before .put-number .ensures) (c .before .before .put-number2 .ensures)
 
 pub put-fields-spec : {M : Type 1} → statement M
 put-fields-spec =
