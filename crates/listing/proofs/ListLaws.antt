@@ -56,9 +56,12 @@ size-go : (v : Verdict) (a b l n : ℕ) → readBy v a b ≡ Accepted l n → a 
 size-go accept a b l n e = cc
 size-go (refuse k p) a b l n e = let z : _≡_ {A = ℕ} 0 1 = cc in absurd (omega arith)
 
-pub size-is : (f : List ℕ) (l n : ℕ) → readOf f ≡ Accepted l n → length f ≡ l
+size-is : (f : List ℕ) (l n : ℕ) → readOf f ≡ Accepted l n → length f ≡ l
 unfolding readOf
 size-is f l n e = size-go (plainVerdict f) (length f) (length (indexOf f)) l n e
+
+pub size-known : (f : List ℕ) (l n : ℕ) → readOf f ≡ Accepted l n → readOf f ≡ Accepted (length f) n
+size-known f l n e = e ∙ ap (λ (k : ℕ). Accepted k n) (sym (size-is f l n e))
 
 -- the answers
 module _ (out : List ℕ) (room : ℕ) (t : List ℕ) where

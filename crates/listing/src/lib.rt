@@ -101,7 +101,7 @@ fn put_entry(out: &mut [u8], at: usize, file: &[u8], p: usize) -> usize
 // The lines of an accepted file's entries, in index order.
 fn put_entries(out: &mut [u8], at: usize, file: &[u8], count: usize) -> usize
     requires { ⌜ (readOf (now file) ≡ Accepted (length (now file)) count) × (at + 48 * count ≤ length (now out)) ⌝ }
-    ensures { λ r. ⌜ Wrote (now (out .entry)) at (linesOf (now (file .entry)) (indexOf (now (file .entry)))) r (now (out .exit)) ⌝ }
+    ensures { λ r. ⌜ Wrote (now (out .entry)) at (linesOf (now (file .entry)) (indexOf (now (file .entry)))) r (now (out .exit)) × (r ≤ at + 48 * count) ⌝ }
 {
     let mut to = at;
     let mut i: usize = 0;

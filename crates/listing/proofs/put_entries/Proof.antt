@@ -68,7 +68,7 @@ same-length c = search needs
 returns : tie.Need-returns Inv-loop μ-loop
 returns c = let f = now (c .before .before .before .before .args .file) in
     let l = c .before .loop in
-    lines-whole f _ (accepted f _ _ (c .before .before .before .before .pre .0)) (now (c .before .before .before .before .args .out)) _ (c .before .before .before .before .args .at) (l .i) _ (c .loop-test .left) (l .inv .3)
+    (lines-whole f _ (accepted f _ _ (c .before .before .before .before .pre .0)) (now (c .before .before .before .before .args .out)) _ (c .before .before .before .before .args .at) (l .i) _ (c .loop-test .left) (l .inv .3), omega (arith, l .inv .2, l .inv .0))
 
 pub put-entries-spec : {M : Type 1} → statement M
 put-entries-spec =
