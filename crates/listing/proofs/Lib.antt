@@ -3,3 +3,5 @@ pub mod WriteLaws
 pub mod LineLaws
 pub mod EntryLaws
 pub mod ListLaws
+pub mod Samples
+pub mod Sense
