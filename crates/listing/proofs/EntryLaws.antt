@@ -1,24 +1,22 @@
 -- The entries of an accepted file: where they stand, and that a lookup of each finds its own chunk.
 use mathlib.Core.Path.{_≡_, refl, sym, ap, _∙_}
-use Prim.Native.Nat.{ℕ, zero, suc, _+_, _*_, _-_, _^_, _≤_, _<_}
+use Prim.Native.Nat.{ℕ, zero, suc, _+_, _*_, _-_, _≤_, _<_}
 use mathlib.Core.List.{List, [], _∷_, _++_}
 use mathlib.Core.Bool.{Bool, true, false, _&&_, _||_}
 use native.Mathlib.Omega.{arith}
 use native.Mathlib.Nat.{not-suc-le-zero, le-of-suc-le-suc}
-use lib.ListN.{length, getD, take, drop}
+use lib.ListN.{length, getD, drop}
 use lib.Seq.{drop-drop}
 use lib.Dec.{eqb}
 use borrow.Author.Tests.{eq-eqb, not-true}
 use Rattle.blorb.specs.Bytes.{rd32}
-use Rattle.blorb.specs.Format.{Entry, Chunk, Ref, refOf, entryIn, entriesIn, isStart}
-use Rattle.blorb.specs.Verdict.{Verdict, accept, refuse, pairIn, refFault, entriesFault}
+use Rattle.blorb.specs.Format.{Entry, Chunk, Ref, refOf, entryIn, entriesIn}
+use Rattle.blorb.specs.Verdict.{accept, pairIn, refFault, entriesFault}
 use Rattle.blorb.specs.Rules.{plainRules}
 use Rattle.blorb.proofs.Checks.{then-accept, check-accept}
 use Rattle.reader.specs.Walk.{chunksFrom}
 use Rattle.reader.specs.Entries.{usageAt, numberAt, startAt, place, entriesFrom, earlier}
-use Rattle.reader.specs.Reading.{indexOf, readOf, hitIn, noEntry, lookupOf}
-use Rattle.reader.specs.declared.Reading.the-variants.{Accepted}
-use Rattle.reader.specs.declared.entries.Hit.{Hit}
+use Rattle.reader.specs.Reading.{indexOf, hitIn, noEntry, lookupOf}
 use Rattle.reader.specs.declared.entries.Hit.the-variants.{At}
 use Rattle.reader.specs.declared.Looked.the-variants.{Found}
 use Rattle.reader.proofs.ChunkLaws.{fine}

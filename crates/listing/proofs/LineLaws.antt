@@ -1,11 +1,10 @@
 -- Whole lines from their pieces, and the room that they take.
-use mathlib.Core.Path.{_≡_, refl, sym, ap, _∙_}
-use Prim.Native.Nat.{ℕ, zero, suc, _+_, _*_, _-_, _/_, _%_, _^_, _≤_, _<_}
-use mathlib.Core.List.{List, [], _∷_, _++_, append-assoc}
+use mathlib.Core.Path.{_≡_, sym}
+use Prim.Native.Nat.{ℕ, _+_, _-_, _^_, _≤_, _<_}
+use mathlib.Core.List.{List, _++_, append-assoc}
 use native.Mathlib.Omega.{arith}
-use lib.ListN.{length, take, drop, length-append, length-drop}
+use lib.ListN.{length, take, drop, length-drop}
 use Rattle.blorb.specs.Bytes.{be32, rd32}
-use Rattle.blorb.proofs.ByteLaws.{length-be32}
 use Rattle.blorb.proofs.All.{All, all-drop}
 use Rattle.blorb.proofs.Accept.{Byte, again}
 use Rattle.reader.specs.Entries.{usageAt, numberAt, startAt}

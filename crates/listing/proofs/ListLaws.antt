@@ -1,23 +1,21 @@
 -- The lines of all entries, and the listing in a buffer.
 use mathlib.Core.Path.{_≡_, refl, sym, ap, _∙_}
-use Prim.Native.Nat.{ℕ, zero, suc, _+_, _*_, _-_, _^_, _≤_, _<_}
+use Prim.Native.Nat.{ℕ, _+_, _-_, _≤_, _<_}
 use mathlib.Core.List.{List, [], _∷_, _++_, append-assoc, append-nil}
-use mathlib.Core.Bool.{Bool, true, false}
 use native.Mathlib.Omega.{arith}
 use native.Mathlib.Numerals.{add-one}
 use lib.ListN.{length, getD, take, drop}
 use lib.Seq.{take-suc, take-all}
-use lib.Dec.{leb}
 use borrow.Author.Tests.{le-leb, lt-leb}
 use Rattle.blorb.specs.Format.{Entry}
 use Rattle.blorb.specs.Verdict.{Verdict, accept, refuse}
 use Rattle.blorb.specs.Rules.{plainVerdict}
-use Rattle.reader.specs.Entries.{usageAt, numberAt, startAt, place}
+use Rattle.reader.specs.Entries.{place}
 use Rattle.reader.specs.Reading.{indexOf, readBy, readOf, noEntry, lookupOf}
 use Rattle.reader.specs.declared.Reading.{Reading}
 use Rattle.reader.specs.declared.Reading.the-variants.{Accepted, Refused}
 use Rattle.reader.proofs.AskLaws.{Good, accepted}
-use Rattle.listing.specs.Listing.{lineBy, linesOf, headLine, refusedLine, listingBy, listingOf, pickReading, inputReading, inputListing, roomBy, roomFor, inputRoom, listedIn, outBy}
+use Rattle.listing.specs.Listing.{lineBy, linesOf, listingBy, listingOf, inputReading, inputListing, roomBy, roomFor, inputRoom, listedIn, outBy}
 use Rattle.listing.specs.InPlace.{Wrote, lineAt}
 use Rattle.listing.specs.declared.Listed.{Listed}
 use Rattle.listing.specs.declared.Listed.the-variants.{Written, NoRoom}

@@ -1,10 +1,10 @@
 -- 01's sample files: what the lister prints of them, computed.
 use mathlib.Core.Path.{_≡_, refl}
-use Prim.Native.Nat.{ℕ, zero, suc, _+_, _*_, _/_, _%_, _<_}
+use Prim.Native.Nat.{ℕ, _+_}
 use mathlib.Core.List.{List, [], _∷_, _++_}
-use lib.ListN.{length, getD, take, drop, set, replicate}
+use lib.ListN.{set}
 use Rattle.blorb.specs.Bytes.{be32, rd32}
-use Rattle.blorb.specs.Format.{Ref, refOf, tag, Chunk, Entry, size, sized, total, chunkBytes, chunksBytes, fileBytes, chunkIn, chunksIn, chunksOf, entryIn, entriesIn, entryBytes, entriesBytes, indexChunk, entriesOf, isStart, placeOf}
+use Rattle.blorb.specs.Format.{refOf, tag, Chunk, size, sized, total, chunkBytes, chunksBytes, fileBytes, chunkIn, chunksIn, chunksOf, entryIn, entriesIn, entryBytes, entriesBytes, indexChunk, entriesOf, isStart, placeOf}
 use Rattle.blorb.specs.Verdict.{headFault, _then_, check, verdict, chunkFault, walkFault, secondIndex, indexFault, refFault, entriesFault, restFault, layoutFault, pairIn}
 use Rattle.blorb.specs.Rules.{plain, optional, plainVerdict, oneOf, picture, typeIn, single, chunkRule, chunkRules, Pict, Data, Rect}
 use Rattle.reader.specs.Reading.{readOf, indexOf, lookupOf, hitIn}

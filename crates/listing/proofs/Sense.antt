@@ -1,20 +1,18 @@
 -- What the listing's definitions come to: decimal numbers mean what they print, every listing fits its room, and longer input is refused.
-use mathlib.Core.Path.{_≡_, refl, sym, ap, _∙_}
+use mathlib.Core.Path.{_≡_, refl, _∙_}
 use Prim.Native.Nat.{ℕ, zero, suc, _+_, _*_, _-_, _/_, _%_, _^_, _≤_, _<_}
 use mathlib.Core.List.{List, [], _∷_, _++_}
 use mathlib.Core.Bool.{Bool, true, false}
 use native.Mathlib.Omega.{arith}
-use lib.ListN.{length, getD, drop, length-append, length-drop}
+use lib.ListN.{length, getD, length-append}
 use lib.Dec.{ltb, leb}
-use borrow.Author.Tests.{lt-ltb, le-ltb, ltb-true, ltb-false, lt-leb}
+use borrow.Author.Tests.{lt-ltb, ltb-false, lt-leb}
 use Rattle.reader.specs.Reading.{readOf}
 use Rattle.reader.specs.declared.Reading.{Reading}
 use Rattle.reader.specs.declared.Reading.the-variants.{Accepted, Refused}
 use Rattle.reader.proofs.AskLaws.{accepted}
 use Rattle.listing.specs.Text.{text, digit, lastDigit, digitsOf, decimal}
-use Rattle.listing.specs.Listing.{refusedLine, listingBy, pickReading, inputReading, inputListing, roomBy, inputRoom, pickListed, listedIn, outBy}
-use Rattle.listing.specs.declared.Listed.{Listed}
-use Rattle.listing.specs.declared.Listed.the-variants.{Written, NoRoom}
+use Rattle.listing.specs.Listing.{refusedLine, pickReading, inputReading, inputListing, roomBy, inputRoom}
 use Rattle.listing.proofs.TextLaws.{tenth}
 
 -- the number that digits print, behind the number that those before them do

@@ -1,6 +1,5 @@
 // The listing of a Blorb file: what the lister prints, written into a lent buffer.
 use reader::Reading;
-
 ghost use mathlib.Core.Path.{_≡_};
 ghost use Prim.Native.Nat.{_+_, _*_, _≤_};
 ghost use mathlib.Core.List.{_++_};
@@ -8,7 +7,7 @@ ghost use lib.ListN.{length, drop};
 ghost use Rattle.blorb.specs.Bytes.{be32, rd32};
 ghost use Rattle.reader.specs.Reading.{indexOf, readOf};
 ghost use Rattle.reader.specs.Entries.{startAt};
-ghost use Rattle.reader.specs.declared.Reading.the-variants.{Accepted, Refused};
+ghost use Rattle.reader.specs.declared.Reading.the-variants.{Accepted};
 ghost use Rattle.listing.specs.Text.{decimal};
 ghost use Rattle.listing.specs.Listing.{headLine, refusedLine, linesOf, listingBy, listingOf, inputListing, roomBy, roomFor, inputRoom, listedIn, outBy};
 ghost use Rattle.listing.specs.InPlace.{Wrote, fieldsAt, chunkText, lineAt};

@@ -1,10 +1,9 @@
 -- A buffer of 196,672 bytes has room for every listing.
-use mathlib.Core.Path.{_≡_, refl, sym, ap, _∙_}
-use Prim.Native.Nat.{ℕ, _+_, _-_, _≤_, _<_}
+use mathlib.Core.Path.{_≡_, sym, ap, _∙_}
+use Prim.Native.Nat.{ℕ, _+_, _-_, _≤_}
 use mathlib.Core.List.{List, _++_}
 use native.Mathlib.Omega.{arith}
-use lib.ListN.{length, drop, length-append, length-drop}
-use lib.Dec.{leb}
+use lib.ListN.{length, drop, length-append}
 use borrow.Author.Tests.{le-leb}
 use Rattle.listing.specs.Listing.{inputListing, inputRoom, listedIn, outBy}
 use Rattle.listing.specs.declared.Listed.{Listed}

@@ -1,7 +1,6 @@
 use native.Mathlib.Omega.{arith}
-use Prim.Native.Nat.{ℕ, _+_, _*_}
-use mathlib.Core.List.{List, _++_}
-use native.Mathlib.Omega.{arith}
+use Prim.Native.Nat.{_+_, _*_}
+use mathlib.Core.List.{_++_}
 use denote.Ref.{now}
 use Rattle.reader.specs.Reading.{indexOf}
 use Rattle.reader.proofs.AskLaws.{accepted}

@@ -1,5 +1,4 @@
 use native.Mathlib.Omega.{arith}
-use native.Mathlib.Omega.{arith}
 use denote.Ref.{now}
 use Rattle.listing.specs.Listing.{refusedLine}
 use Rattle.listing.proofs.TextLaws.{decimal-20}

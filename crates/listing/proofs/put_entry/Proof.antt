@@ -1,4 +1,3 @@
-use native.Mathlib.Omega.{arith}
 use denote.Ref.{now}
 use Rattle.listing.proofs.LineLaws.{entry-text}
 use borrow.Author.Needs.{needs}

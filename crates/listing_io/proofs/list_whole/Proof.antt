@@ -1,4 +1,3 @@
-use native.Mathlib.Omega.{arith}
 use denote.Ref.{now}
 use Rattle.listing_io.proofs.Laws.{room-enough, whole}
 use borrow.Author.Needs.{needs}
