@@ -14,9 +14,10 @@ use Rattle.blorb.specs.Format.{Entry, Chunk, Ref, refOf, entryIn, entriesIn}
 use Rattle.blorb.specs.Verdict.{accept, pairIn, refFault, entriesFault}
 use Rattle.blorb.specs.Rules.{plainRules}
 use Rattle.blorb.proofs.Checks.{then-accept, check-accept}
-use Rattle.reader.specs.Walk.{chunksFrom}
+use Rattle.reader.specs.Walk.{chunkAt, chunksFrom}
 use Rattle.reader.specs.Entries.{usageAt, numberAt, startAt, place, entriesFrom, earlier}
-use Rattle.reader.specs.Reading.{indexOf, hitIn, noEntry, lookupOf}
+use Rattle.reader.specs.Reading.{indexOf, readOf, hitIn, noEntry, lookupOf}
+use Rattle.reader.specs.declared.Reading.the-variants.{Accepted}
 use Rattle.reader.specs.declared.entries.Hit.the-variants.{At}
 use Rattle.reader.specs.declared.Looked.the-variants.{Found}
 use Rattle.reader.proofs.ChunkLaws.{fine}
@@ -89,3 +90,14 @@ module _ (f : List ℕ) (count : ℕ) (g : Good f count) (i : ℕ) (l : i < coun
 
   pub found-at : lookupOf f (usageAt f (place i)) (numberAt f (place i)) ≡ Found (rd32 (drop (startAt f (place i)) f)) (startAt f (place i) + 8) (rd32 (drop (startAt f (place i) + 4) f))
   found-at = sym (look-found f (usageAt f (place i)) (numberAt f (place i)) count g (startAt f (place i)) _ _ hit-at refl refl)
+
+-- so every line of an accepted file's listing is printed, with the type and the data length of the chunk at the entry's start
+pub entry-found : (f : List ℕ) (l count i : ℕ) → readOf f ≡ Accepted l count → i < count
+    → lookupOf f (getD (indexOf f) i noEntry .usage) (getD (indexOf f) i noEntry .number)
+    ≡ Found (chunkAt f (getD (indexOf f) i noEntry .start) .type) (getD (indexOf f) i noEntry .start + 8) (length (chunkAt f (getD (indexOf f) i noEntry .start) .body))
+unfolding lookupOf entriesFrom earlier
+entry-found f l count i e h =
+    let g = accepted f l count e in
+    let n : i < length (indexOf f) = rw (g .many) h in
+    let es : entriesFault plainRules (place count) (chunksFrom f (place count)) [] 24 (indexOf f) ≡ accept = rw (g .index) (g .judged .entries) in
+    rw (g .verdict, own-hit (place count) (chunksFrom f (place count)) (indexOf f) [] 24 i noEntry es n)

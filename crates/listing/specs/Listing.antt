@@ -28,7 +28,7 @@ unfoldable pub entryLine : ℕ → ℕ → ℕ → ℕ → ℕ → List ℕ
 entryLine usage number start type size =
     be32 usage ++ text " " ++ decimal number ++ text " at " ++ decimal start ++ text " " ++ be32 type ++ text " " ++ decimal size ++ text "\n"
 
--- an entry's line: type and length are what a lookup of its usage and number gives, and in an accepted file it finds every entry
+-- an entry's line: type and length are what a lookup of its usage and number gives. An accepted file's entries are all found (proofs/EntryLaws, entry-found).
 abbrev pub lineBy : Entry → Looked → List ℕ
 lineBy e (Found type start size) = entryLine (e .usage) (e .number) (e .start) type size
 lineBy e (Missing number place) = []
@@ -46,11 +46,11 @@ listingBy f (Refused number place) = refusedLine number place
 unfoldable pub listingOf : List ℕ → List ℕ
 listingOf f = listingBy f (readOf f)
 
--- "The lister reads standard input into 65,536 bytes; longer input prints as refusal 1 at 0."
 abbrev pub pickReading : Bool → Reading → Reading → Reading
 pickReading true a b = a
 pickReading false a b = b
 
+-- "The lister reads standard input into 65,536 bytes; longer input prints as refusal 1 at 0."
 unfoldable pub inputReading : List ℕ → Reading
 inputReading f = pickReading (leb (length f) 65536) (readOf f) (Refused 1 0)
 

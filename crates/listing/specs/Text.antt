@@ -25,6 +25,6 @@ abbrev pub digitsOf : ℕ → ℕ → List ℕ
 digitsOf zero n = []
 digitsOf (suc k) n = lastDigit (ltb n 10) n (λ m. digitsOf k m)
 
--- n in decimal, without leading zeros; 20 digits are enough below 2 ^ 64
+-- n in decimal, without leading zeros; 20 digits are enough below 2 ^ 64 (proofs/Sense, decimal-value and decimal-first)
 unfoldable pub decimal : ℕ → List ℕ
 decimal n = digitsOf 20 n

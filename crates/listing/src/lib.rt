@@ -12,14 +12,13 @@ ghost use Rattle.listing.specs.Text.{decimal};
 ghost use Rattle.listing.specs.Listing.{headLine, refusedLine, linesOf, listingBy, listingOf, inputListing, roomBy, roomFor, inputRoom, listedIn, outBy};
 ghost use Rattle.listing.specs.InPlace.{Wrote, fieldsAt, chunkText, lineAt};
 
-// How many bytes of the buffer the listing takes up; nothing is written where the buffer has less than the listing's room.
+// How many bytes the listing takes up in the buffer. One with less than the listing's room stays as it is.
 pub enum Listed {
     Written(usize),
     NoRoom,
 }
 
-// Each function below writes a piece of text from `at` on and gives back where it ends.
-
+// Each `put_` function writes a piece of text into `out` from `at` on and gives back where it ends.
 fn put_text(out: &mut [u8], at: usize, text: &[u8]) -> usize
     requires { ⌜ at + length (now text) ≤ length (now out) ⌝ }
     ensures { λ r. ⌜ Wrote (now (out .entry)) at (now (text .entry)) r (now (out .exit)) ⌝ }
@@ -32,6 +31,7 @@ fn put_text(out: &mut [u8], at: usize, text: &[u8]) -> usize
     at + i
 }
 
+// The number's digits, the last of them last.
 fn put_decimal(out: &mut [u8], at: usize, n: u64) -> usize
     requires { ⌜ at + length (decimal n) ≤ length (now out) ⌝ }
     ensures { λ r. ⌜ Wrote (now (out .entry)) at (decimal n) r (now (out .exit)) ⌝ }
@@ -111,6 +111,7 @@ fn put_entries(out: &mut [u8], at: usize, file: &[u8], count: usize) -> usize
     to
 }
 
+// The first line of an accepted file's listing, at the buffer's beginning: `blorb 48 bytes 1 resources`.
 fn put_head(out: &mut [u8], size: usize, count: usize) -> usize
     requires { ⌜ 64 ≤ length (now out) ⌝ }
     ensures { λ r. ⌜ Wrote (now (out .entry)) 0 (headLine size count) r (now (out .exit)) × (r ≤ 64) ⌝ }
@@ -120,6 +121,7 @@ fn put_head(out: &mut [u8], size: usize, count: usize) -> usize
     put_text(out, to2, b" resources\n")
 }
 
+// The first line takes at most 64 bytes and an entry's line at most 48.
 fn list_accepted(file: &[u8], size: usize, count: usize, out: &mut [u8]) -> Listed
     requires { ⌜ readOf (now file) ≡ Accepted size count ⌝ }
     ensures { λ r. ⌜ (r ≡ listedIn (length (now (out .entry))) (roomBy (Accepted size count)) (listingBy (now (file .entry)) (Accepted size count))) × (now (out .exit) ≡ outBy r (listingBy (now (file .entry)) (Accepted size count)) (now (out .entry))) ⌝ }
@@ -131,6 +133,7 @@ fn list_accepted(file: &[u8], size: usize, count: usize, out: &mut [u8]) -> List
     Listed::Written(put_entries(out, to, file, count))
 }
 
+// The one line `refused 7 at 47`.
 fn list_refused(number: u64, place: usize, out: &mut [u8]) -> Listed
     ensures { λ r. ⌜ (r ≡ listedIn (length (now (out .entry))) 64 (refusedLine number place)) × (now (out .exit) ≡ outBy r (refusedLine number place) (now (out .entry))) ⌝ }
 {
@@ -142,7 +145,7 @@ fn list_refused(number: u64, place: usize, out: &mut [u8]) -> Listed
     Listed::Written(put_text(out, to2, b"\n"))
 }
 
-// The listing of the file.
+// The listing of a file. It is validated once; entries and chunk headers are then read where they stand.
 pub fn list(file: &[u8], out: &mut [u8]) -> Listed
     ensures { λ r. ⌜ (r ≡ listedIn (length (now (out .entry))) (roomFor (now (file .entry))) (listingOf (now (file .entry)))) × (now (out .exit) ≡ outBy r (listingOf (now (file .entry))) (now (out .entry))) ⌝ }
 {

@@ -8,7 +8,7 @@ ghost use mathlib.Core.List.{_++_};
 ghost use lib.ListN.{length, drop};
 ghost use Rattle.listing.specs.Listing.{inputListing};
 
-// The whole listing: 196,672 bytes are room for one of 4,096 entries.
+// The whole listing: 196,672 bytes are room for one of 4,096 entries, so that the other branch is never taken.
 fn list_whole(file: &[u8], out: &mut [u8]) -> usize
     requires { ⌜ 196672 ≤ length (now out) ⌝ }
     ensures { λ r. ⌜ (r ≡ length (inputListing (now (file .entry)))) × (now (out .exit) ≡ inputListing (now (file .entry)) ++ drop r (now (out .entry))) × (r ≤ length (now (out .exit))) ⌝ }
@@ -20,6 +20,7 @@ fn list_whole(file: &[u8], out: &mut [u8]) -> usize
 }
 
 // Prints the listing of what stands on standard input. One byte more than the limit shows longer input.
+// No contract can say what is read and written; list_whole's says what the bytes are.
 pub fn list_stdin() {
     let mut file = [0u8; 65537];
     let mut out = [0u8; 196672];

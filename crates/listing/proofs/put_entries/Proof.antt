@@ -22,33 +22,33 @@ Inv-loop out₀ at file count to₀ i₀ out to i = (i ≤ count) × (length out
 abbrev μ-loop : tie.MeasureT-loop
 μ-loop out₀ at file count to₀ i₀ out to i = count - i
 
--- src/lib.rt:108:5
+-- src/lib.rt:107:5
 loop-holds : tie.Need-loop-holds Inv-loop μ-loop
 loop-holds c = let a = c .before .before .args in (omega arith, refl, omega arith, lines-none (now (a .file)) (now (a .out)) (a .at))
 
--- src/lib.rt:109:44
+-- src/lib.rt:108:44
 mul-put-entry : tie.Need-mul-put-entry Inv-loop μ-loop
 mul-put-entry c = let g = accepted (now (c .before .before .before .before .before .args .file)) _ _ (c .before .before .before .before .before .pre .0) in omega (arith, g .judged .few)
 
--- src/lib.rt:109:39
+-- src/lib.rt:108:39
 add-put-entry : tie.Need-add-put-entry Inv-loop μ-loop
 add-put-entry c = let g = accepted (now (c .before .before .before .before .before .args .file)) _ _ (c .before .before .before .before .before .pre .0) in omega (arith, g .judged .few)
 
--- src/lib.rt:109:9
+-- src/lib.rt:108:9
 put-entry-requires : tie.Need-put-entry-requires Inv-loop μ-loop
 put-entry-requires c κs = let f = now (c .before .before .before .before .before .args .file) in
     let g = accepted f _ _ (c .before .before .before .before .before .pre .0) in
     (omega (arith, g .judged .room), chunk-in f _ g (c .before .before .loop .i) (c .before .loop-test .taken), omega (arith, c .before .before .before .before .before .pre .1))
 
--- src/lib.rt:110:9
+-- src/lib.rt:109:9
 add-i : tie.Need-add-i Inv-loop μ-loop
 add-i c = search needs
 
--- src/lib.rt:108:5
+-- src/lib.rt:107:5
 loop-less : tie.Need-loop-less Inv-loop μ-loop
 loop-less c = search needs
 
--- src/lib.rt:108:5
+-- src/lib.rt:107:5
 loop-again : tie.Need-loop-again Inv-loop μ-loop
 loop-again c = let f = now (c .before .before .before .before .before .before .before .before .args .file) in
     let l = c .before .before .before .before .before .loop in
@@ -59,11 +59,11 @@ loop-again c = let f = now (c .before .before .before .before .before .before .b
       lines-turn f _ g (now (c .before .before .before .before .before .before .before .before .args .out)) _ _ (c .before .before .before .before .before .before .before .before .args .at) (l .i) _ _ (c .before .before .before .before .loop-test .taken) (l .inv .3) (c .before .before .put-entry .ensures .0),
     )
 
--- src/lib.rt:102:1
+-- src/lib.rt:101:1
 same-length : tie.Need-same-length Inv-loop μ-loop
 same-length c = search needs
 
--- src/lib.rt:102:1
+-- src/lib.rt:101:1
 returns : tie.Need-returns Inv-loop μ-loop
 returns c = let f = now (c .before .before .before .before .args .file) in
     let l = c .before .loop in
