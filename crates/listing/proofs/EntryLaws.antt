@@ -20,28 +20,14 @@ use Rattle.reader.specs.Reading.{indexOf, readOf, hitIn, noEntry, lookupOf}
 use Rattle.reader.specs.declared.Reading.the-variants.{Accepted}
 use Rattle.reader.specs.declared.entries.Hit.the-variants.{At}
 use Rattle.reader.specs.declared.Looked.the-variants.{Found}
-use Rattle.reader.proofs.ChunkLaws.{fine}
+use Rattle.reader.proofs.ChunkLaws.{neither, fine}
 use Rattle.reader.proofs.EntryLaws.{pair-snoc}
-use Rattle.reader.proofs.Laws.{hit-begun}
+use Rattle.reader.proofs.Laws.{entry-getD, hit-begun}
 use Rattle.reader.proofs.AskLaws.{Good, accepted, look-found}
-
--- entry i of the index
-entry-at : (f : List ℕ) (n i p : ℕ) (d : Entry) → i < n → getD (entriesIn n (drop p f)) i d ≡ entryIn (drop (p + 12 * i) f)
-unfolding entriesIn
-entry-at f zero i p d h = absurd (not-suc-le-zero h)
-entry-at f (suc n) zero p d h = let q : p ≡ p + 12 * 0 = omega arith in ap (λ (k : ℕ). entryIn (drop k f)) q
-entry-at f (suc n) (suc i) p d h =
-    let q : p + 12 + 12 * i ≡ p + 12 * suc i = omega arith in
-    ap (λ (s : List ℕ). getD (entriesIn n s) i d) (drop-drop 12 p f) ∙ entry-at f n i (p + 12) d (le-of-suc-le-suc h) ∙ ap (λ (k : ℕ). entryIn (drop k f)) q
 
 fields : (f : List ℕ) (p : ℕ) → entryIn (drop p f) ≡ record { usage = usageAt f p; number = numberAt f p; start = startAt f p }
 unfolding entryIn
 fields f p = λ i. record { usage = usageAt f p; number = rd32 (drop-drop 4 p f i); start = rd32 (drop-drop 8 p f i) }
-
--- no pair twice: an entry's pair is none of the earlier ones
-neither : (a b : Bool) → a || b ≡ false → (a ≡ false) × (b ≡ false)
-neither true b e = let z : _≡_ {A = ℕ} 0 1 = cc in absurd (omega arith)
-neither false b e = (refl, e)
 
 module _ (base : ℕ) (cs : List Chunk) where
   fresh : (es : List Entry) (before : List Ref) (p i : ℕ) (d : Entry) → entriesFault plainRules base cs before p es ≡ accept → i < length es
@@ -75,14 +61,14 @@ module _ (base : ℕ) (cs : List Chunk) where
 -- a file with count entries that the reader accepts
 module _ (f : List ℕ) (count : ℕ) (g : Good f count) (i : ℕ) (l : i < count) where
   pub listed-at : getD (indexOf f) i noEntry ≡ record { usage = usageAt f (place i); number = numberAt f (place i); start = startAt f (place i) }
-  listed-at = rw (g .index) (entry-at f count i 24 noEntry l) ∙ fields f (place i)
+  listed-at = rw (g .index) (entry-getD f count i 24 noEntry l) ∙ fields f (place i)
 
   hit-at : hitIn (usageAt f (place i)) (numberAt f (place i)) (entriesIn count (drop 24 f)) ≡ At (startAt f (place i))
   unfolding entriesFrom earlier
   hit-at =
       let es : List Entry = entriesIn count (drop 24 f) in
       let n : i < length es = rw (← (g .index), g .many) l in
-      let e : getD es i noEntry ≡ record { usage = usageAt f (place i); number = numberAt f (place i); start = startAt f (place i) } = entry-at f count i 24 noEntry l ∙ fields f (place i) in
+      let e : getD es i noEntry ≡ record { usage = usageAt f (place i); number = numberAt f (place i); start = startAt f (place i) } = entry-getD f count i 24 noEntry l ∙ fields f (place i) in
       rw e at (own-hit (place count) (chunksFrom f (place count)) es [] 24 i noEntry (g .passed .judged .entries) n)
 
   pub chunk-in : startAt f (place i) + 8 ≤ length f
