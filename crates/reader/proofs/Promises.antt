@@ -5,9 +5,11 @@ use mathlib.Core.List.{List, [], map}
 use mathlib.Core.Bool.{false}
 use native.Mathlib.Omega.{arith}
 use lib.ListN.{length, getD, drop}
+use borrow.Author.Tests.{lt-leb}
 use Rattle.blorb.specs.Bytes.{rd32}
 use Rattle.blorb.specs.Format.{Chunk, entriesIn}
-use Rattle.blorb.specs.Verdict.{accept, refuse, entriesFault, pairIn}
+use Rattle.blorb.specs.Verdict.{accept, refuse, headFault, verdict, entriesFault, pairIn}
+use Rattle.blorb.proofs.Checks.{stop, refuses}
 use Rattle.blorb.specs.Rules.{plainRules, plainVerdict}
 use Rattle.blorb.specs.Model as M
 use Rattle.blorb.specs.Model.{base, file, model}
@@ -63,6 +65,11 @@ accepted-when f h =
 -- the reader refuses exactly as the verdict does
 pub refused-is : (f : List ℕ) (k p : ℕ) → (readOf f ≡ Refused k p → plainVerdict f ≡ refuse k p) × (plainVerdict f ≡ refuse k p → readOf f ≡ Refused k p)
 refused-is f k p = (λ e. refused-as f k p e, λ e. sym (refused f k p e))
+
+-- a file over the limit is refused with 1 at 0, whatever it holds
+pub too-long : (f : List ℕ) → 16777216 < length f → readOf f ≡ Refused 1 0
+unfolding plainVerdict verdict headFault
+too-long f h = refused-is f 1 0 .1 (refuses _ _ _ _ (stop _ _ _ _ (lt-leb _ _ h)))
 
 -- the index's entries are the model's
 pub index-is : (f : List ℕ) → plainVerdict f ≡ accept → indexOf f ≡ entries (model f)
