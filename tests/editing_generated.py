@@ -5,17 +5,18 @@ the file as it is then, so that many calls succeed; the answers are not chosen h
 """
 import editing_reference
 import reference
-from building import Dice, be, blorb, grow, put, put32, starts
-from editing_by_hand import FIRST, FRONT, HELD, LAST, MIXED, SAME, SHARED, THREE, TURNED
+from building import Dice, be, blorb, grow, put, put32
+from editing_by_hand import FIRST, FRONT, LAST, MIXED, SAME, SHARED, THREE, TURNED
 from editing_run import Scenario, lent
 from reading_by_hand import B, BLANK, JPEG, PICT, WHOLE
 from reading_generated import RESOURCES, USAGES, body_for, right_file, spoil
+from undo_by_hand import HELD
 
 KINDS = {usage: [kind for u, kind in RESOURCES if u == usage] for usage in USAGES}
 FILES = [BLANK, B, MIXED, SHARED, TURNED, WHOLE, FIRST, LAST, FRONT, HELD, SAME, THREE]
 WRONG = [b"RIdx", b"RelN", b"Fspc", b"ANNO", b"TEXT", b"Rect", bytes(4)]
-MOODS = [("add", "add", "add", "replace"), ("replace", "replace", "remove"), ("remove", "remove", "undo"), ("undo",), ("undo",),
-         ("add", "replace", "remove", "undo"), ("add", "undo"), ("add", "replace", "replace", "remove")]
+MOODS = [("add", "add", "add", "replace"), ("replace", "replace", "remove"), ("remove", "remove", "undo"), ("undo",),
+         ("undo",), ("add", "replace", "remove", "undo"), ("add", "undo"), ("add", "replace", "replace", "remove")]
 
 
 # ---- calls
@@ -38,7 +39,8 @@ def new_pair(d, file):
     """A pair that isn't in the file, mostly."""
     taken = {e[:2] for e in reference.parse(file)[1]}
     usage = d.one_of(USAGES)
-    pair = usage, 0 if usage == b"Exec" and d.below(8) else d.one_of([d.below(4), d.below(12), d.below(256), 2 ** 32 - 1 - d.below(3)])
+    number = d.one_of([d.below(4), d.below(12), d.below(256), 2 ** 32 - 1 - d.below(3)])
+    pair = usage, 0 if usage == b"Exec" and d.below(8) else number
     if pair in taken and d.below(6):
         return new_pair(d, file)
     return pair if d.below(30) else (b"exec", pair[1])
@@ -59,13 +61,16 @@ def a_call(d, file, what):
 
 # ---- long runs
 
-def a_file(d):
-    """A file to start from: one of those by hand, or a generated one."""
-    while d.below(3) == 0:
+def accepted_file(d):
+    while True:
         s = blorb(*right_file(d))
         if reference.read(s)[0] == "accepted":
             return s
-    return d.one_of(FILES)
+
+
+def a_file(d):
+    """A file to start from: one of those by hand, or a generated one."""
+    return d.one_of(FILES) if d.below(3) else accepted_file(d)
 
 
 def steps_of(d, buf, L, jrn, count):
@@ -166,26 +171,22 @@ def a_record(d, chunks, entries, L):
 
 def single(d, name):
     """One call. Its file, its journal, its L and U, or the room in its buffers may be wrong."""
-    entries, chunks = right_file(d)
-    file = blorb(entries, chunks)
-    while reference.read(file)[0] != "accepted":
-        entries, chunks = right_file(d)
-        file = blorb(entries, chunks)
-    U = d.below(20)
-    jrn = lent(d.bytes(U), 200)
-    buf, L, jrn, U = with_records(d, lent(file, len(file) + 100), len(file), jrn, U)
+    file, U = accepted_file(d), d.below(20)
+    buf, L, jrn, U = with_records(d, lent(file, len(file) + 100), len(file), lent(d.bytes(U), 200), U)
     call = a_call(d, buf[:L], d.one_of(["add", "replace", "remove", "undo", "undo", "undo"]))
     if call == ("undo",) and U >= 29 and d.below(4):
         jrn = spoiled_record(d, buf[:L], jrn, U)
     if d.below(10) == 0:
-        s = spoil(d, buf[:L], len(entries), starts(len(entries), chunks))
+        chunks, entries = reference.parse(buf[:L])
+        s = spoil(d, buf[:L], len(entries), [c.start for c in chunks[1:]] + [L])
         buf = s + buf[len(s):]
     if d.below(3) == 0:
         buf = buf[:L + d.below(30)]
     if d.below(4) == 0:
         jrn = jrn[:U + d.below(40)]
     if d.below(20) == 0:
-        L, U = d.one_of([(len(buf) + 1, U), (L, len(jrn) + 1), (L - d.below(3), U), (L, max(0, U - 1 - d.below(30))), (L, 0)])
+        L, U = d.one_of([(len(buf) + 1, U), (L, len(jrn) + 1), (L - d.below(3), U), (L, max(0, U - 1 - d.below(30))),
+                         (L, 0)])
     return Scenario(name, buf, jrn, L, U, False, (call,))
 
 

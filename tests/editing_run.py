@@ -4,10 +4,10 @@ A scenario is two buffers with their bytes, the L and U at first, and steps. A s
 ("blank",), ("add", usage, number, kind, body), ("replace", the same), ("remove", usage, number), ("undo",), or
 ("given", L, U): the next call is given these instead of the last answer's.
 
-Packed: eight numbers of four bytes (the lengths of the name, the buffer, the journal, how many bytes of each of the two
-are packed, L, U, how many bytes the steps have), a byte that says whether the buffers are shown at the end, the name, the
-packed bytes of the buffer and of the journal, the steps. Behind its packed bytes a buffer is filled (see fill). A step:
-a byte that says which it is, 16 bytes (usage, number, type, length of the data; or L and U in eight bytes each), the data.
+Packed: nine numbers of four bytes (the lengths of the name, the buffer, the journal, how many bytes of each of the two are
+packed, L, U, how many bytes the steps have, 1 if the buffers are shown at the end), the name, the packed bytes of the
+buffer and of the journal, the steps. Behind its packed bytes a buffer is filled (see fill). A step: a byte that says which
+it is, 16 bytes (usage, number, type, length of the data; or L and U in eight bytes each), the data.
 """
 from collections import namedtuple
 from functools import lru_cache
@@ -101,8 +101,8 @@ def packed_step(step):
 def packed(x):
     steps = b"".join(packed_step(s) for s in x.steps)
     buf, jrn = packed_part(x.buf), packed_part(x.jrn)
-    sizes = [len(x.name), len(x.buf), len(x.jrn), len(buf), len(jrn), x.len, x.used, len(steps)]
-    return b"".join([*map(be, sizes), bytes([x.shown]), x.name.encode(), buf, jrn, steps])
+    sizes = [len(x.name), len(x.buf), len(x.jrn), len(buf), len(jrn), x.len, x.used, len(steps), int(x.shown)]
+    return b"".join([*map(be, sizes), x.name.encode(), buf, jrn, steps])
 
 
 # ---- telling

@@ -8,17 +8,17 @@ The program of that crate reads the packed scenarios (see editing_run.py) and pr
 of both whole buffers after every call; `rt check` holds what it prints to the file stdout.
 
 How the expectations are computed: by editing_reference.py, an editor in Python written from 01 alone. The answers to every
-scenario of editing_by_hand.py are stated there by hand as well, and every scenario that is a run as under 01's 'Whole runs'
-is held to editing_ledger.py, which is told neither answers nor buffers: this script stops where they say another. Nothing
-comes from the library: neither its code nor anything it prints is read here.
+scenario of editing_by_hand.py and undo_by_hand.py are stated there by hand as well, and every scenario that is a run as
+under 01's 'Whole runs' is held to editing_ledger.py, which is told neither answers nor buffers: this script stops where
+they say another. Nothing comes from the library: neither its code nor anything it prints is read here.
 """
 import pathlib
 import sys
 from collections import Counter
 
-from editing_by_hand import SCENARIOS
 from editing_generated import run_of_many, runs, singles
 from editing_run import ROOM, held_to_ledger, is_run, lines, packed, results
+from undo_by_hand import SCENARIOS
 
 CRATE = pathlib.Path(__file__).resolve().parent.parent / "crates" / "editing_samples"
 RUNS, SINGLES, SEED = 48, 500, 1
@@ -73,7 +73,7 @@ def main():
         elif (CRATE / name).read_bytes() != content:
             sys.exit(f"{CRATE / name} is not what this script makes")
     calls = sum(step[0] != "given" for x in scenarios for step in x.steps)
-    print(f"{len(scenarios)} scenarios ({len(SCENARIOS)} by hand, {SINGLES} single calls, {RUNS + 1} long runs), {calls} calls")
+    print(f"{len(SCENARIOS)} scenarios by hand, {SINGLES} single calls, {RUNS + 1} long runs; {calls} calls in all")
     print(f"{sum(map(is_run, scenarios))} held to the ledger; {len(stdin)} bytes in, {len(stdout)} out")
     print("by number (0: done)")
     tally(scenarios)

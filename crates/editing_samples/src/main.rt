@@ -1,9 +1,9 @@
 // Runs the editor on the scenarios that stand packed on standard input, and says what it answers.
 //
-// A packed scenario: eight numbers of four bytes (the lengths of its name, of the file buffer, of the journal, how many
-// bytes of each of the two are packed, L, U, how many bytes its steps have), a byte that says whether both buffers are
-// shown at the end, the name, the packed bytes of the file buffer and of the journal, the steps. Behind its packed bytes a
-// buffer is filled with others, so that every byte that a call shouldn't touch is seen.
+// A packed scenario: nine numbers of four bytes (the lengths of its name, of the file buffer, of the journal, how many
+// bytes of each of the two are packed, L, U, how many bytes its steps have, 1 if both buffers are shown at the end), the
+// name, the packed bytes of the file buffer and of the journal, the steps. Behind its packed bytes a buffer is filled with
+// others, so that every byte that a call shouldn't touch is seen.
 //
 // A step: a byte that says which it is, 16 bytes (usage, number, type, length of the data; or L and U), the data. Steps 0
 // to 4 are blank, add, replace, remove, undo, each given the L and U of the last answer; step 5 gives the next one others.
@@ -13,7 +13,7 @@ use editor::Outcome;
 use libc::STDIN_FILENO;
 use libc::STDOUT_FILENO;
 ghost use mathlib.Core.Path.{_≡_};
-ghost use Prim.Native.Nat.{_+_, _<_, _≤_};
+ghost use Prim.Native.Nat.{_+_, _<_, _≤_, _^_};
 ghost use lib.ListN.{length};
 
 fn input() -> [u8; 1048576]
@@ -42,6 +42,19 @@ fn wide(x: u8) -> u64
     x as u64
 }
 
+// The number at `at`, or 0 where its four bytes aren't there.
+fn field(s: &[u8], at: usize) -> usize
+    ensures { λ r. ⌜ r < 2 ^ 32 ⌝ }
+{
+    if s.len() < 4 {
+        return 0;
+    }
+    if s.len() - 4 < at {
+        return 0;
+    }
+    blorb::be32_at(s, at) as usize
+}
+
 fn digit(x: u64) -> u8 {
     let d = x % 16;
     (48 + d / 10 * 49 + d % 10) as u8
@@ -55,6 +68,14 @@ fn hex(s: &[u8]) {
     text(b"\n");
 }
 
+// Both whole buffers.
+fn show(file: &[u8], jrn: &[u8]) {
+    text(b" buffer ");
+    hex(file);
+    text(b" journal ");
+    hex(jrn);
+}
+
 // A sum of the bytes that knows their order.
 fn checksum(s: &[u8]) -> u64 {
     let mut sum = 0;
@@ -64,9 +85,21 @@ fn checksum(s: &[u8]) -> u64 {
     sum
 }
 
+fn sums(file: &[u8], jrn: &[u8]) {
+    text(b" sums ");
+    number(checksum(file));
+    text(b" ");
+    number(checksum(jrn));
+    text(b"\n");
+}
+
 // Behind its packed bytes s a buffer has bytes that are not zero and differ from place to place.
 fn byte(s: &[u8], i: usize) -> u8 {
-    if i < s.len() { s[i] } else { (i % 251 + 1) as u8 }
+    if i < s.len() {
+        s[i]
+    } else {
+        (i % 251 + 1) as u8
+    }
 }
 
 fn fill(buf: &mut [u8], s: &[u8]) {
@@ -80,6 +113,15 @@ fn lengths(len: usize, used: usize) {
     number(len as u64);
     text(b" U ");
     number(used as u64);
+}
+
+fn heading(room: usize, journal: usize, len: usize, used: usize) {
+    text(b": buffer ");
+    number(room as u64);
+    text(b" journal ");
+    number(journal as u64);
+    lengths(len, used);
+    text(b"\n");
 }
 
 fn told(a: Answer) {
@@ -100,13 +142,11 @@ fn told(a: Answer) {
 fn given(s: &[u8], at: usize) -> Answer
     requires { ⌜ at + 17 ≤ length (now s) ⌝ }
 {
-    let len = blorb::be32_at(s, at + 1) * 4294967296 + blorb::be32_at(s, at + 5);
-    let used = blorb::be32_at(s, at + 9) * 4294967296 + blorb::be32_at(s, at + 13);
     text(b" given ");
     Answer {
         outcome: Outcome::Done,
-        len: len as usize,
-        used: used as usize,
+        len: field(s, at + 1) * 4294967296 + field(s, at + 5),
+        used: field(s, at + 9) * 4294967296 + field(s, at + 13),
     }
 }
 
@@ -116,27 +156,61 @@ fn four(s: &[u8], at: usize) -> [u8; 4]
     [s[at], s[at + 1], s[at + 2], s[at + 3]]
 }
 
-fn add(s: &[u8], at: usize, d: &[u8], file: &mut [u8], jrn: &mut [u8], len: usize, used: usize) -> Answer
+fn add(
+    s: &[u8],
+    at: usize,
+    d: &[u8],
+    file: &mut [u8],
+    jrn: &mut [u8],
+    len: usize,
+    used: usize,
+) -> Answer
     requires { ⌜ at + 17 ≤ length (now s) ⌝ }
 {
     text(b" add ");
-    let number = blorb::be32_at(s, at + 5) as u32;
-    editor::add(file, len, jrn, used, four(s, at + 1), number, four(s, at + 9), d)
+    let number = field(s, at + 5) as u32;
+    editor::add(
+        file,
+        len,
+        jrn,
+        used,
+        four(s, at + 1),
+        number,
+        four(s, at + 9),
+        d,
+    )
 }
 
-fn replace(s: &[u8], at: usize, d: &[u8], file: &mut [u8], jrn: &mut [u8], len: usize, used: usize) -> Answer
+fn replace(
+    s: &[u8],
+    at: usize,
+    d: &[u8],
+    file: &mut [u8],
+    jrn: &mut [u8],
+    len: usize,
+    used: usize,
+) -> Answer
     requires { ⌜ at + 17 ≤ length (now s) ⌝ }
 {
     text(b" replace ");
-    let number = blorb::be32_at(s, at + 5) as u32;
-    editor::replace(file, len, jrn, used, four(s, at + 1), number, four(s, at + 9), d)
+    let number = field(s, at + 5) as u32;
+    editor::replace(
+        file,
+        len,
+        jrn,
+        used,
+        four(s, at + 1),
+        number,
+        four(s, at + 9),
+        d,
+    )
 }
 
 fn remove(s: &[u8], at: usize, file: &mut [u8], jrn: &mut [u8], len: usize, used: usize) -> Answer
     requires { ⌜ at + 17 ≤ length (now s) ⌝ }
 {
     text(b" remove ");
-    let number = blorb::be32_at(s, at + 5) as u32;
+    let number = field(s, at + 5) as u32;
     editor::remove(file, len, jrn, used, four(s, at + 1), number)
 }
 
@@ -151,7 +225,15 @@ fn blank(file: &mut [u8]) -> Answer {
 }
 
 // The call of the step at `at`, with the data d.
-fn call(s: &[u8], at: usize, d: &[u8], file: &mut [u8], jrn: &mut [u8], len: usize, used: usize) -> Answer
+fn call(
+    s: &[u8],
+    at: usize,
+    d: &[u8],
+    file: &mut [u8],
+    jrn: &mut [u8],
+    len: usize,
+    used: usize,
+) -> Answer
     requires { ⌜ at + 17 ≤ length (now s) ⌝ }
 {
     match s[at] {
@@ -165,7 +247,7 @@ fn call(s: &[u8], at: usize, d: &[u8], file: &mut [u8], jrn: &mut [u8], len: usi
 }
 
 // How many bytes of data a step has: the one that gives L and U has none.
-fn size(kind: u8, n: u64) -> u64
+fn size(kind: u8, n: usize) -> usize
     ensures { λ r. ⌜ r ≤ n ⌝ }
 {
     if kind == 5 { 0 } else { n }
@@ -187,17 +269,13 @@ fn step(s: &[u8], at: usize, file: &mut [u8], jrn: &mut [u8], len: usize, used: 
         return Next { at: 0, len, used };
     }
     let from = at + 17;
-    let end = from + size(s[at], blorb::be32_at(s, at + 13)) as usize;
+    let end = from + size(s[at], field(s, at + 13));
     if s.len() < end {
         return Next { at: 0, len, used };
     }
     let a = call(s, at, &s[from..end], file, jrn, len, used);
     told(a);
-    text(b" sums ");
-    number(checksum(file));
-    text(b" ");
-    number(checksum(jrn));
-    text(b"\n");
+    sums(file, jrn);
     Next {
         at: end,
         len: a.len,
@@ -223,49 +301,52 @@ fn steps(s: &[u8], file: &mut [u8], jrn: &mut [u8], first_len: usize, first_used
 
 // The steps of a scenario, and at the end both buffers if they are to be shown.
 fn play(s: &[u8], file: &mut [u8], jrn: &mut [u8], len: usize, used: usize, shown: bool) {
-    text(b": buffer ");
-    number(file.len() as u64);
-    text(b" journal ");
-    number(jrn.len() as u64);
-    lengths(len, used);
-    text(b"\n");
+    heading(file.len(), jrn.len(), len, used);
     steps(s, file, jrn, len, used);
     if shown {
-        text(b" buffer ");
-        hex(file);
-        text(b" journal ");
-        hex(jrn);
+        show(file, jrn);
     }
 }
 
-// The scenario at `at`, in buffers of its own lengths. The packed bytes of its two buffers and its steps stand at these places.
-fn set(s: &[u8], at: usize, bytes: usize, records: usize, rest: usize, end: usize, file: &mut [u8], jrn: &mut [u8])
-    requires { ⌜ (at + 33 ≤ bytes) × ((bytes ≤ records) × ((records ≤ rest) × ((rest ≤ end) × (end ≤ length (now s))))) ⌝ }
+// The scenario at `at`, in buffers of its own lengths: the packed bytes of the file buffer stand at `bytes`, those of the
+// journal at `records`, the steps from `rest` to `end`.
+fn stage(
+    s: &[u8],
+    at: usize,
+    bytes: usize,
+    records: usize,
+    rest: usize,
+    end: usize,
+    file: &mut [u8],
+    jrn: &mut [u8],
+)
+    requires { ⌜ (at + 36 ≤ bytes) × ((bytes ≤ records) × ((records ≤ rest) × ((rest ≤ end) × (end ≤ length (now s))))) ⌝ }
 {
-    let name = at + 33;
-    let len = blorb::be32_at(s, at + 20) as usize;
-    let used = blorb::be32_at(s, at + 24) as usize;
-    let shown = s[at + 32] == 1;
+    let name = at + 36;
     text(&s[name..bytes]);
     fill(file, &s[bytes..records]);
     fill(jrn, &s[records..rest]);
-    play(&s[rest..end], file, jrn, len, used, shown);
+    play(
+        &s[rest..end],
+        file,
+        jrn,
+        field(s, at + 20),
+        field(s, at + 24),
+        field(s, at + 32) == 1,
+    );
 }
 
 // The scenario at `at`. Answers where the next one stands, or 0 where the packing is bad.
 fn scenario(s: &[u8], at: usize, file: &mut [u8], jrn: &mut [u8]) -> usize {
-    if s.len() < 33 {
+    if s.len() < at {
         return 0;
     }
-    if s.len() - 33 < at {
-        return 0;
-    }
-    let lent = blorb::be32_at(s, at + 4) as usize;
-    let journal = blorb::be32_at(s, at + 8) as usize;
-    let bytes = at + 33 + blorb::be32_at(s, at) as usize;
-    let records = bytes + blorb::be32_at(s, at + 12) as usize;
-    let rest = records + blorb::be32_at(s, at + 16) as usize;
-    let end = rest + blorb::be32_at(s, at + 28) as usize;
+    let lent = field(s, at + 4);
+    let journal = field(s, at + 8);
+    let bytes = at + 36 + field(s, at);
+    let records = bytes + field(s, at + 12);
+    let rest = records + field(s, at + 16);
+    let end = rest + field(s, at + 28);
     if s.len() < end {
         return 0;
     }
@@ -275,7 +356,16 @@ fn scenario(s: &[u8], at: usize, file: &mut [u8], jrn: &mut [u8]) -> usize {
     if jrn.len() < journal {
         return 0;
     }
-    set(s, at, bytes, records, rest, end, &mut file[0..lent], &mut jrn[0..journal]);
+    stage(
+        s,
+        at,
+        bytes,
+        records,
+        rest,
+        end,
+        &mut file[0..lent],
+        &mut jrn[0..journal],
+    );
     end
 }
 
