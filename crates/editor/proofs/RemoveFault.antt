@@ -41,11 +41,11 @@ use Rattle.edits.proofs.FrontLaws.{like-self, like-without, optional-like, fron
 use Rattle.edits.proofs.ReadBack.{same, pair-gone}
 use Rattle.editor.proofs.Writes.{file-length}
 
--- the frontispiece's place among fewer chunks
 not-flip : (x y : Bool) → not x ≡ y → x ≡ not y
 not-flip true y e = ap not e
 not-flip false y e = ap not e
 
+-- the frontispiece's place among fewer chunks
 front-without : (cs : List Chunk) (k : ℕ) → k < length cs → Plain (getD cs k noChunk) → (frontPlace (without k cs) ≡ lower k (record { usage = 0; number = 0; chunk = frontPlace cs }) .chunk) × (eqb (frontPlace cs) k ≡ false)
 unfolding frontPlace without lower
 front-without [] k h p = absurd (not-suc-le-zero h)
