@@ -26,3 +26,4 @@ pub mod FitFacts
 pub mod UndoTold
 pub mod InsertStarts
 pub mod BlankLaws
+pub mod TooLong
