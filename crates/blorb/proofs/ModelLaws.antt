@@ -35,7 +35,7 @@ size-getD (c ∷ cs) (suc k) d h = omega (arith, size-getD cs k d (le-of-suc-le-
 abbrev pub entries : Model → List Entry
 entries m = map (entryOf (base (length (m .refs))) (m .chunks)) (m .refs)
 
--- P13: a file's length
+-- a file's length
 pub length-file : (m : Model) → length (file m) ≡ base (length (m .refs)) + total (m .chunks)
 unfolding file base total
 length-file m = simp (length-fileBytes, size-index, length-map) (omega arith)

@@ -18,7 +18,7 @@ use Rattle.blorb.specs.All.{All}
 use Rattle.blorb.specs.Bytes.{Byte}
 use Rattle.blorb.proofs.Checks.{then-accept, check-accept, accepts}
 use Rattle.blorb.proofs.Accept.{accept-back, accept-short}
-use Rattle.edits.proofs.P13.{length-added}
+use Rattle.edits.proofs.Lengths.{length-added}
 use Rattle.edits.specs.Run.{hundred, targetFault, editFault, editedFile, editRecord, noted}
 use Rattle.editor.specs.Moves.{recordOf}
 use Rattle.editor.specs.declared.Outcome.{Outcome}

@@ -24,7 +24,7 @@ use Rattle.blorb.proofs.Accept.{accept-back}
 use Rattle.edits.proofs.AddVerdict.{then-assoc, added-verdict}
 use Rattle.blorb.proofs.VerdictLaws.{modelFault, verdict-file}
 use Rattle.edits.proofs.FitLaws.{edit-sound}
-use Rattle.edits.proofs.P13.{length-added}
+use Rattle.edits.proofs.Lengths.{length-added}
 use Rattle.edits.specs.Run.{hundred, editedFile}
 use Rattle.blorb.specs.Usages.{chunkOf}
 use Rattle.reader.specs.declared.Piece.{Piece}

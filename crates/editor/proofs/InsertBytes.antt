@@ -24,7 +24,7 @@ use Rattle.edits.specs.Edit.{with-at, given}
 use Rattle.edits.specs.Journal.{Rec, oldChunk, oldPlace, undo3, undo4, fits3, fits4}
 use Rattle.edits.specs.Run.{noted, written}
 use Rattle.edits.proofs.Noted.{noted-over}
-use Rattle.edits.proofs.P13.{total-append}
+use Rattle.edits.proofs.Lengths.{total-append}
 use Rattle.edits.proofs.Starts.{moved}
 use Rattle.edits.proofs.InsertStarts.{risen, length-with, starts-inserted, starts-relisted, fit3, fit4}
 use Rattle.editor.specs.Shift.{moved as slid}

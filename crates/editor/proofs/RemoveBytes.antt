@@ -25,7 +25,7 @@ use Rattle.blorb.proofs.ModelLaws.{entries, entries-ok}
 use Rattle.edits.proofs.UndoLaws.{length-without, length-remaining}
 use Rattle.edits.proofs.Starts.{moved, fallen, starts-removed, map-without}
 use Rattle.blorb.proofs.Parts.{front, file-parts, length-front, chunks-append}
-use Rattle.edits.proofs.P13.{total-less}
+use Rattle.edits.proofs.Lengths.{total-less}
 use Rattle.edits.specs.Run.{noted, written}
 use Rattle.edits.proofs.Noted.{noted-over}
 use Rattle.editor.specs.Moves.{startsMoved, relocated}

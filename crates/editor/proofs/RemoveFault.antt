@@ -33,7 +33,7 @@ use Rattle.reader.specs.declared.Front.{Front}
 use Rattle.reader.specs.declared.Front.the-variants as front
 use Rattle.reader.specs.Inspecting.{frontOf}
 use Rattle.editor.proofs.OpenLaws.{front-nothing, front-at}
-use Rattle.edits.proofs.P13.{length-removed}
+use Rattle.edits.proofs.Lengths.{length-removed}
 use Rattle.edits.proofs.RemoveJudged.{second-without, picture-less, picture-lower, picture-without}
 use Rattle.edits.proofs.JudgedLaws.{chunk-plain}
 use Rattle.edits.proofs.RuleSeven.{Plain, plain-plain}

@@ -24,7 +24,7 @@ use Rattle.blorb.proofs.Codec.{length-entriesBytes, length-chunksBytes, length-
 use Rattle.blorb.proofs.ModelLaws.{entries, entries-ok, size-getD}
 use Rattle.edits.proofs.Starts.{moved, behind, starts-replaced}
 use Rattle.blorb.proofs.Parts.{front, file-parts, length-front, chunks-set}
-use Rattle.edits.proofs.P13.{total-put}
+use Rattle.edits.proofs.Lengths.{total-put}
 use Rattle.edits.specs.Run.{noted, written}
 use Rattle.editor.specs.Moves.{startsMoved, relocated}
 use Rattle.editor.specs.declared.moves.Move.{Move}

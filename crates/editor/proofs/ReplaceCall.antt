@@ -34,7 +34,7 @@ use Rattle.reader.specs.Inspecting.{pieceOf, frontOf}
 use Rattle.editor.proofs.OpenLaws.{asked, asked-refused, place-is, start-is, length-is, shared-is}
 use Rattle.editor.specs.Called.{verdictOf, state, Called}
 use Rattle.editor.specs.Post.{doneWith, changeOf, Stands, Own, Replaceable}
-use Rattle.edits.proofs.P13.{length-replaced}
+use Rattle.edits.proofs.Lengths.{length-replaced}
 use Rattle.editor.proofs.Writes.{size-given}
 use Rattle.editor.proofs.RemoveCall.{Found, found, Told, told-missing, body-sized, body-of}
 use Rattle.editor.proofs.ReplaceFault.{size-body}

@@ -27,7 +27,7 @@ use Rattle.blorb.proofs.VerdictLaws.{refsFault, modelFault, verdict-file}
 use Rattle.edits.proofs.ReplaceVerdict.{refs-replaced}
 use Rattle.edits.proofs.FitLaws.{edit-sound, find-pair}
 use Rattle.edits.proofs.Starts.{behind, shifted}
-use Rattle.edits.proofs.P13.{length-replaced}
+use Rattle.edits.proofs.Lengths.{length-replaced}
 use Rattle.blorb.proofs.ModelLaws.{size-getD}
 use Rattle.editor.proofs.Writes.{file-length, size-given}
 use Rattle.edits.specs.Run.{hundred, editedFile}

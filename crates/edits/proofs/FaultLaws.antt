@@ -26,7 +26,7 @@ use Rattle.blorb.proofs.Checks.{then-accept, check-accept, pass, stop, accepts,
 use Rattle.edits.proofs.AddVerdict.{then-assoc, then-end, added-verdict}
 use Rattle.blorb.proofs.VerdictLaws.{refsFault, modelFault, verdict-file}
 use Rattle.edits.proofs.FitLaws.{edit-sound}
-use Rattle.edits.proofs.P13.{length-added}
+use Rattle.edits.proofs.Lengths.{length-added}
 use Rattle.edits.specs.Journal.{recOf, recBytes}
 use Rattle.edits.proofs.JournalLaws.{length-recBytes}
 use Rattle.edits.specs.Run.{hundred, editedFile, editRecord, targetFault, editFault}

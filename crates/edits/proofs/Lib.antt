@@ -8,7 +8,7 @@ pub mod Starts
 pub mod AddVerdict
 pub mod ReplaceVerdict
 pub mod RemoveVerdict
-pub mod P13
+pub mod Lengths
 pub mod Noted
 pub mod RuleSeven
 pub mod FaultLaws

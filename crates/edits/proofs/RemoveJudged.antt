@@ -23,7 +23,7 @@ use Rattle.edits.specs.Run.{accepted}
 use Rattle.edits.proofs.AddVerdict.{second-any}
 use Rattle.edits.proofs.UndoLaws.{or-false, length-remaining}
 use Rattle.edits.proofs.FitLaws.{edit-sound}
-use Rattle.edits.proofs.P13.{length-removed}
+use Rattle.edits.proofs.Lengths.{length-removed}
 use Rattle.edits.proofs.RemoveVerdict.{same-chunk, refs-removed}
 use Rattle.edits.proofs.FrontLaws.{like-without, optional-like, front-picture, picture-none}
 use Rattle.edits.proofs.ReadBack.{same, pair-gone}

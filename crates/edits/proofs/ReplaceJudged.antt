@@ -23,7 +23,7 @@ use Rattle.edits.specs.Edit.{replace, edited, replaced, given}
 use Rattle.edits.specs.Run.{accepted}
 use Rattle.edits.proofs.AddVerdict.{second-any, then-end}
 use Rattle.edits.proofs.FitLaws.{edit-sound, find-pair}
-use Rattle.edits.proofs.P13.{length-replaced}
+use Rattle.edits.proofs.Lengths.{length-replaced}
 use Rattle.edits.proofs.ReplaceVerdict.{refs-replaced}
 use Rattle.edits.proofs.RuleSeven.{plain-plain}
 use Rattle.edits.proofs.FrontLaws.{optional-replaced}

@@ -26,7 +26,7 @@ use Rattle.blorb.proofs.VerdictLaws.{verdict-file, modelFault}
 use Rattle.edits.specs.Edit.{replace, edited, lower, replaced, removed, removedBoth, given}
 use Rattle.edits.specs.Journal.{Rec, samePair, fits, fits1, fits2, fits3, fits4, undone, undo1, undo2, undo3, undo4, oldChunk, oldRef, oldPlace}
 use Rattle.edits.specs.Run.{accepted}
-use Rattle.edits.proofs.P13.{length-replaced}
+use Rattle.edits.proofs.Lengths.{length-replaced}
 use Rattle.edits.proofs.BoolLaws.{and-parts}
 use Rattle.edits.proofs.JudgedLaws.{model-parts, isFront, find-at, chunk-in}
 use Rattle.edits.proofs.RemoveJudged.{removed-length, removed-accepted}

@@ -1,13 +1,11 @@
--- P13: two replacements commute; a file's length.
+-- Lengths: of chunks put together, taken out or changed, and of the file after each edit.
 use mathlib.Core.Path.{_≡_, refl, sym, ap, _∙_}
 use Prim.Native.Nat.{ℕ, zero, suc, _+_, _*_, _-_, _≤_, _<_, _%_}
 use mathlib.Core.List.{List, [], _∷_, _++_, map}
 use mathlib.Core.Bool.{Bool, true, false, cond}
-use mathlib.Core.Logic.{_≢_}
 use native.Mathlib.Omega.{arith}
 use native.Mathlib.Nat.{le-of-suc-le-suc, not-suc-le-zero}
 use lib.ListN.{length, getD, take, drop, set, length-append, length-map, length-set}
-use lib.Seq.{set-comm}
 use Rattle.blorb.specs.Format.{Ref, Chunk, size, total}
 use Rattle.blorb.specs.Verdict.{noChunk}
 use Rattle.blorb.specs.Model.{Model, base, file}
@@ -15,11 +13,6 @@ use Rattle.edits.specs.Edit.{Edit, add, replace, remove, added, replaced
 use Rattle.blorb.specs.Queries.{find, uses, shared, refAt, noRef, chunkAt, without}
 use Rattle.blorb.proofs.ModelLaws.{length-file}
 use Rattle.edits.proofs.UndoLaws.{length-without, length-remaining}
-
--- different chunks: the order doesn't matter
-pub replaced-comm : (m : Model) (j k : ℕ) (c d : Chunk) → j ≢ k → replaced (replaced m j c) k d ≡ replaced (replaced m k d) j c
-unfolding replaced
-replaced-comm m j k c d h = λ i. record { refs = m .refs; chunks = set-comm (m .chunks) j k c d h i }
 
 pub total-append : (a b : List Chunk) → total (a ++ b) ≡ total a + total b
 unfolding total
