@@ -1,0 +1,33 @@
+-- One law for each way out of the calls.
+use mathlib.Core.Path.{_≡_, refl, ap}
+use Prim.Native.Nat.{ℕ, _<_}
+use native.Mathlib.Omega.{arith}
+use mathlib.Core.List.{List}
+use Rattle.blorb.specs.Usages.{codeOf}
+use Rattle.blorb.specs.declared.Usage.{Usage}
+use Rattle.blorb.specs.declared.Usage.the-variants.{Pict, Snd, Data, Exec}
+use Rattle.edits.specs.Run.{State, Call}
+use Rattle.editor.specs.declared.Answer.{Answer}
+use Rattle.editor.specs.Called.{Called}
+use Rattle.capi.specs.declared.EditAnswer.{EditAnswer}
+use Rattle.capi.specs.Numbers.{numberOf, placeOf, editNumbers}
+use Rattle.capi.specs.Answered.{Answered}
+
+-- a usage's four bytes are a number of 32 bits
+pub code-small : (u : Usage) → codeOf u < 4294967296
+code-small Pict = omega arith
+code-small Snd = omega arith
+code-small Data = omega arith
+code-small Exec = omega arith
+
+-- the editor's promise, in numbers
+pub answered : (s : State) (c : Call) (a : Answer) (r : EditAnswer) (b j : List ℕ) → r ≡ editNumbers a → Called s c a b j → Answered s c r b j
+answered s c a r b j e h =
+    rw e (record {
+      refusal = ap numberOf (h .outcome);
+      place = ap placeOf (h .outcome);
+      length = h .len;
+      used = h .used;
+      file = h .file;
+      journal = h .journal;
+    })

@@ -1,0 +1,173 @@
+-- `refusal` is 0 exactly where a call was carried out: no refusal of the papers has the number 0.
+use mathlib.Core.Path.{_≡_, refl}
+use Prim.Native.Nat.{ℕ, zero, suc, _+_, _<_}
+use mathlib.Core.List.{List, [], _∷_, _++_}
+use mathlib.Core.Bool.{Bool, true, false, cond}
+use native.Mathlib.Omega.{arith}
+use lib.ListN.{length, getD, take}
+use lib.Dec.{eqb, ltb}
+use borrow.Author.Tests.{ltb-true}
+use Rattle.blorb.specs.Bytes.{rd32}
+use Rattle.blorb.specs.Format.{Chunk, Entry, Ref, size, sized, refOf}
+use Rattle.blorb.specs.Tags.{RelN, Fspc}
+use Rattle.blorb.specs.Verdict.{Verdict, accept, refuse, _then_, check, headFault, chunkFault, walkFault, secondIndex, indexFault, refFault, entriesFault, restFault, layoutFault, verdict}
+use Rattle.blorb.specs.Rules.{plainRules, plainVerdict, picture, single, chunkRule, chunkRules, optional}
+use Rattle.edits.specs.Edit.{Edit, add, replace, remove}
+use Rattle.edits.specs.Run.{State, Call, edit, undo, hundred, targetFault, editedFile, editFault, undoFault, fault}
+use Rattle.blorb.specs.Model.{Model}
+use Rattle.reader.specs.Reading.{indexOf, noEntry, readBy, readOf, entryBy, askedBy, entryOf, hitIn, foundBy, lookedBy, lookupOf}
+use Rattle.reader.specs.declared.entries.Hit.{Hit}
+use Rattle.reader.specs.declared.entries.Hit.the-variants.{At, Nothing}
+use Rattle.capi.specs.Numbers.{numberOf, readNumbers, entryNumbers, lookupNumbers}
+use Rattle.capi.specs.Numbered.{Numbered}
+
+none : Numbered accept
+unfolding Numbered
+none = tt
+
+positive : (k p : ℕ) → Numbered (refuse k p) → 0 < k
+unfolding Numbered
+positive k p h = h
+
+one : (b : Bool) (k p : ℕ) → 0 < k → Numbered (check b k p)
+unfolding check Numbered
+one true k p h = tt
+one false k p h = h
+
+both : (v w : Verdict) → Numbered v → Numbered w → Numbered (v then w)
+unfolding _then_ Numbered
+both accept w hv hw = hw
+both (refuse k p) w hv hw = hv
+
+either : (b : Bool) (v w : Verdict) → Numbered v → Numbered w → Numbered (cond b v w)
+either true v w hv hw = hv
+either false v w hv hw = hw
+
+-- a check, and what comes behind it
+more : (b : Bool) (k p : ℕ) (v : Verdict) → 0 < k → Numbered v → Numbered (check b k p then v)
+more b k p v h hv = both (check b k p) v (one b k p h) hv
+
+head : (f : List ℕ) → Numbered (headFault f)
+unfolding headFault
+head f = more _ _ _ _ (omega arith) (more _ _ _ _ (omega arith) (more _ _ _ _ (omega arith) (more _ _ _ _ (omega arith) (one _ _ _ (omega arith)))))
+
+chunk : (at : ℕ) (s : List ℕ) → Numbered (chunkFault at s)
+unfolding chunkFault
+chunk at s = more _ _ _ _ (omega arith) (more _ _ _ _ (omega arith) (one _ _ _ (omega arith)))
+
+walk : (k at : ℕ) (s : List ℕ) → Numbered (walkFault k at s)
+unfolding walkFault
+walk zero at s = none
+walk (suc k) at [] = none
+walk (suc k) at (b ∷ s) = both _ _ (chunk at (b ∷ s)) (walk k _ _)
+
+second : (at : ℕ) (cs : List Chunk) → Numbered (secondIndex at cs)
+unfolding secondIndex
+second at [] = none
+second at (c ∷ cs) = more _ _ _ _ (omega arith) (second _ cs)
+
+index : (d : List ℕ) → Numbered (indexFault d)
+unfolding indexFault
+index d = more _ _ _ _ (omega arith) (one _ _ _ (omega arith))
+
+ref : (cs : List Chunk) (earlier : List Ref) (p : ℕ) (r : Ref) → Numbered (refFault plainRules cs earlier p r)
+unfolding refFault
+ref cs earlier p r = more _ _ _ _ (omega arith) (more _ _ _ _ (omega arith) (one _ _ _ (omega arith)))
+
+entries : (at : ℕ) (cs : List Chunk) (earlier : List Ref) (p : ℕ) (es : List Entry) → Numbered (entriesFault plainRules at cs earlier p es)
+unfolding entriesFault
+entries at cs earlier p [] = none
+entries at cs earlier p (e ∷ es) =
+    more _ _ _ _ (omega arith) (more _ _ _ _ (omega arith) (both _ _ (ref cs earlier p (refOf at cs e)) (entries at cs _ _ es)))
+
+only : (rs : List Ref) (all : List Chunk) (t n : ℕ) (earlier : List Chunk) (at : ℕ) (c : Chunk) → Numbered (single rs all t n earlier at c)
+unfolding single
+only rs all t n earlier at c = more _ _ _ _ (omega arith) (one _ _ _ (omega arith))
+
+rule : (rs : List Ref) (all earlier : List Chunk) (at : ℕ) (c : Chunk) → Numbered (chunkRule rs all earlier at c)
+unfolding chunkRule
+rule rs all earlier at c =
+    either (eqb (c .type) RelN) _ _ (only rs all RelN 2 earlier at c)
+    (either (eqb (c .type) Fspc) _ _ (both (single rs all Fspc 4 earlier at c) _ (only rs all Fspc 4 earlier at c) (one (picture (rd32 (c .body)) all rs) 19 (at + 8) (omega arith))) none)
+
+rules : (rs : List Ref) (all earlier : List Chunk) (at : ℕ) (cs : List Chunk) → Numbered (chunkRules rs all earlier at cs)
+unfolding chunkRules
+rules rs all earlier at [] = none
+rules rs all earlier at (c ∷ cs) = both _ _ (rule rs all earlier at c) (rules rs all _ _ cs)
+
+layout : (cs : List Chunk) → Numbered (layoutFault plainRules cs)
+unfolding layoutFault restFault optional
+layout [] = unfold Numbered in omega arith
+layout (c ∷ cs) =
+    more _ _ _ _ (omega arith)
+    (both _ _ (second _ cs) (both _ _ (index (c .body)) (both _ _ (entries _ cs [] 24 _) (rules _ cs [] _ cs))))
+
+judged : (f : List ℕ) → Numbered (verdict plainRules f)
+unfolding verdict
+judged f = both _ _ (head f) (both _ _ (walk _ 12 _) (layout _))
+
+raised : (v : Verdict) → Numbered (hundred v)
+unfolding Numbered
+raised accept = tt
+raised (refuse k p) = omega arith
+
+target : (m : Model) (e : Edit) → Numbered (targetFault m e)
+unfolding targetFault
+target m (add u n t d) = none
+target m (replace u n t d) = more _ _ _ _ (omega arith) (one _ _ _ (omega arith))
+target m (remove u n) = one _ _ _ (omega arith)
+
+called : (s : State) (c : Call) → Numbered (fault plainRules s c)
+unfolding fault editFault undoFault
+called s (edit e) =
+    let f = take (s .L) (s .buffer) in
+    more _ 20 0 _ (omega arith)
+    (both _ _ (judged f)
+    (both _ _ (target _ e) (both _ _ (raised (verdict plainRules (editedFile f e))) (more _ 24 0 _ (omega arith) (one _ 25 0 (omega arith))))))
+called s undo =
+    more _ 20 0 _ (omega arith)
+    (both _ _ (judged _) (more _ 26 0 _ (omega arith) (more _ 21 0 _ (omega arith) (one _ 24 0 (omega arith)))))
+
+zero-accepts : (v : Verdict) → Numbered v → numberOf v ≡ 0 → v ≡ accept
+zero-accepts accept h e = refl
+zero-accepts (refuse k p) h e = absurd (omega (arith, positive k p h, e))
+
+-- a call that edits and whose `refusal` is 0 was carried out
+pub zero-done : (s : State) (c : Call) → numberOf (fault plainRules s c) ≡ 0 → fault plainRules s c ≡ accept
+zero-done s c e = zero-accepts _ (called s c) e
+
+-- a file whose `refusal` is 0 is accepted
+pub zero-reads : (f : List ℕ) → readNumbers (readOf f) .refusal ≡ 0 → plainVerdict f ≡ accept
+unfolding readOf plainVerdict
+zero-reads f e = go (verdict plainRules f) (judged f) e
+  where
+    go : (v : Verdict) → Numbered v → readNumbers (readBy v (length f) (length (indexOf f))) .refusal ≡ 0 → v ≡ accept
+    go accept h e = refl
+    go (refuse k p) h e = absurd (omega (arith, positive k p h, e))
+
+-- an entry whose `refusal` is 0 is one of the index of an accepted file
+pub zero-entry : (f : List ℕ) (i : ℕ) → entryNumbers (entryOf f i) .refusal ≡ 0 → (plainVerdict f ≡ accept) × (i < length (indexOf f))
+unfolding entryOf plainVerdict
+zero-entry f i e = go (verdict plainRules f) (judged f) e
+  where
+    below : (b : Bool) (x : Entry) → ltb i (length (indexOf f)) ≡ b → entryNumbers (entryBy b x i) .refusal ≡ 0 → i < length (indexOf f)
+    below true x t e = ltb-true i (length (indexOf f)) t
+    below false x t e = absurd (omega (arith, e))
+
+    go : (v : Verdict) → Numbered v → entryNumbers (askedBy v (indexOf f) i) .refusal ≡ 0 → (v ≡ accept) × (i < length (indexOf f))
+    go accept h e = (refl, below (ltb i (length (indexOf f))) (getD (indexOf f) i noEntry) refl e)
+    go (refuse k p) h e = absurd (omega (arith, positive k p h, e))
+
+-- a lookup whose `refusal` is 0 found an entry of an accepted file
+pub zero-found : (f : List ℕ) (u n : ℕ) → lookupNumbers (lookupOf f u n) .refusal ≡ 0
+    → (plainVerdict f ≡ accept) × ((x : ℕ) × (hitIn u n (indexOf f) ≡ At x))
+unfolding lookupOf plainVerdict
+zero-found f u n e = go (verdict plainRules f) (judged f) e
+  where
+    hit : (x : Hit) → hitIn u n (indexOf f) ≡ x → lookupNumbers (foundBy f x) .refusal ≡ 0 → (x : ℕ) × (hitIn u n (indexOf f) ≡ At x)
+    hit (At x) t e = (x, t)
+    hit Nothing t e = absurd (omega (arith, e))
+
+    go : (v : Verdict) → Numbered v → lookupNumbers (lookedBy v (foundBy f (hitIn u n (indexOf f)))) .refusal ≡ 0 → (v ≡ accept) × ((x : ℕ) × (hitIn u n (indexOf f) ≡ At x))
+    go accept h e = (refl, hit (hitIn u n (indexOf f)) refl e)
+    go (refuse k p) h e = absurd (omega (arith, positive k p h, e))

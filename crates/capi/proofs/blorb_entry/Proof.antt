@@ -1,0 +1,55 @@
+use mathlib.Core.Path.{ap, sym, _∙_}
+use Rattle.capi.specs.Numbers.{entryNumbers}
+use Rattle.capi.proofs.CallLaws.{code-small}
+use borrow.Author.Needs.{needs}
+use Rattle.capi.proofs.blorb_entry.Statement.{statement}
+use Rattle.capi.proofs.blorb_entry.Tie as tie
+use Rattle.capi.proofs.blorb_entry.Reads as reads
+use Rattle.capi.proofs.blorb_entry.Lts as lts
+use Rattle.blorb.proofs.Usage.code.Reads as code-reads
+use Rattle.reader.proofs.entry.Reads as entry-reads
+
+-- src/lib.rt:80:11
+entry-requires : tie.Need-entry-requires
+entry-requires c κs = search needs
+
+-- src/lib.rt:81:22
+enum-known-e : tie.Need-enum-known-e
+enum-known-e c = search needs
+
+-- src/lib.rt:86:24
+code-requires : tie.Need-code-requires
+code-requires c κs = search needs
+
+-- src/lib.rt:86:24
+cast-t10 : tie.Need-cast-t10
+cast-t10 c = record { fits = rw (c .code .ensures) (code-small (c .before .before .e .given .0 .0 .usage)) }
+
+-- src/lib.rt:88:24
+cast-t11 : tie.Need-cast-t11
+cast-t11 c = search needs
+
+-- src/lib.rt:91:26
+enum-known-number : tie.Need-enum-known-number
+enum-known-number c = search needs
+
+-- src/lib.rt:76:1
+returns : tie.Need-returns
+returns c = rw (c .before .code .ensures) (ap entryNumbers (sym (c .before .before .before .e .given .1) ∙ c .before .before .before .before .before .entry .ensures))
+
+-- src/lib.rt:76:1
+returns-2 : tie.Need-returns-2
+returns-2 c = ap entryNumbers (sym (c .before .number .given .1) ∙ c .before .before .before .entry .ensures)
+
+pub blorb-entry-spec : {M : Type 1} → statement M
+blorb-entry-spec =
+    tie.close
+    (tie.spec
+    entry-requires
+    enum-known-e
+    code-requires
+    cast-t10
+    cast-t11
+    enum-known-number
+    returns
+    returns-2)

@@ -1,0 +1,32 @@
+use Rattle.capi.proofs.CallLaws.{answered}
+use borrow.Author.Needs.{needs}
+use Rattle.capi.proofs.blorb_remove.Statement.{statement}
+use Rattle.capi.proofs.blorb_remove.Tie as tie
+use Rattle.capi.proofs.blorb_remove.Reads as reads
+use Rattle.capi.proofs.blorb_remove.Lts as lts
+use Rattle.capi.proofs.numbers.Reads as numbers-reads
+use Rattle.editor.proofs.remove.Reads as remove-reads
+
+-- src/lib.rt:193:13
+remove-requires : tie.Need-remove-requires
+remove-requires c κs = search needs
+
+-- src/lib.rt:193:5
+numbers-requires : tie.Need-numbers-requires
+numbers-requires c κs = search needs
+
+-- src/lib.rt:182:1
+same-length : tie.Need-same-length
+same-length c = search needs
+
+-- src/lib.rt:182:1
+same-length-2 : tie.Need-same-length-2
+same-length-2 c = search needs
+
+-- src/lib.rt:182:1
+returns : tie.Need-returns
+returns c = answered _ _ _ _ _ _ (c .numbers .ensures) (c .before .before .before .before .before .remove .ensures)
+
+pub blorb-remove-spec : {M : Type 1} → statement M
+blorb-remove-spec =
+    tie.close (tie.spec remove-requires numbers-requires same-length same-length-2 returns)

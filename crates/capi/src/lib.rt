@@ -1,0 +1,219 @@
+// The calls of reader and editor for programs in C; include/blorb.h declares them.
+use blorb::Usage;
+use editor::Answer;
+use editor::Outcome;
+use reader::Asked;
+use reader::Looked;
+use reader::Reading;
+ghost use mathlib.Core.Path.{_≡_};
+ghost use lib.ListN.{length};
+ghost use lib.Dec.{leb};
+ghost use Rattle.blorb.specs.Bytes.{rd32};
+ghost use Rattle.reader.specs.Reading.{readOf, entryOf, lookupOf};
+ghost use Rattle.edits.specs.Edit.{add, replace, remove};
+ghost use Rattle.edits.specs.Run.{edit, undo};
+ghost use Rattle.edits.specs.Blank.{blanked};
+ghost use Rattle.editor.specs.Called.{state};
+ghost use Rattle.editor.specs.Post.{blankAnswer};
+ghost use Rattle.capi.specs.Numbers.{readNumbers, entryNumbers, lookupNumbers, editNumbers};
+ghost use Rattle.capi.specs.Answered.{Answered};
+
+// In every answer `refusal` is 0 where the call was carried out; then `place` is 0 too. What a refusal leaves out is 0.
+#[repr(C)]
+pub struct ReadAnswer {
+    pub refusal: u64,
+    pub place: usize,
+    pub length: usize,
+    pub count: usize,
+}
+
+#[repr(C)]
+pub struct EntryAnswer {
+    pub refusal: u64,
+    pub place: usize,
+    pub usage: u32,
+    pub number: u32,
+    pub start: u64,
+}
+
+#[repr(C)]
+pub struct LookupAnswer {
+    pub refusal: u64,
+    pub place: usize,
+    pub kind: u32,
+    pub start: usize,
+    pub length: usize,
+}
+
+#[repr(C)]
+pub struct EditAnswer {
+    pub refusal: u64,
+    pub place: usize,
+    pub length: usize,
+    pub used: usize,
+}
+
+// The verdict: the length and the entry count of an accepted file.
+#[no_mangle]
+pub extern "C" fn blorb_read(file: &[u8]) -> ReadAnswer
+    ensures { λ r. ⌜ r ≡ readNumbers (readOf (now (file .entry))) ⌝ }
+{
+    match reader::read(file) {
+        Reading::Accepted { length, count } => ReadAnswer {
+            refusal: 0,
+            place: 0,
+            length,
+            count,
+        },
+        Reading::Refused { number, place } => ReadAnswer {
+            refusal: number,
+            place,
+            length: 0,
+            count: 0,
+        },
+    }
+}
+
+// Entry i of the index; its usage as the number in its four bytes.
+#[no_mangle]
+pub extern "C" fn blorb_entry(file: &[u8], i: usize) -> EntryAnswer
+    ensures { λ r. ⌜ r ≡ entryNumbers (entryOf (now (file .entry)) i) ⌝ }
+{
+    match reader::entry(file, i) {
+        Asked::Given(e) => {
+            let usage = e.usage;
+            EntryAnswer {
+                refusal: 0,
+                place: 0,
+                usage: usage.code() as u32,
+                number: e.number,
+                start: e.start as u64,
+            }
+        }
+        Asked::Refused { number, place } => EntryAnswer {
+            refusal: number,
+            place,
+            usage: 0,
+            number: 0,
+            start: 0,
+        },
+    }
+}
+
+// The chunk of the entry (usage, number): its type, and where its data is.
+#[no_mangle]
+pub extern "C" fn blorb_lookup(file: &[u8], usage: &[u8; 4], number: u32) -> LookupAnswer
+    ensures { λ r. ⌜ r ≡ lookupNumbers (lookupOf (now (file .entry)) (rd32 (now (usage .entry))) number) ⌝ }
+{
+    match reader::lookup(file, *usage, number) {
+        Looked::Found {
+            kind,
+            start,
+            length,
+        } => LookupAnswer {
+            refusal: 0,
+            place: 0,
+            kind,
+            start,
+            length,
+        },
+        Looked::Refused { number: k, place } => LookupAnswer {
+            refusal: k,
+            place,
+            kind: 0,
+            start: 0,
+            length: 0,
+        },
+    }
+}
+
+// The editor's answer in numbers.
+fn numbers(a: Answer) -> EditAnswer
+    ensures { λ r. ⌜ r ≡ editNumbers a ⌝ }
+{
+    let outcome = a.outcome;
+    match outcome {
+        Outcome::Done => EditAnswer {
+            refusal: 0,
+            place: 0,
+            length: a.len,
+            used: a.used,
+        },
+        Outcome::Refused { number, place } => EditAnswer {
+            refusal: number,
+            place,
+            length: a.len,
+            used: a.used,
+        },
+    }
+}
+
+// The blank file in the first 24 bytes.
+#[no_mangle]
+pub extern "C" fn blorb_blank(file: &mut [u8]) -> EditAnswer
+    ensures { λ r. ⌜ (r ≡ editNumbers (blankAnswer (leb 24 (length (now (file .entry)))))) × (now (file .exit) ≡ blanked (now (file .entry))) ⌝ }
+{
+    numbers(editor::blank(file))
+}
+
+// Adds a resource to the first `length` bytes; its record goes to the journal at `used`.
+#[no_mangle]
+pub extern "C" fn blorb_add(
+    file: &mut [u8],
+    length: usize,
+    journal: &mut [u8],
+    used: usize,
+    usage: &[u8; 4],
+    number: u32,
+    kind: &[u8; 4],
+    data: &[u8],
+) -> EditAnswer
+    ensures { λ r. ⌜ Answered (state (now (file .entry)) length (now (journal .entry)) used) (edit (add (rd32 (now (usage .entry))) number (rd32 (now (kind .entry))) (now («data» .entry)))) r (now (file .exit)) (now (journal .exit)) ⌝ }
+{
+    numbers(editor::add(file, length, journal, used, *usage, number, *kind, data))
+}
+
+// Gives a resource another type and other data.
+#[no_mangle]
+pub extern "C" fn blorb_replace(
+    file: &mut [u8],
+    length: usize,
+    journal: &mut [u8],
+    used: usize,
+    usage: &[u8; 4],
+    number: u32,
+    kind: &[u8; 4],
+    data: &[u8],
+) -> EditAnswer
+    ensures { λ r. ⌜ Answered (state (now (file .entry)) length (now (journal .entry)) used) (edit (replace (rd32 (now (usage .entry))) number (rd32 (now (kind .entry))) (now («data» .entry)))) r (now (file .exit)) (now (journal .exit)) ⌝ }
+{
+    numbers(editor::replace(file, length, journal, used, *usage, number, *kind, data))
+}
+
+// Removes a resource, and its chunk unless another entry has it.
+#[no_mangle]
+pub extern "C" fn blorb_remove(
+    file: &mut [u8],
+    length: usize,
+    journal: &mut [u8],
+    used: usize,
+    usage: &[u8; 4],
+    number: u32,
+) -> EditAnswer
+    ensures { λ r. ⌜ Answered (state (now (file .entry)) length (now (journal .entry)) used) (edit (remove (rd32 (now (usage .entry))) number)) r (now (file .exit)) (now (journal .exit)) ⌝ }
+{
+    numbers(editor::remove(file, length, journal, used, *usage, number))
+}
+
+// Takes the last edit back; the journal is only read.
+#[no_mangle]
+pub extern "C" fn blorb_undo(
+    file: &mut [u8],
+    length: usize,
+    journal: &[u8],
+    used: usize,
+) -> EditAnswer
+    ensures { λ r. ⌜ Answered (state (now (file .entry)) length (now (journal .entry)) used) undo r (now (file .exit)) (now (journal .entry)) ⌝ }
+{
+    numbers(editor::undo(file, length, journal, used))
+}
