@@ -26,7 +26,7 @@ answered s c a r b j e h =
     rw e (record {
       refusal = ap numberOf (h .outcome);
       place = ap placeOf (h .outcome);
-      length = h .len;
+      len = h .len;
       used = h .used;
       file = h .file;
       journal = h .journal;

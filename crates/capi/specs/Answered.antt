@@ -11,7 +11,7 @@ use Rattle.capi.specs.Numbers.{numberOf, placeOf}
 pub record Answered (s : State) (c : Call) (r : EditAnswer) (b j : List ℕ) : Type 0 where
   pub refusal : r .refusal ≡ numberOf (fault plainRules s c)
   pub place : r .place ≡ placeOf (fault plainRules s c)
-  pub length : r .length ≡ step plainRules s c .L
+  pub len : r .length ≡ step plainRules s c .L
   pub used : r .used ≡ step plainRules s c .U
   pub file : b ≡ step plainRules s c .buffer
   pub journal : j ≡ step plainRules s c .journal
