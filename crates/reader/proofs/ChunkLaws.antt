@@ -9,7 +9,7 @@ use lib.ListN.{length, getD, take, drop, length-take, length-drop, drop-of-lengt
 use lib.Seq.{drop-drop, drop-cons, length-take-le, getD-drop, getD-take}
 use lib.Dec.{eqb, leb, ltb}
 use borrow.Author.Tests.{eq-eqb, ne-eqb, eqb-true, eqb-false, le-leb, lt-leb, leb-true, leb-false, lt-ltb, le-ltb, ltb-true, ltb-false}
-use Rattle.reader.specs.Plain.{ordinaryType, allPlain}
+use Rattle.reader.specs.Plain.{ordinaryType, allPlain, Along}
 use Rattle.blorb.specs.Tags.{RelN, Fspc}
 use Rattle.blorb.specs.Bytes.{rd32}
 use Rattle.blorb.specs.Tags.{FORM, IFRS, RIdx}
@@ -356,6 +356,15 @@ module _ (f : List ℕ) (at : ℕ) where
       let q = and-both _ _ o in
       let z : ordinaryType (rd32 (drop at f)) ≡ true = rw (← e) (q .1) in
       (q .0, plain-on h ∙ rw z)
+
+-- a walk that goes on by one chunk
+pub along-next : (f : List ℕ) (from at n t : ℕ) (p o : Bool) → at < length f → chunkFault at (drop at f) ≡ accept → t ≡ rd32 (drop at f) → o ≡ ordinaryType t → n ≡ skipAt f at
+    → Along f from at p → Along f from n (p && o)
+along-next f from at n t p o h e q k w a =
+    rw (w, k) (record {
+      rest = walk-next f at h e ∙ a .rest;
+      ordinary = λ z. let b = plain-next f at t p h q z in sym (b .1) ∙ a .ordinary (b .0);
+    })
 
 not-or : (a b : Bool) → not (a || b) ≡ true → (a ≡ false) × (b ≡ false)
 not-or true b e = let z : _≡_ {A = ℕ} 0 1 = cc in absurd (omega arith)

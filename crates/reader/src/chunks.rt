@@ -3,7 +3,7 @@ ghost use mathlib.Core.Path.{_≡_};
 ghost use Prim.Native.Nat.{_+_, _≤_, _<_, _^_};
 ghost use lib.ListN.{length, drop};
 ghost use mathlib.Core.Bool.{true, false};
-ghost use Rattle.reader.specs.Plain.{ordinaryType, allPlain};
+ghost use Rattle.reader.specs.Plain.{ordinaryType, allPlain, Along};
 ghost use Rattle.blorb.specs.Verdict.{accept, headFault, chunkFault, secondIndex};
 ghost use Rattle.blorb.specs.Format.{isStart};
 ghost use Rattle.reader.specs.Walk.{skipAt, chunksFrom, walkFrom, firstFault, verdictOf};
@@ -109,12 +109,49 @@ fn ordinary(t: u64) -> bool
     !((t == RIDX) | ((t == 0x52656c4e) | (t == 0x46737063)))
 }
 
+// How far a walk came, and whether all chunks before that are ordinary.
+struct Ahead {
+    at: usize,
+    plain: bool,
+}
+
+// The walk from `from` on, as long as each next chunk begins where the next entry of the index says. That tells nothing more, but lets the
+// processor read on along the index instead of waiting for each length.
+fn walk_along(s: &[u8], from: usize) -> Ahead
+    ensures { λ r. ⌜ Along (now (s .entry)) from (r .at) (r .plain) ⌝ }
+{
+    let mut at = from;
+    let mut plain = true;
+    let mut p: usize = 44;
+    while p + 4 <= s.len() {
+        let guess = blorb::be32_at(s, p) as usize;
+        if s.len() <= at {
+            return Ahead { at, plain };
+        }
+        if let Check::Refused {
+            number: _,
+            place: _,
+        } = chunk(s, at) {
+            return Ahead { at, plain };
+        }
+        plain = plain & ordinary(blorb::be32_at(s, at));
+        let next = skip(s, at);
+        if next != guess {
+            return Ahead { at: next, plain };
+        }
+        at = guess;
+        p += 12;
+    }
+    Ahead { at, plain }
+}
+
 // Refusals 6 and 7: the walk over the chunks from `from` on.
 fn walk_rest(s: &[u8], from: usize) -> Walked
     ensures { λ r. ⌜ (verdictOf (r .check) ≡ walkFrom (now (s .entry)) from) × (r .plain ≡ true → allPlain (chunksFrom (now (s .entry)) from) ≡ true) ⌝ }
 {
-    let mut at = from;
-    let mut plain = true;
+    let ahead = walk_along(s, from);
+    let mut at = ahead.at;
+    let mut plain = ahead.plain;
     while at < s.len() {
         match chunk(s, at) {
             Check::Good => {

@@ -108,12 +108,15 @@ fn judge_file(file: &[u8]) -> Judgement
     if let Check::Refused { number, place } = entries::entries(file, count) {
         return Judgement::Refused { number, place };
     }
-    if let Check::Refused { number, place } = optional::optional_if(walked.plain, file, count) {
+    if walked.plain {
+        return Judgement::Good { count, plain: true };
+    }
+    if let Check::Refused { number, place } = optional::optional(file, count) {
         return Judgement::Refused { number, place };
     }
     Judgement::Good {
         count,
-        plain: walked.plain,
+        plain: false,
     }
 }
 

@@ -8,11 +8,9 @@ ghost use mathlib.Core.Path.{_≡_};
 ghost use Prim.Native.Nat.{_<_};
 ghost use lib.ListN.{length};
 ghost use lib.Dec.{eqb};
-ghost use mathlib.Core.Bool.{_||_, true};
+ghost use mathlib.Core.Bool.{_||_};
 ghost use Rattle.blorb.specs.Verdict.{accept};
-ghost use Rattle.reader.specs.Plain.{allPlain};
-ghost use Rattle.reader.specs.Walk.{chunkAt, chunksFrom, walkFrom, verdictOf};
-ghost use Rattle.reader.specs.Entries.{place};
+ghost use Rattle.reader.specs.Walk.{chunkAt, walkFrom, verdictOf};
 ghost use Rattle.reader.specs.Optional.{pictured, oneRule, optionalFault, Judged};
 
 const RELN: u64 = 0x52656c4e;
@@ -80,7 +78,7 @@ fn or_is(before: bool, t: u64, kind: u64) -> bool
 }
 
 // Refusals 17 to 19: the optional chunks, by file position.
-fn optional(s: &[u8], count: usize) -> Check
+pub(crate) fn optional(s: &[u8], count: usize) -> Check
     requires { ⌜ Judged (now s) count ⌝ }
     ensures { λ r. ⌜ verdictOf r ≡ optionalFault (now (s .entry)) count ⌝ }
 {
@@ -101,15 +99,4 @@ fn optional(s: &[u8], count: usize) -> Check
         }
     }
     Check::Good
-}
-
-// The same, where it may be known that there is no such chunk.
-pub(crate) fn optional_if(plain: bool, s: &[u8], count: usize) -> Check
-    requires { ⌜ Judged (now s) count × (plain ≡ true → allPlain (chunksFrom (now s) (place count)) ≡ true) ⌝ }
-    ensures { λ r. ⌜ verdictOf r ≡ optionalFault (now (s .entry)) count ⌝ }
-{
-    if plain {
-        return Check::Good;
-    }
-    optional(s, count)
 }

@@ -4,8 +4,8 @@ use mathlib.Core.Path.{sym, ap, _∙_}
 use Prim.Native.Nat.{ℕ}
 use Rattle.reader.specs.Plain.{allPlain}
 use Rattle.reader.specs.Walk.{verdictOf, chunksFrom}
-use Rattle.reader.proofs.ChunkLaws.{fine, walked}
-use Rattle.reader.proofs.Laws.{shaped}
+use Rattle.reader.proofs.ChunkLaws.{fine, walked, unplain}
+use Rattle.reader.proofs.Laws.{shaped, plain-optional}
 use Rattle.reader.proofs.ReadLaws.{first-long, is-shaped, is-judged, plain-behind, read-1, read-2, read-3, read-4, read-5, read-6, read-7, read-8}
 use borrow.Author.Needs.{needs}
 use Rattle.reader.proofs.judge_file.Statement.{statement}
@@ -20,7 +20,7 @@ use Rattle.reader.proofs.chunks.skip.Reads as skip-reads
 use Rattle.reader.proofs.chunks.walk.Reads as walk-reads
 use Rattle.reader.proofs.entries.entries.Reads as entries-reads
 use Rattle.reader.proofs.entries.shape.Reads as shape-reads
-use Rattle.reader.proofs.optional.optional_if.Reads as optional-if-reads
+use Rattle.reader.proofs.optional.optional.Reads as optional-reads
 
 -- src/lib.rt:86:47
 head-requires : tie.Need-head-requires
@@ -120,24 +120,30 @@ returns-6 c = read-6 _ (sym (c .before .before .before .before .before .before .
 enum-told-6 : tie.Need-enum-told-6
 enum-told-6 c = search needs
 
--- src/lib.rt:111:47
-optional-if-requires : tie.Need-optional-if-requires
-optional-if-requires c κs = (is-judged _ (sym (c .before .before .before .before .before .before .before .before .before .before .before .before .before .before .before .before .before .before .before .head .ensures) ∙ ap verdictOf (c .before .before .before .before .before .before .before .before .before .before .before .before .before .before .before .before .before .enum-told .given .1)) (sym (c .before .before .before .before .before .before .before .before .before .before .before .before .before .before .before .before .walk .ensures .0) ∙ ap verdictOf (c .before .before .before .before .before .before .before .before .before .before .before .before .before .before .enum-told2 .given .1)) (sym (c .before .before .before .before .before .before .before .before .before .before .before .before .before .first .ensures) ∙ ap verdictOf (c .before .before .before .before .before .before .before .before .before .before .before .enum-told3 .given .1)) _ (c .before .before .before .before .before .before .before .before .before .before .skip .ensures) (sym (c .before .before .before .before .before .before .before .before .before .second-if .ensures) ∙ ap verdictOf (c .before .before .before .before .before .before .before .enum-told4 .given .1)) (sym (c .before .before .before .before .before .before .shape .ensures) ∙ ap verdictOf (c .before .before .before .before .enum-told5 .given .1)) _ (c .before .before .before .be32-at .ensures .0) (sym (c .before .before .entries .ensures) ∙ ap verdictOf (c .enum-told6 .given .1)), plain-behind _ (sym (c .before .before .before .before .before .before .before .before .before .before .before .before .before .before .before .before .before .before .before .head .ensures) ∙ ap verdictOf (c .before .before .before .before .before .before .before .before .before .before .before .before .before .before .before .before .before .enum-told .given .1)) (sym (c .before .before .before .before .before .before .before .before .before .before .before .before .before .before .before .before .walk .ensures .0) ∙ ap verdictOf (c .before .before .before .before .before .before .before .before .before .before .before .before .before .before .enum-told2 .given .1)) (sym (c .before .before .before .before .before .before .before .before .before .before .before .before .before .first .ensures) ∙ ap verdictOf (c .before .before .before .before .before .before .before .before .before .before .before .enum-told3 .given .1)) _ (c .before .before .before .before .before .before .before .before .before .before .skip .ensures) (sym (c .before .before .before .before .before .before .before .before .before .second-if .ensures) ∙ ap verdictOf (c .before .before .before .before .before .before .before .enum-told4 .given .1)) (sym (c .before .before .before .before .before .before .shape .ensures) ∙ ap verdictOf (c .before .before .before .before .enum-told5 .given .1)) _ (c .before .before .before .be32-at .ensures .0) _ (c .before .before .before .before .before .before .before .before .before .before .before .before .before .before .before .before .walk .ensures .1))
+-- src/lib.rt:112:9
+returns-7 : tie.Need-returns-7
+returns-7 c =
+    let plain = plain-behind _ (sym (c .before .before .before .before .before .before .before .before .before .before .before .before .before .before .before .before .before .before .before .before .head .ensures) ∙ ap verdictOf (c .before .before .before .before .before .before .before .before .before .before .before .before .before .before .before .before .before .before .enum-told .given .1)) (sym (c .before .before .before .before .before .before .before .before .before .before .before .before .before .before .before .before .before .walk .ensures .0) ∙ ap verdictOf (c .before .before .before .before .before .before .before .before .before .before .before .before .before .before .before .enum-told2 .given .1)) (sym (c .before .before .before .before .before .before .before .before .before .before .before .before .before .before .first .ensures) ∙ ap verdictOf (c .before .before .before .before .before .before .before .before .before .before .before .before .enum-told3 .given .1)) _ (c .before .before .before .before .before .before .before .before .before .before .before .skip .ensures) (sym (c .before .before .before .before .before .before .before .before .before .before .second-if .ensures) ∙ ap verdictOf (c .before .before .before .before .before .before .before .before .enum-told4 .given .1)) (sym (c .before .before .before .before .before .before .before .shape .ensures) ∙ ap verdictOf (c .before .before .before .before .before .enum-told5 .given .1)) _ (c .before .before .before .before .be32-at .ensures .0) _ (c .before .before .before .before .before .before .before .before .before .before .before .before .before .before .before .before .before .walk .ensures .1) (c .if1 .taken) in
+    (read-8 _ (sym (c .before .before .before .before .before .before .before .before .before .before .before .before .before .before .before .before .before .before .before .before .head .ensures) ∙ ap verdictOf (c .before .before .before .before .before .before .before .before .before .before .before .before .before .before .before .before .before .before .enum-told .given .1)) (sym (c .before .before .before .before .before .before .before .before .before .before .before .before .before .before .before .before .before .walk .ensures .0) ∙ ap verdictOf (c .before .before .before .before .before .before .before .before .before .before .before .before .before .before .before .enum-told2 .given .1)) (sym (c .before .before .before .before .before .before .before .before .before .before .before .before .before .before .first .ensures) ∙ ap verdictOf (c .before .before .before .before .before .before .before .before .before .before .before .before .enum-told3 .given .1)) _ (c .before .before .before .before .before .before .before .before .before .before .before .skip .ensures) (sym (c .before .before .before .before .before .before .before .before .before .before .second-if .ensures) ∙ ap verdictOf (c .before .before .before .before .before .before .before .before .enum-told4 .given .1)) (sym (c .before .before .before .before .before .before .before .shape .ensures) ∙ ap verdictOf (c .before .before .before .before .before .enum-told5 .given .1)) _ (c .before .before .before .before .be32-at .ensures .0) (sym (c .before .before .before .entries .ensures) ∙ ap verdictOf (c .before .enum-told6 .given .1)) (plain-optional _ _ plain), λ e. plain)
 
--- src/lib.rt:111:29
+-- src/lib.rt:114:47
+optional-requires : tie.Need-optional-requires
+optional-requires c κs = is-judged _ (sym (c .before .before .before .before .before .before .before .before .before .before .before .before .before .before .before .before .before .before .before .before .head .ensures) ∙ ap verdictOf (c .before .before .before .before .before .before .before .before .before .before .before .before .before .before .before .before .before .before .enum-told .given .1)) (sym (c .before .before .before .before .before .before .before .before .before .before .before .before .before .before .before .before .before .walk .ensures .0) ∙ ap verdictOf (c .before .before .before .before .before .before .before .before .before .before .before .before .before .before .before .enum-told2 .given .1)) (sym (c .before .before .before .before .before .before .before .before .before .before .before .before .before .before .first .ensures) ∙ ap verdictOf (c .before .before .before .before .before .before .before .before .before .before .before .before .enum-told3 .given .1)) _ (c .before .before .before .before .before .before .before .before .before .before .before .skip .ensures) (sym (c .before .before .before .before .before .before .before .before .before .before .second-if .ensures) ∙ ap verdictOf (c .before .before .before .before .before .before .before .before .enum-told4 .given .1)) (sym (c .before .before .before .before .before .before .before .shape .ensures) ∙ ap verdictOf (c .before .before .before .before .before .enum-told5 .given .1)) _ (c .before .before .before .before .be32-at .ensures .0) (sym (c .before .before .before .entries .ensures) ∙ ap verdictOf (c .before .enum-told6 .given .1))
+
+-- src/lib.rt:114:29
 enum-known-number-6 : tie.Need-enum-known-number-6
 enum-known-number-6 c = search needs
 
--- src/lib.rt:112:9
-returns-7 : tie.Need-returns-7
-returns-7 c = read-7 _ (sym (c .before .before .before .before .before .before .before .before .before .before .before .before .before .before .before .before .before .before .before .before .before .before .before .head .ensures) ∙ ap verdictOf (c .before .before .before .before .before .before .before .before .before .before .before .before .before .before .before .before .before .before .before .before .before .enum-told .given .1)) (sym (c .before .before .before .before .before .before .before .before .before .before .before .before .before .before .before .before .before .before .before .before .walk .ensures .0) ∙ ap verdictOf (c .before .before .before .before .before .before .before .before .before .before .before .before .before .before .before .before .before .before .enum-told2 .given .1)) (sym (c .before .before .before .before .before .before .before .before .before .before .before .before .before .before .before .before .before .first .ensures) ∙ ap verdictOf (c .before .before .before .before .before .before .before .before .before .before .before .before .before .before .before .enum-told3 .given .1)) _ (c .before .before .before .before .before .before .before .before .before .before .before .before .before .before .skip .ensures) (sym (c .before .before .before .before .before .before .before .before .before .before .before .before .before .second-if .ensures) ∙ ap verdictOf (c .before .before .before .before .before .before .before .before .before .before .before .enum-told4 .given .1)) (sym (c .before .before .before .before .before .before .before .before .before .before .shape .ensures) ∙ ap verdictOf (c .before .before .before .before .before .before .before .before .enum-told5 .given .1)) _ (c .before .before .before .before .before .before .before .be32-at .ensures .0) (sym (c .before .before .before .before .before .before .entries .ensures) ∙ ap verdictOf (c .before .before .before .before .enum-told6 .given .1)) _ _ (sym (c .before .before .before .optional-if .ensures) ∙ ap verdictOf (c .before .number6 .given .1))
+-- src/lib.rt:115:9
+returns-8 : tie.Need-returns-8
+returns-8 c = read-7 _ (sym (c .before .before .before .before .before .before .before .before .before .before .before .before .before .before .before .before .before .before .before .before .before .before .before .before .head .ensures) ∙ ap verdictOf (c .before .before .before .before .before .before .before .before .before .before .before .before .before .before .before .before .before .before .before .before .before .before .enum-told .given .1)) (sym (c .before .before .before .before .before .before .before .before .before .before .before .before .before .before .before .before .before .before .before .before .before .walk .ensures .0) ∙ ap verdictOf (c .before .before .before .before .before .before .before .before .before .before .before .before .before .before .before .before .before .before .before .enum-told2 .given .1)) (sym (c .before .before .before .before .before .before .before .before .before .before .before .before .before .before .before .before .before .before .first .ensures) ∙ ap verdictOf (c .before .before .before .before .before .before .before .before .before .before .before .before .before .before .before .before .enum-told3 .given .1)) _ (c .before .before .before .before .before .before .before .before .before .before .before .before .before .before .before .skip .ensures) (sym (c .before .before .before .before .before .before .before .before .before .before .before .before .before .before .second-if .ensures) ∙ ap verdictOf (c .before .before .before .before .before .before .before .before .before .before .before .before .enum-told4 .given .1)) (sym (c .before .before .before .before .before .before .before .before .before .before .before .shape .ensures) ∙ ap verdictOf (c .before .before .before .before .before .before .before .before .before .enum-told5 .given .1)) _ (c .before .before .before .before .before .before .before .before .be32-at .ensures .0) (sym (c .before .before .before .before .before .before .before .entries .ensures) ∙ ap verdictOf (c .before .before .before .before .before .enum-told6 .given .1)) _ _ (sym (c .before .before .before .optional .ensures) ∙ ap verdictOf (c .before .number6 .given .1))
 
 enum-told-7 : tie.Need-enum-told-7
 enum-told-7 c = search needs
 
 -- src/lib.rt:83:1
-returns-8 : tie.Need-returns-8
-returns-8 c = (read-8 _ (sym (c .before .before .before .before .before .before .before .before .before .before .before .before .before .before .before .before .before .before .before .before .before .before .head .ensures) ∙ ap verdictOf (c .before .before .before .before .before .before .before .before .before .before .before .before .before .before .before .before .before .before .before .before .enum-told .given .1)) (sym (c .before .before .before .before .before .before .before .before .before .before .before .before .before .before .before .before .before .before .before .walk .ensures .0) ∙ ap verdictOf (c .before .before .before .before .before .before .before .before .before .before .before .before .before .before .before .before .before .enum-told2 .given .1)) (sym (c .before .before .before .before .before .before .before .before .before .before .before .before .before .before .before .before .first .ensures) ∙ ap verdictOf (c .before .before .before .before .before .before .before .before .before .before .before .before .before .before .enum-told3 .given .1)) _ (c .before .before .before .before .before .before .before .before .before .before .before .before .before .skip .ensures) (sym (c .before .before .before .before .before .before .before .before .before .before .before .before .second-if .ensures) ∙ ap verdictOf (c .before .before .before .before .before .before .before .before .before .before .enum-told4 .given .1)) (sym (c .before .before .before .before .before .before .before .before .before .shape .ensures) ∙ ap verdictOf (c .before .before .before .before .before .before .before .enum-told5 .given .1)) _ (c .before .before .before .before .before .before .be32-at .ensures .0) (sym (c .before .before .before .before .before .entries .ensures) ∙ ap verdictOf (c .before .before .before .enum-told6 .given .1)) (sym (c .before .before .optional-if .ensures) ∙ ap verdictOf (c .enum-told7 .given .1)), plain-behind _ (sym (c .before .before .before .before .before .before .before .before .before .before .before .before .before .before .before .before .before .before .before .before .before .before .head .ensures) ∙ ap verdictOf (c .before .before .before .before .before .before .before .before .before .before .before .before .before .before .before .before .before .before .before .before .enum-told .given .1)) (sym (c .before .before .before .before .before .before .before .before .before .before .before .before .before .before .before .before .before .before .before .walk .ensures .0) ∙ ap verdictOf (c .before .before .before .before .before .before .before .before .before .before .before .before .before .before .before .before .before .enum-told2 .given .1)) (sym (c .before .before .before .before .before .before .before .before .before .before .before .before .before .before .before .before .first .ensures) ∙ ap verdictOf (c .before .before .before .before .before .before .before .before .before .before .before .before .before .before .enum-told3 .given .1)) _ (c .before .before .before .before .before .before .before .before .before .before .before .before .before .skip .ensures) (sym (c .before .before .before .before .before .before .before .before .before .before .before .before .second-if .ensures) ∙ ap verdictOf (c .before .before .before .before .before .before .before .before .before .before .enum-told4 .given .1)) (sym (c .before .before .before .before .before .before .before .before .before .shape .ensures) ∙ ap verdictOf (c .before .before .before .before .before .before .before .enum-told5 .given .1)) _ (c .before .before .before .before .before .before .be32-at .ensures .0) _ (c .before .before .before .before .before .before .before .before .before .before .before .before .before .before .before .before .before .before .before .walk .ensures .1))
+returns-9 : tie.Need-returns-9
+returns-9 c = (read-8 _ (sym (c .before .before .before .before .before .before .before .before .before .before .before .before .before .before .before .before .before .before .before .before .before .before .before .head .ensures) ∙ ap verdictOf (c .before .before .before .before .before .before .before .before .before .before .before .before .before .before .before .before .before .before .before .before .before .enum-told .given .1)) (sym (c .before .before .before .before .before .before .before .before .before .before .before .before .before .before .before .before .before .before .before .before .walk .ensures .0) ∙ ap verdictOf (c .before .before .before .before .before .before .before .before .before .before .before .before .before .before .before .before .before .before .enum-told2 .given .1)) (sym (c .before .before .before .before .before .before .before .before .before .before .before .before .before .before .before .before .before .first .ensures) ∙ ap verdictOf (c .before .before .before .before .before .before .before .before .before .before .before .before .before .before .before .enum-told3 .given .1)) _ (c .before .before .before .before .before .before .before .before .before .before .before .before .before .before .skip .ensures) (sym (c .before .before .before .before .before .before .before .before .before .before .before .before .before .second-if .ensures) ∙ ap verdictOf (c .before .before .before .before .before .before .before .before .before .before .before .enum-told4 .given .1)) (sym (c .before .before .before .before .before .before .before .before .before .before .shape .ensures) ∙ ap verdictOf (c .before .before .before .before .before .before .before .before .enum-told5 .given .1)) _ (c .before .before .before .before .before .before .before .be32-at .ensures .0) (sym (c .before .before .before .before .before .before .entries .ensures) ∙ ap verdictOf (c .before .before .before .before .enum-told6 .given .1)) (sym (c .before .before .optional .ensures) ∙ ap verdictOf (c .enum-told7 .given .1)), λ e. unplain _ e)
 
 pub judge-file-spec : {M : Type 1} → statement M
 judge-file-spec =
@@ -169,8 +175,9 @@ judge-file-spec =
     enum-known-number-5
     returns-6
     enum-told-6
-    optional-if-requires
-    enum-known-number-6
     returns-7
+    optional-requires
+    enum-known-number-6
+    returns-8
     enum-told-7
-    returns-8)
+    returns-9)
