@@ -9,10 +9,12 @@
  *   - It answers. Nothing is allocated, nothing is kept between calls, no lock is taken, and nothing is printed.
  *   - The answer's `refusal` is 0 where the call was carried out; else it is one of the numbers below, and `place` is where
  *     in the file the reason lies (0 where a number has no place).
- *   - A refused call has written nothing: every lent byte is as it was, and the lengths handed back are those given.
+ *   - A refused call has written nothing: every lent byte is as it was. The `length` and `used` that a refused edit or undo hands
+ *     back are those given.
  *   - No byte outside the lent buffers is read or written.
  *
- * These promises are proved of the library's code. They rest on what the caller lends:
+ * These promises are proved of the library's code. That this header declares that code is not proved but tested (host/test); it is
+ * written for 64-bit machines, where size_t has 64 bits. The promises rest on what the caller lends:
  *
  *   - A pointer and the size_t that follows it name one array of that many bytes, which nothing else writes during the call. A
  *     pointer may be null where its size is 0.
@@ -48,7 +50,10 @@ enum {
 #define BLORB_DATA BLORB_TAG('D', 'a', 't', 'a')
 #define BLORB_EXEC BLORB_TAG('E', 'x', 'e', 'c')
 
-/* Refusals. The first reason in the order of the numbers 1 to 19 decides about a file. */
+/*
+ * Refusals. A file's reasons are looked for in the order of the numbers, but 6 and 7 chunk by chunk, 12 to 16 entry by entry, and 17
+ * to 19 chunk by chunk again: the first faulty chunk or entry decides.
+ */
 enum {
     BLORB_DONE = 0,
 

@@ -26,7 +26,7 @@ abbrev pub Judges : Judgement → List ℕ → Type 0
 Judges (judgement.Good n plain) f = (Accepted (length f) n ≡ readOf f) × (plain ≡ true → allPlain (chunksFrom f (place n)) ≡ true)
 Judges (judgement.Refused k p) f = Refused k p ≡ readOf f
 
--- what is known once rules 1 to 19 hold of a file with count entries
+-- what is known once refusals 1 to 19 are ruled out for a file with count entries
 pub record Passed (f : List ℕ) (count : ℕ) : Type 0 where
   pub judged : Judged f count
   pub optional : optionalFault f count ≡ accept
