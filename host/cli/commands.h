@@ -1,0 +1,26 @@
+/* The commands. Each does its work, says what is refused or fails, and gives the exit status. */
+#ifndef COMMANDS_H
+#define COMMANDS_H
+
+#include <stdint.h>
+
+/* What the user asked for; what a command does not take stays zero. */
+typedef struct request {
+    const char *file;
+    char usage[4];
+    uint32_t number;
+    char type[4];
+    const char *data; /* the path of the data, "-" for standard input */
+    const char *out;  /* where `get` writes; null for standard output */
+} request;
+
+int run_list(const request *r);
+int run_check(const request *r);
+int run_get(const request *r);
+int run_new(const request *r);
+int run_add(const request *r);
+int run_replace(const request *r);
+int run_remove(const request *r);
+int run_undo(const request *r);
+
+#endif

@@ -1,0 +1,96 @@
+#define _XOPEN_SOURCE 700
+#include "contents.h"
+
+#include <fcntl.h>
+#include <inttypes.h>
+#include <stdio.h>
+#include <stdlib.h>
+#include <string.h>
+#include <unistd.h>
+
+#include "files.h"
+#include "words.h"
+
+/* Where the first entry stands, and its parts in it. */
+enum { FIRST_ENTRY = 24, NUMBER_AT = 4, START_AT = 8 };
+
+uint32_t number_in(const uint8_t *at)
+{
+    return BLORB_TAG(at[0], at[1], at[2], at[3]);
+}
+
+entry entry_at(const uint8_t *file, size_t i)
+{
+    const uint8_t *at = file + FIRST_ENTRY + BLORB_ENTRY_SIZE * i;
+    entry e = {.number = number_in(at + NUMBER_AT), .start = number_in(at + START_AT)};
+    memcpy(e.usage, at, sizeof e.usage);
+    return e;
+}
+
+/* A refusal of an entry names it, and its chunk's type where that is the reason. */
+static int refused_contents(const contents *c, const char *shown)
+{
+    char about[120] = "", usage[SHOWN_SIZE], type[SHOWN_SIZE];
+    uint64_t number = c->read.refusal;
+    if (number >= BLORB_USAGE && number <= BLORB_REPEATED) {
+        size_t i = (size_t)(c->read.place - FIRST_ENTRY) / BLORB_ENTRY_SIZE;
+        entry e = entry_at(c->file, i);
+        show_tag(e.usage, usage);
+        int n = snprintf(about, sizeof about, "entry %zu, %s %" PRIu32 ", start %" PRIu32, i, usage, e.number, e.start);
+        if (number == BLORB_TYPE) {
+            show_tag((const char *)c->file + e.start, type);
+            snprintf(about + n, sizeof about - (size_t)n, ", chunk %s", type);
+        }
+    }
+    return say_refused(shown, number, c->read.place, about);
+}
+
+int load_contents(contents *c, const char *shown, int fd)
+{
+    *c = (contents){0};
+    if (fd < 0)
+        return say_failed(shown, "the file cannot be opened");
+    c->file = malloc(BLORB_MAX_SIZE + 1);
+    /* One byte over the limit is enough to have a longer file refused. */
+    int done = c->file == NULL ? -1 : fstat(fd, &c->status);
+    if (done == 0)
+        done = read_all(fd, c->file, BLORB_MAX_SIZE + 1, &c->length);
+    int status = done == 0 ? CARRIED_OUT : say_failed(shown, "the file cannot be read");
+    close(fd);
+    if (status != CARRIED_OUT)
+        return status;
+    c->read = blorb_read(c->file, c->length);
+    return c->read.refusal == BLORB_DONE ? CARRIED_OUT : refused_contents(c, shown);
+}
+
+void free_contents(contents *c)
+{
+    free(c->file);
+}
+
+static int is_whole_aiff(const data *d)
+{
+    return d->length >= 12 && memcmp(d->at, "FORM", 4) == 0 && memcmp(d->at + 8, "AIFF", 4) == 0
+        && number_in(d->at + 4) == d->length - BLORB_HEADER_SIZE;
+}
+
+int load_data(data *d, const char *path, const char type[4])
+{
+    /* Longer data makes the file too long, and so does its beginning of this length. */
+    size_t limit = BLORB_MAX_SIZE + BLORB_HEADER_SIZE + 1;
+    int input = strcmp(path, "-") == 0;
+    int fd = input ? STDIN_FILENO : open(path, O_RDONLY | O_CLOEXEC);
+    *d = (data){0};
+    if (fd < 0)
+        return say_failed(path, "the data cannot be opened");
+    d->at = d->room = malloc(limit);
+    int done = d->room == NULL ? -1 : read_all(fd, d->room, limit, &d->length);
+    int status = done == 0 ? CARRIED_OUT : say_failed(input ? "standard input" : path, "the data cannot be read");
+    if (!input)
+        close(fd);
+    if (status == CARRIED_OUT && memcmp(type, "FORM", 4) == 0 && is_whole_aiff(d)) {
+        d->at += BLORB_HEADER_SIZE;
+        d->length -= BLORB_HEADER_SIZE;
+    }
+    return status;
+}

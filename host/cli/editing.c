@@ -1,0 +1,183 @@
+/* new, add, replace, remove and undo: the commands that write a Blorb file and its journal. */
+#define _XOPEN_SOURCE 700
+#include <fcntl.h>
+#include <inttypes.h>
+#include <stdio.h>
+#include <stdlib.h>
+#include <unistd.h>
+
+#include "blorb.h"
+#include "commands.h"
+#include "contents.h"
+#include "files.h"
+#include "undo_file.h"
+#include "words.h"
+
+/* One of the four calls of the library, on these contents and this journal. */
+typedef blorb_edit_answer call(const request *r, contents *c, journal *j, size_t used, const data *d);
+
+static blorb_edit_answer call_add(const request *r, contents *c, journal *j, size_t used, const data *d)
+{
+    return blorb_add(c->file, BLORB_MAX_SIZE, c->length, j->records, j->room, used, r->usage, r->number, r->type, d->at, d->length);
+}
+
+static blorb_edit_answer call_replace(const request *r, contents *c, journal *j, size_t used, const data *d)
+{
+    return blorb_replace(c->file, BLORB_MAX_SIZE, c->length, j->records, j->room, used, r->usage, r->number, r->type, d->at,
+                         d->length);
+}
+
+static blorb_edit_answer call_remove(const request *r, contents *c, journal *j, size_t used, const data *d)
+{
+    (void)d;
+    return blorb_remove(c->file, BLORB_MAX_SIZE, c->length, j->records, j->room, used, r->usage, r->number);
+}
+
+static blorb_edit_answer call_undo(const request *r, contents *c, journal *j, size_t used, const data *d)
+{
+    (void)r;
+    (void)d;
+    return blorb_undo(c->file, BLORB_MAX_SIZE, c->length, j->records, j->room, used);
+}
+
+static int refused_edit(const request *r, const blorb_edit_answer *a)
+{
+    char about[80] = "", usage[SHOWN_SIZE], type[SHOWN_SIZE];
+    show_tag(r->usage, usage);
+    show_tag(r->type, type);
+    if (r->data != NULL)
+        snprintf(about, sizeof about, "%s %" PRIu32 " %s", usage, r->number, type);
+    else if (r->usage[0] != '\0')
+        snprintf(about, sizeof about, "%s %" PRIu32, usage, r->number);
+    return say_refused(r->file, a->refusal, a->place, about);
+}
+
+/* A journal that is not this file's is never overwritten, and never undone. */
+static int unusable_journal(const request *r, journal_answer answer, int undoing)
+{
+    const char *why = answer == JOURNAL_DAMAGED
+        ? "its journal (the same name with .undo) is damaged or no journal of this program"
+        : "its journal (the same name with .undo) is not this file's, which another program has changed or replaced";
+    if (answer == JOURNAL_FAILED)
+        return say_failed(r->file, "its journal (the same name with .undo) cannot be read");
+    if (undoing)
+        return say_refused(r->file, BLORB_RECORD, 0, why);
+    return say_cannot(r->file, why, "Put back the file that the journal belongs to, or move the journal away to begin a new one.");
+}
+
+static int store(const request *r, const place *p, const contents *c, journal *j, const file_state *before,
+                 const file_state *after)
+{
+    switch (store_pair(p, &c->status, c->file, j, before, after)) {
+    case PAIR_NEW:
+        return CARRIED_OUT;
+    case PAIR_OLD:
+        return say_failed(r->file, "the file is as it was, since the new one cannot be written");
+    default:
+        return say_failed(r->file, "the new file is in place, but the disk has not confirmed it");
+    }
+}
+
+static int edit_contents(const request *r, const place *p, contents *c, call *carry_out, const data *d)
+{
+    journal j;
+    int status;
+    file_state before = state_of(c->file, c->length, 0);
+    journal_answer found = load_journal(p, &before, &j);
+    if (found != JOURNAL_READY) {
+        status = unusable_journal(r, found, carry_out == call_undo);
+    } else {
+        blorb_edit_answer a = carry_out(r, c, &j, (size_t)before.used, d);
+        if (a.refusal != BLORB_DONE) {
+            status = refused_edit(r, &a);
+        } else {
+            file_state after = state_of(c->file, (size_t)a.length, (size_t)a.used);
+            status = store(r, p, c, &j, &before, &after);
+        }
+    }
+    free(j.bytes);
+    return status;
+}
+
+static int edit(const request *r, call *carry_out, const data *d)
+{
+    place p;
+    contents c = {0};
+    int status;
+    if (open_place(&p, r->file) != 0) {
+        status = say_failed(r->file, "its folder cannot be opened");
+    } else {
+        /* Opened for writing too, so that a file which the user may not change is left alone. */
+        status = load_contents(&c, r->file, openat(p.folder, p.name, O_RDWR | O_CLOEXEC));
+        if (status == CARRIED_OUT && !S_ISREG(c.status.st_mode))
+            status = say_cannot(r->file, "this is not a plain file", "Copy it to a plain file and edit that.");
+        if (status == CARRIED_OUT)
+            status = edit_contents(r, &p, &c, carry_out, d);
+    }
+    free_contents(&c);
+    close_place(&p);
+    return status;
+}
+
+static int edit_with_data(const request *r, call *carry_out)
+{
+    data d;
+    int status = load_data(&d, r->data, r->type);
+    if (status == CARRIED_OUT)
+        status = edit(r, carry_out, &d);
+    free(d.room);
+    return status;
+}
+
+int run_add(const request *r)
+{
+    return edit_with_data(r, call_add);
+}
+
+int run_replace(const request *r)
+{
+    return edit_with_data(r, call_replace);
+}
+
+int run_remove(const request *r)
+{
+    return edit(r, call_remove, NULL);
+}
+
+int run_undo(const request *r)
+{
+    return edit(r, call_undo, NULL);
+}
+
+static int is_there(const place *p, const char *name)
+{
+    struct stat status;
+    return fstatat(p->folder, name, &status, AT_SYMLINK_NOFOLLOW) == 0;
+}
+
+/* No file is overwritten, and no journal of an older file of this name is taken for the new one's. */
+static int make_new(const request *r, const place *p)
+{
+    uint8_t blank[BLORB_BLANK_SIZE];
+    if (is_there(p, p->name))
+        return say_cannot(r->file, "there is a file of this name", "Move it away or delete it first, or give another name.");
+    if (is_there(p, p->undo))
+        return say_cannot(r->file, "the journal of an older file (the same name with .undo) is still there",
+                          "Move it away or delete it first, or give another name.");
+    blorb_edit_answer a = blorb_blank(blank, sizeof blank);
+    if (stage(p, p->temp, blank, (size_t)a.length, NULL) != 0)
+        return say_failed(r->file, "the file cannot be written");
+    if (install(p, p->temp, p->name) != 0) {
+        discard(p, p->temp);
+        return say_failed(r->file, "the file cannot be written");
+    }
+    return confirm(p) == 0 ? CARRIED_OUT : say_failed(r->file, "the new file is in place, but the disk has not confirmed it");
+}
+
+int run_new(const request *r)
+{
+    place p;
+    int status = open_place(&p, r->file) == 0 ? make_new(r, &p) : say_failed(r->file, "its folder cannot be opened");
+    close_place(&p);
+    return status;
+}

@@ -1,0 +1,46 @@
+/*
+ * Reading and writing whole files. A file is written under a temporary name in its own folder, confirmed by the disk, and then
+ * renamed: whoever looks finds the old file or the new one, never a part.
+ */
+#ifndef FILES_H
+#define FILES_H
+
+#include <stddef.h>
+#include <stdint.h>
+#include <sys/stat.h>
+
+/* Where a file is: its folder, held open and locked against other runs of this program, and the names in it. */
+typedef struct place {
+    const char *shown; /* the path as the user gave it, for messages */
+    int folder;
+    char *name;        /* FILE */
+    char *temp;        /* FILE.blorb-temp */
+    char *undo;        /* FILE.undo */
+    char *undo_temp;   /* FILE.undo.blorb-temp */
+} place;
+
+/* All of these give 0, or -1 and errno. */
+
+/* Follows symbolic links; where the file is not there, its folder must be. Waits for the lock. */
+int open_place(place *p, const char *path);
+void close_place(place *p);
+
+/* Reads until the end of the file, but no more than `limit` bytes. */
+int read_all(int fd, uint8_t *to, size_t limit, size_t *length);
+
+int write_all(int fd, const uint8_t *from, size_t length);
+
+/*
+ * Writes a file under its temporary name, with the permissions and where permitted the owner of `like`, or those of a new file
+ * where `like` is null. What an interrupted run has left under that name gives way. On failure nothing is left.
+ */
+int stage(const place *p, const char *temp, const uint8_t *from, size_t length, const struct stat *like);
+
+/* Gives a staged file its name. The disk has confirmed it only after `confirm`. */
+int install(const place *p, const char *temp, const char *name);
+int confirm(const place *p);
+
+/* Removes a name, if it is there. */
+void discard(const place *p, const char *name);
+
+#endif

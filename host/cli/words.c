@@ -1,0 +1,126 @@
+#include "words.h"
+
+#include <errno.h>
+#include <inttypes.h>
+#include <stdio.h>
+#include <string.h>
+
+#include "blorb.h"
+
+typedef struct meaning {
+    uint64_t number;
+    const char *sentence;
+    const char *advice; /* or null */
+} meaning;
+
+#define PACK_AGAIN "Pack the file again with a program that writes it rightly."
+#define GET_AGAIN "It was probably cut short on its way: get it again."
+#define SEE_LIST "`blorb list` shows what the file has."
+#define TYPES \
+    "Pict takes PNG, JPEG, or Rect with 8 bytes; Snd takes OGGV, MOD, SONG, or FORM with a whole AIFF file whose\n" \
+    "  FORM length is its own length less 8; Data takes TEXT or BINA; Exec takes ZCOD, GLUL, TAD2, TAD3, HUGO, ALAN,\n" \
+    "  ADRI, LEVE, AGT, MAGS, ADVS or EXEC."
+
+static const meaning meanings[] = {
+    {BLORB_TOO_LONG, "the file is longer than 16,777,216 bytes", "Pack it again with fewer or smaller resources."},
+    {BLORB_TOO_SHORT, "the file has fewer than 12 bytes", GET_AGAIN},
+    {BLORB_NO_FORM, "the file does not begin with 'FORM', so it is no Blorb file", "Check the file's name."},
+    {BLORB_NO_IFRS, "the file's form type is not 'IFRS', so it is no Blorb file", "Check the file's name."},
+    {BLORB_FORM_LENGTH, "the length in the file's first chunk is not the file's length less 8", GET_AGAIN},
+    {BLORB_CHUNK_CUT, "a chunk runs past the end of the file", GET_AGAIN},
+    {BLORB_PADDING, "the padding byte behind a chunk of odd length is not zero", "Set this byte to zero, or pack the file again."},
+    {BLORB_NO_INDEX, "the first chunk is not the index 'RIdx'", PACK_AGAIN},
+    {BLORB_SECOND_INDEX, "there is a second index 'RIdx'", PACK_AGAIN},
+    {BLORB_INDEX_LENGTH, "the length of the index does not agree with its count of entries", PACK_AGAIN},
+    {BLORB_TOO_MANY, "the index has more than 4,096 entries", "Pack the file again with fewer resources."},
+    {BLORB_USAGE, "the usage of an entry is none of Pict, Snd, Data and Exec", PACK_AGAIN},
+    {BLORB_START, "no chunk other than the index begins where an entry says", PACK_AGAIN},
+    {BLORB_TYPE, "the type of a chunk does not suit the usage of its entry", TYPES},
+    {BLORB_EXEC_NUMBER, "an Exec has a number other than 0", PACK_AGAIN},
+    {BLORB_REPEATED, "an earlier entry has the same usage and number", PACK_AGAIN},
+    {BLORB_SECOND_OPTIONAL, "there is a second 'RelN' or 'Fspc' chunk", PACK_AGAIN},
+    {BLORB_OPTIONAL_LENGTH, "a 'RelN' chunk is not 2 bytes long, or an 'Fspc' chunk not 4", PACK_AGAIN},
+    {BLORB_FRONTISPIECE, "the frontispiece 'Fspc' names a picture that is not in the index or is a Rect", PACK_AGAIN},
+    {BLORB_LENGTHS, "a length exceeds its buffer", NULL},
+    {BLORB_RECORD, "the journal's last record is damaged or not this file's", NULL},
+    {BLORB_NOT_THERE, "there is no such resource", SEE_LIST},
+    {BLORB_SHARED, "another resource shares the chunk, and would change too",
+     "Remove this resource and add it again: the other one keeps the old data."},
+    {BLORB_FILE_ROOM, "there is no room for the file", NULL},
+    {BLORB_JOURNAL_ROOM, "there is no room in the journal", NULL},
+    {BLORB_NOTHING_TO_UNDO, "there is nothing to undo", NULL},
+    {BLORB_RESULT_TOO_LONG, "the file would be longer than 16,777,216 bytes", "Use smaller data, or remove another resource first."},
+    {BLORB_RESULT_SECOND_INDEX, "a resource may not have the index's type 'RIdx'", TYPES},
+    {BLORB_RESULT_TOO_MANY, "the index would have more than 4,096 entries", "Remove another resource first."},
+    {BLORB_RESULT_USAGE, "there is no such usage", "Use Pict, Snd, Data or Exec."},
+    {BLORB_RESULT_TYPE, "the type or its data does not suit the usage", TYPES},
+    {BLORB_RESULT_EXEC_NUMBER, "an Exec has the number 0 and no other", "Use the number 0."},
+    {BLORB_RESULT_REPEATED, "the file has a resource with this usage and number",
+     "Use `blorb replace`, or another number. " SEE_LIST},
+    {BLORB_RESULT_FRONTISPIECE, "the frontispiece 'Fspc' names this picture, so it must stay and be no Rect",
+     "Replace it by a picture of type PNG or JPEG."},
+};
+
+void show_tag(const char tag[4], char shown[SHOWN_SIZE])
+{
+    size_t n = 0;
+    shown[n++] = '\'';
+    for (int i = 0; i < 4; i++) {
+        unsigned char c = (unsigned char)tag[i];
+        if (c >= ' ' && c <= '~')
+            shown[n++] = (char)c;
+        else
+            n += (size_t)snprintf(shown + n, 5, "\\x%02x", (unsigned)c);
+    }
+    shown[n++] = '\'';
+    shown[n] = '\0';
+}
+
+static void say_advice(const char *advice)
+{
+    if (advice != NULL)
+        fprintf(stderr, "  %s\n", advice);
+}
+
+int say_refused(const char *file, uint64_t number, uint64_t place, const char *about)
+{
+    meaning known = {number, "the file breaks a rule of Blorb", NULL};
+    for (size_t i = 0; i < sizeof meanings / sizeof *meanings; i++)
+        if (meanings[i].number == number)
+            known = meanings[i];
+    fprintf(stderr, "blorb: %s: refused %" PRIu64 " at %" PRIu64 ": %s%s%s.\n", file, number, place, known.sentence,
+            about[0] != '\0' ? ": " : "", about);
+    say_advice(known.advice);
+    return REFUSED;
+}
+
+static const char *advice_for(int error)
+{
+    switch (error) {
+    case ENOENT: case ENOTDIR: case EISDIR: case ENAMETOOLONG: case ELOOP:
+        return "Check the name.";
+    case ENOSPC: case EDQUOT: case EFBIG:
+        return "Make room on the disk, or raise the limit on file sizes, and try again.";
+    case EACCES: case EPERM: case EROFS:
+        return "Change the permissions of the file and its folder, or work on a copy in a folder of your own.";
+    case ENOLCK: case EBADF: case EOPNOTSUPP:
+        return "The folder cannot be locked: work on a copy on a local disk.";
+    default:
+        return NULL;
+    }
+}
+
+int say_failed(const char *file, const char *what)
+{
+    int error = errno;
+    fprintf(stderr, "blorb: %s: %s: %s.\n", file, what, strerror(error));
+    say_advice(advice_for(error));
+    return FAILED;
+}
+
+int say_cannot(const char *file, const char *why, const char *advice)
+{
+    fprintf(stderr, "blorb: %s: %s.\n", file, why);
+    say_advice(advice);
+    return FAILED;
+}

@@ -1,0 +1,23 @@
+/* What the program says where something is refused or fails, with what to do about it. All of it goes to standard error. */
+#ifndef WORDS_H
+#define WORDS_H
+
+#include <stdint.h>
+
+/* The program's exit statuses. */
+enum { CARRIED_OUT = 0, REFUSED = 1, FAILED = 2 };
+
+/* Four bytes shown safely: quoted, bytes that are not printable as \xHH. */
+enum { SHOWN_SIZE = 19 };
+void show_tag(const char tag[4], char shown[SHOWN_SIZE]);
+
+/* A refusal of the library; `about` (or "") says what it is about. Gives REFUSED. */
+int say_refused(const char *file, uint64_t number, uint64_t place, const char *about);
+
+/* A failure that errno describes. Gives FAILED. */
+int say_failed(const char *file, const char *what);
+
+/* Any other failure, in a whole sentence, and what to do. Gives FAILED. */
+int say_cannot(const char *file, const char *why, const char *advice);
+
+#endif
