@@ -53,16 +53,15 @@ static int refused_edit(const request *r, const blorb_edit_answer *a)
 }
 
 /* A journal that is not this file's is never overwritten, and never undone. */
-static int unusable_journal(const request *r, journal_answer answer, int undoing)
+static int unusable_journal(const request *r, const place *p, journal_answer answer, int undoing)
 {
-    const char *why = answer == JOURNAL_DAMAGED
-        ? "its journal (the same name with .undo) is damaged or no journal of this program"
-        : "its journal (the same name with .undo) is not this file's, which another program has changed or replaced";
+    char about[512];
+    const char *why = answer == JOURNAL_DAMAGED ? "is damaged, or no journal of this program"
+                                                : "is not this file's, which another program has changed or replaced";
     if (answer == JOURNAL_FAILED)
-        return say_failed(r->file, "its journal (the same name with .undo) cannot be read");
-    if (undoing)
-        return say_refused(r->file, BLORB_RECORD, 0, why);
-    return say_cannot(r->file, why, "Put back the file that the journal belongs to, or move the journal away to begin a new one.");
+        return say_failed(p->undo, "the journal cannot be read");
+    snprintf(about, sizeof about, "the journal %s %s", p->undo, why);
+    return undoing ? say_refused(r->file, BLORB_RECORD, 0, about) : say_cannot(r->file, about, OTHER_JOURNAL);
 }
 
 static int store(const request *r, const place *p, const contents *c, journal *j, const file_state *before,
@@ -85,7 +84,7 @@ static int edit_contents(const request *r, const place *p, contents *c, call *ca
     file_state before = state_of(c->file, c->length, 0);
     journal_answer found = load_journal(p, &before, &j);
     if (found != JOURNAL_READY) {
-        status = unusable_journal(r, found, carry_out == call_undo);
+        status = unusable_journal(r, p, found, carry_out == call_undo);
     } else {
         blorb_edit_answer a = carry_out(r, c, &j, (size_t)before.used, d);
         if (a.refusal != BLORB_DONE) {
@@ -99,21 +98,22 @@ static int edit_contents(const request *r, const place *p, contents *c, call *ca
     return status;
 }
 
+/* Opened for writing too, so that a file which the user may not change is left alone. */
+static int load_to_edit(const request *r, const place *p, contents *c)
+{
+    struct stat status;
+    if (fstatat(p->folder, p->name, &status, 0) == 0 && !S_ISREG(status.st_mode))
+        return say_cannot(r->file, "this is not a plain file", "Copy what it holds to a plain file and edit that.");
+    return load_contents(c, r->file, openat(p->folder, p->name, O_RDWR | O_CLOEXEC));
+}
+
 static int edit(const request *r, call *carry_out, const data *d)
 {
     place p;
     contents c = {0};
-    int status;
-    if (open_place(&p, r->file) != 0) {
-        status = say_failed(r->file, "its folder cannot be opened");
-    } else {
-        /* Opened for writing too, so that a file which the user may not change is left alone. */
-        status = load_contents(&c, r->file, openat(p.folder, p.name, O_RDWR | O_CLOEXEC));
-        if (status == CARRIED_OUT && !S_ISREG(c.status.st_mode))
-            status = say_cannot(r->file, "this is not a plain file", "Copy it to a plain file and edit that.");
-        if (status == CARRIED_OUT)
-            status = edit_contents(r, &p, &c, carry_out, d);
-    }
+    int status = open_place(&p, r->file) == 0 ? load_to_edit(r, &p, &c) : say_failed(r->file, "the file cannot be reached");
+    if (status == CARRIED_OUT)
+        status = edit_contents(r, &p, &c, carry_out, d);
     free_contents(&c);
     close_place(&p);
     return status;
@@ -158,12 +158,12 @@ static int is_there(const place *p, const char *name)
 /* No file is overwritten, and no journal of an older file of this name is taken for the new one's. */
 static int make_new(const request *r, const place *p)
 {
+    const char *advice = "Move it away or delete it first, or give another name.";
     uint8_t blank[BLORB_BLANK_SIZE];
     if (is_there(p, p->name))
-        return say_cannot(r->file, "there is a file of this name", "Move it away or delete it first, or give another name.");
+        return say_cannot(r->file, "there is a file of this name", advice);
     if (is_there(p, p->undo))
-        return say_cannot(r->file, "the journal of an older file (the same name with .undo) is still there",
-                          "Move it away or delete it first, or give another name.");
+        return say_cannot(p->undo, "the journal of an older file of this name is still there", advice);
     blorb_edit_answer a = blorb_blank(blank, sizeof blank);
     if (stage(p, p->temp, blank, (size_t)a.length, NULL) != 0)
         return say_failed(r->file, "the file cannot be written");
@@ -177,7 +177,7 @@ static int make_new(const request *r, const place *p)
 int run_new(const request *r)
 {
     place p;
-    int status = open_place(&p, r->file) == 0 ? make_new(r, &p) : say_failed(r->file, "its folder cannot be opened");
+    int status = open_place(&p, r->file) == 0 ? make_new(r, &p) : say_failed(r->file, "the file cannot be reached");
     close_place(&p);
     return status;
 }

@@ -53,6 +53,18 @@ static int set_names(place *p, const char *name)
     return p->name != NULL && p->temp != NULL && p->undo != NULL && p->undo_temp != NULL ? 0 : -1;
 }
 
+/* One lock for the folder: the file itself is another one after each edit. It ends with the program. */
+static int lock(int folder)
+{
+    int done;
+    do
+        done = flock(folder, LOCK_EX);
+    while (done != 0 && errno == EINTR);
+    if (done != 0)
+        errno = ENOLCK;
+    return done;
+}
+
 int open_place(place *p, const char *path)
 {
     *p = (place){.shown = path, .folder = -1};
@@ -64,7 +76,7 @@ int open_place(place *p, const char *path)
     if (done == 0) {
         slash[slash == real ? 1 : 0] = '\0';
         p->folder = open(real, O_RDONLY | O_DIRECTORY | O_CLOEXEC);
-        done = p->folder < 0 ? -1 : flock(p->folder, LOCK_EX);
+        done = p->folder < 0 ? -1 : lock(p->folder);
     }
     free(real);
     return done;

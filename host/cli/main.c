@@ -1,8 +1,10 @@
 /* blorb: a command line program for those who pack and write text adventures. docs/COMMAND.md describes it. */
 #define _XOPEN_SOURCE 700
+#include <fcntl.h>
 #include <signal.h>
 #include <stdio.h>
 #include <string.h>
+#include <unistd.h>
 
 #include "commands.h"
 #include "words.h"
@@ -135,8 +137,17 @@ static int run(int count, char **words)
     return FAILED;
 }
 
+/* A standard stream that is closed stays unusable, and no file of the program's takes its place. */
+static void hold_streams(void)
+{
+    for (int fd = STDIN_FILENO; fd <= STDERR_FILENO; fd++)
+        if (fcntl(fd, F_GETFD) < 0 && open("/dev/null", fd == STDIN_FILENO ? O_WRONLY : O_RDONLY) < 0)
+            _exit(FAILED);
+}
+
 int main(int count, char **words)
 {
+    hold_streams();
     /* A limit on file sizes is then a failed write like any other, and cleaned up after. */
     signal(SIGXFSZ, SIG_IGN);
     int status = run(count > 0 ? count - 1 : 0, words + 1);

@@ -42,7 +42,7 @@ static const meaning meanings[] = {
     {BLORB_OPTIONAL_LENGTH, "a 'RelN' chunk is not 2 bytes long, or an 'Fspc' chunk not 4", PACK_AGAIN},
     {BLORB_FRONTISPIECE, "the frontispiece 'Fspc' names a picture that is not in the index or is a Rect", PACK_AGAIN},
     {BLORB_LENGTHS, "a length exceeds its buffer", NULL},
-    {BLORB_RECORD, "the journal's last record is damaged or not this file's", NULL},
+    {BLORB_RECORD, "the last edit cannot be undone", OTHER_JOURNAL},
     {BLORB_NOT_THERE, "there is no such resource", SEE_LIST},
     {BLORB_SHARED, "another resource shares the chunk, and would change too",
      "Remove this resource and add it again: the other one keeps the old data."},
@@ -97,13 +97,15 @@ int say_refused(const char *file, uint64_t number, uint64_t place, const char *a
 static const char *advice_for(int error)
 {
     switch (error) {
-    case ENOENT: case ENOTDIR: case EISDIR: case ENAMETOOLONG: case ELOOP:
+    case ENOENT: case ENOTDIR: case EISDIR: case ELOOP:
         return "Check the name.";
+    case ENAMETOOLONG:
+        return "Use a shorter name: 16 more bytes are needed for the names of the journal and of what is being written.";
     case ENOSPC: case EDQUOT: case EFBIG:
         return "Make room on the disk, or raise the limit on file sizes, and try again.";
     case EACCES: case EPERM: case EROFS:
         return "Change the permissions of the file and its folder, or work on a copy in a folder of your own.";
-    case ENOLCK: case EBADF: case EOPNOTSUPP:
+    case ENOLCK:
         return "The folder cannot be locked: work on a copy on a local disk.";
     default:
         return NULL;

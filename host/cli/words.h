@@ -7,6 +7,9 @@
 /* The program's exit statuses. */
 enum { CARRIED_OUT = 0, REFUSED = 1, FAILED = 2 };
 
+/* What to do about a journal that cannot be used. */
+#define OTHER_JOURNAL "Put back the file that the journal belongs to, or move the journal away to begin a new one."
+
 /* Four bytes shown safely: quoted, bytes that are not printable as \xHH. */
 enum { SHOWN_SIZE = 19 };
 void show_tag(const char tag[4], char shown[SHOWN_SIZE]);

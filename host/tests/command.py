@@ -1,0 +1,41 @@
+"""Tests of the command line program: command.py PROGRAM SHIM. Started by host/tests/command, which builds both."""
+import os
+import shutil
+import tempfile
+import time
+from pathlib import Path
+
+import command_kit
+import command_crash
+import command_use
+
+
+# A file system in memory: what the crash tests try does not depend on the disk, and thousands of waits for one would take minutes.
+MEMORY = "/dev/shm" if os.access("/dev/shm", os.W_OK) else None
+
+
+def run_parts(parts, where):
+    work = Path(tempfile.mkdtemp(prefix="blorb-command-", dir=where))
+    work.chmod(0o755)
+    try:
+        for part in parts:
+            before, started = command_kit.checks, time.time()
+            folder = work / part.__name__
+            folder.mkdir()
+            part(folder)
+            print(f"  {part.__name__}: {command_kit.checks - before} checks, {time.time() - started:.1f} s", flush=True)
+    finally:
+        shutil.rmtree(work)
+
+
+def main():
+    begun = time.time()
+    print(f"command: {command_kit.PROGRAM}; seeds are fixed (7, 2004, 15)")
+    run_parts(command_use.PARTS, None)
+    run_parts(command_crash.PARTS, MEMORY)
+    print(f"{command_kit.checks} checks in {time.time() - begun:.0f} s")
+    print("command: ok")
+
+
+if __name__ == "__main__":
+    main()

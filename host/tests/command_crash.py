@@ -1,0 +1,221 @@
+"""The file and its journal as a pair: ended at every step, failing at every step, after a power loss, and with another journal."""
+import errno
+import itertools
+
+from building import Dice, blorb, put
+from command_kit import (ENDED_BY_SHIM, contents, done, expect, failed, jpeg, refused, restore, run, same)
+
+FILE, UNDO = "game.blb", "game.blb.undo"
+TEMPS = {FILE + ".blorb-temp", UNDO + ".blorb-temp"}
+START = blorb([(b"Pict", 1, 0), (b"Pict", 2, 0), (b"Data", 3, 1)], [(b"JPEG", jpeg()), (b"TEXT", b"odd"), (b"ANNO", b"x")])
+ADD = ("add", "Data", "9", "BINA", "-"), b"nine nines"
+REPLACE = ("replace", "Data", "3", "BINA", "-"), b"another text"
+SAME = ("replace", "Data", "3", "TEXT", "-"), b"odd"
+REMOVE = ("remove", "Data", "3"), b""
+REMOVE_SHARED = ("remove", "Pict", "1"), b""
+ANOTHER = ("add", "Data", "77", "TEXT", "-"), b"seventy-seven"
+UNDO_ONE = ("undo",), b""
+
+# What was done before, and the call under test.
+CASES = (
+    ([], ADD), ([], REMOVE), ([REMOVE_SHARED, REPLACE], ADD), ([ADD, REMOVE_SHARED], REPLACE), ([ADD], SAME), ([REPLACE, ADD], REMOVE),
+    ([ADD], REMOVE_SHARED), ([ADD], UNDO_ONE), ([ADD, REPLACE], UNDO_ONE), ([ADD, REMOVE], UNDO_ONE), ([ADD, SAME], UNDO_ONE),
+    ([ADD, REPLACE, UNDO_ONE], REMOVE), ([ADD, REPLACE, REMOVE, UNDO_ONE], UNDO_ONE),
+)
+
+
+def call(folder, step, **more):
+    words, data = step
+    return run(words[0], folder / FILE, *words[1:], stdin=data, **more)
+
+
+class Case:
+    """The pair before the call, the pair after it, the files that each goes back to by undo (the latest first), and the steps."""
+
+    def __init__(self, work, earlier, step):
+        self.folder, self.step = work / "pair", step
+        self.folder.mkdir(exist_ok=True)
+        restore(self.folder, {FILE: START})
+        history = [START]
+        for each in earlier:
+            same(call(self.folder, each).status, 0, f"{each[0]} in preparation")
+            history = history[:-1] if each is UNDO_ONE else history + [self.file()]
+        self.before, self.old = contents(self.folder), history[::-1]
+        log = work / "log"
+        same(call(self.folder, step, shim={"CRASH_LOG": str(log)}).status, 0, f"{step[0]} to its end")
+        self.steps = [tuple(line.split("\t")) for line in log.read_text().splitlines()]
+        log.unlink()
+        self.after = contents(self.folder)
+        self.new = (history[:-1] if step is UNDO_ONE else history + [self.file()])[::-1]
+        same(self.file(), self.new[0], "the new file")
+
+    def file(self):
+        return (self.folder / FILE).read_bytes()
+
+    def readable(self, what):
+        """The pair in the folder is the old or the new one: by the file, and by every undo from here. Gives which."""
+        left = self.file()
+        expect(left in (self.old[0], self.new[0]), f"{what}: the file is the old or the new one")
+        same(done("check", self.folder / FILE)[:8], b"accepted", f"{what}: the file is accepted")
+        files = [left]
+        while (result := run("undo", self.folder / FILE)).status == 0:
+            files.append(self.file())
+        expect("refused 26 at 0" in result.err, f"{what}: at last there is nothing to undo: {result}")
+        possible = [h for h in (self.old, self.new) if h[0] == left]
+        expect(files in possible, f"{what}: undo goes back through {len(files)} files")
+        return "old" if files == self.old else "new"
+
+    def goes_on(self, left, what):
+        """From what was left, the call can be made again where it was not carried out, and nothing stays of the interrupted one."""
+        restore(self.folder, left)
+        if left[FILE] == self.old[0] != self.new[0]:
+            same(call(self.folder, self.step).status, 0, f"{what}: the call made again")
+            same(self.file(), self.new[0], f"{what}: the call made again")
+        same(call(self.folder, ANOTHER).status, 0, f"{what}: another edit")
+        same(set(contents(self.folder)), {FILE, UNDO}, f"{what}: nothing is left of the interrupted call")
+
+
+def ended_at_every_step(work):
+    """Ended before each step, and in the middle of each write."""
+    for earlier, step in CASES:
+        case, kinds = Case(work, earlier, step), set()
+        ends = [(n, {}) for n in range(1, len(case.steps) + 1)]
+        ends += [(n, {"CRASH_HALF": "1"}) for n, _ in ends if case.steps[n - 1][0] == "write"]
+        for n, half in ends:
+            restore(case.folder, case.before)
+            what = f"{step[0]} ended at step {n}{' in its middle' if half else ''}"
+            same(call(case.folder, step, shim={"CRASH_AT": str(n), **half}).status, ENDED_BY_SHIM, what)
+            left = contents(case.folder)
+            kinds.add(case.readable(what))
+            case.goes_on(left, what)
+        same(kinds, {"old", "new"}, f"{step[0]}: both pairs were met")
+
+
+def failing_at_every_step(work):
+    """Each step fails instead: the old pair stays and nothing else is left, but where the disk only does not confirm the new one."""
+    for earlier, step in CASES:
+        case = Case(work, earlier, step)
+        for n in range(1, len(case.steps) + 1):
+            restore(case.folder, case.before)
+            result = call(case.folder, step, shim={"CRASH_AT": str(n), "CRASH_FAIL": str(errno.ENOSPC)})
+            left, what = contents(case.folder), f"{step[0]} failing at step {n}"
+            expect(result.status in (0, 2), f"{what}: {result}")
+            if result.status == 2:
+                sure = "not confirmed" not in result.err
+                same(left[FILE], case.old[0] if sure else case.new[0], f"{what}: what is said is so: {result.err}")
+                expect("Make room" in result.err or "locked" in result.err, f"{what}: advice: {result.err}")
+            expect(not TEMPS & set(left), f"{what}: no temporary file is left")
+            kind = case.readable(what)
+            expect(result.status == 2 or kind == "new", f"{what}: success means the new pair")
+
+
+def after_power_loss(folder, steps, before):
+    """Every pair of names that a power loss can leave, as (file, journal), each by whose bytes it holds.
+
+    What a folder's fsync confirmed stays; of later renames, new names and removals any may be lost. Bytes that no fsync of their
+    file confirmed may be lost: such a file counts as torn.
+    """
+    names, pending, written, states = {n: "before " + n for n in before}, [], {}, set()
+    for what, name, other in steps:
+        if what in ("create", "rename", "unlink"):
+            pending.append((what, name, other))
+        if what in ("create", "write"):
+            written[name] = False
+        if what == "fsync" and name in written:
+            written[name] = True
+        if what == "fsync" and name == folder.name:
+            names, pending = applied(names, pending, written), []
+        for kept in itertools.chain.from_iterable(itertools.combinations(pending, k) for k in range(len(pending) + 1)):
+            left = applied(names, kept, written)
+            states.add((left.get(FILE), left.get(UNDO)))
+    return states
+
+
+def applied(names, operations, written):
+    names = dict(names)
+    for what, name, other in operations:
+        if what == "create":
+            names[name] = "new " + name
+        elif what == "unlink":
+            names.pop(name, None)
+        elif name in names:
+            held = names.pop(name)
+            names[other] = held if written.get(name, True) else "torn"
+    return names
+
+
+def power_loss(work):
+    """Every pair that a power loss can leave, by the steps that the shim wrote down."""
+    for earlier, step in CASES:
+        case = Case(work, earlier, step)
+        # The new journal, also where it is removed at the end: as it is just before the file takes its name.
+        restore(case.folder, case.before)
+        last = max(i for i, s in enumerate(case.steps) if s[0] == "rename")
+        same(call(case.folder, step, shim={"CRASH_AT": str(last + 1)}).status, ENDED_BY_SHIM, f"{step[0]} before its last rename")
+        held = {"before " + FILE: case.before[FILE], "before " + UNDO: case.before.get(UNDO), None: None,
+                "new " + FILE + ".blorb-temp": case.after[FILE], "new " + UNDO + ".blorb-temp": contents(case.folder)[UNDO]}
+        states = after_power_loss(case.folder, case.steps, case.before)
+        expect(3 <= len(states) <= 4, f"{step[0]}: the pairs met: {states}")
+        for state in states:
+            expect(all(name in held for name in state), f"{step[0]}: no name is missing or torn: {state}")
+            restore(case.folder, {n: held[s] for n, s in zip((FILE, UNDO), state) if held[s] is not None})
+            case.readable(f"{step[0]} after a power loss that left {state}")
+
+
+def untouched(work, held, *step):
+    """Undo is refused with 21, an edit ends with 2, and no byte changes."""
+    refused(21, 0, "undo", work / FILE)
+    failed("remove", work / FILE, "Data", "3", saying="journal")
+    failed("add", work / FILE, "Data", "10", "TEXT", "-", saying="Put back")
+    same(contents(work), held, f"a journal that is not this file's, {step}: nothing changes")
+
+
+def other_journals(work):
+    case = Case(work, [ADD, REPLACE], REMOVE)
+    older = Case(work, [ADD], REPLACE).after[UNDO]
+    work, pair, earlier = case.folder, case.after, case.before
+    # Another accepted file, also one of the same length, and one before the last two edits.
+    for other in (START, put(pair[FILE], len(pair[FILE]) - 3, b"?"), case.new[2]):
+        restore(work, {**pair, FILE: other})
+        same(done("check", work / FILE)[:8], b"accepted", "another file")
+        untouched(work, {**pair, FILE: other}, "another file")
+    restore(work, pair)
+    same(case.readable("the file put back"), "new", "the file put back")
+    # The file before the last edit is known to the journal: undo goes on from there.
+    restore(work, {**pair, FILE: earlier[FILE]})
+    same(case.readable("the file before the last edit"), "old", "the file before the last edit")
+    # An older journal does not know the new file; without a journal there is nothing to undo.
+    restore(work, {FILE: pair[FILE], UNDO: older})
+    untouched(work, contents(work), "an older journal")
+    restore(work, {FILE: pair[FILE]})
+    refused(26, 0, "undo", work / FILE)
+    same(contents(work), {FILE: pair[FILE]}, "without a journal")
+    same(call(work, ADD if b"nine" not in pair[FILE] else REMOVE_SHARED).status, 0, "a new journal begins")
+    done("undo", work / FILE)
+    same(contents(work), {FILE: pair[FILE]}, "and ends")
+
+
+def damaged_journals(work):
+    """Each byte changed, each beginning, more at the end: refused, and nothing changes."""
+    dice = Dice(15)
+    case = Case(work, [ADD], REPLACE)
+    work, pair, journal = case.folder, case.after, case.after[UNDO]
+    wrong = [put(journal, at, bytes([journal[at] ^ 1 << dice.below(8)])) for at in range(len(journal))]
+    wrong += [journal[:n] for n in range(len(journal))] + [journal + b"\0", journal + journal, bytes(len(journal))]
+    for each in wrong:
+        held = {FILE: pair[FILE], UNDO: each}
+        restore(work, held)
+        refused(21, 0, "undo", work / FILE)
+        same(contents(work), held, "undo with a damaged journal")
+    untouched(work, held, "zeros")
+    restore(work, {FILE: pair[FILE]})
+    (work / UNDO).mkdir()
+    refused(21, 0, "undo", work / FILE)
+    failed("remove", work / FILE, "Data", "3")
+    (work / UNDO).rmdir()
+    (work / UNDO).symlink_to("elsewhere")
+    failed("remove", work / FILE, "Data", "3")
+    expect((work / UNDO).is_symlink(), "a link in the journal's place stays")
+
+
+PARTS = (ended_at_every_step, failing_at_every_step, power_loss, other_journals, damaged_journals)

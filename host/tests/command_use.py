@@ -1,0 +1,415 @@
+"""Every command and exit status, on good files, damaged files, files at the limit, and where the system fails."""
+import os
+import resource
+import stat
+import subprocess
+
+from building import Dice, blorb, chunk, form, index, put, put32
+from command_kit import (PROGRAM, aiff, be, contents, done, edited, editing_reference, expect, failed, jpeg, listing, ogg, png,
+                         reference, refused, run, same)
+
+BLANK = bytes.fromhex("464f524d000000104946525352496478 0000000400000000")
+SAMPLE_A = bytes.fromhex("464f524d00000028 49465253 5249647800000010 00000001 446174610000000700000024 5445585400000003 65656c00")
+LIMIT = 16_777_216
+NAMES = ("list", "check", "get", "new", "add", "replace", "remove", "undo")
+NOBODY = 65534
+
+
+def help_and_misuse(work):
+    for words in (["--help"], ["help"]):
+        text = done(*words).decode()
+        expect(all(f"blorb {name} FILE" in text for name in NAMES), "help names every command")
+    for name in NAMES:
+        expect(done(name, "--help").startswith(b"usage: blorb %s FILE" % name.encode()), f"{name} --help")
+        failed(name, saying=f"usage: blorb {name} FILE")
+        failed(name, *["x"] * 9, saying="usage: blorb")
+    failed(saying="--help")
+    failed("lists", "x", saying="--help")
+    file = work / "misuse.blb"
+    done("new", file)
+    for number in ("", "-1", "+1", " 1", "1 ", "0x1", "1e3", "1.0", "4294967296", "18446744073709551616", "9" * 40, "\u0661"):
+        failed("get", file, "Data", number, saying="usage: blorb get")
+        failed("add", file, "Data", number, "TEXT", "-", saying="usage: blorb add")
+    for tag in ("", "Datas", "\u20ac\u20ac"):
+        failed("remove", file, tag, "1", saying="usage: blorb remove")
+        failed("replace", file, "Data", "1", tag, "-", saying="usage: blorb replace")
+    failed("get", file, "Data", "1", "-o", saying="-o takes one name")
+    failed("get", file, "Data", "1", "-o", "a", "-o", "b", saying="-o takes one name")
+    same(contents(work), {"misuse.blb": BLANK}, "misuse changes nothing")
+
+
+def samples_of_01(work):
+    file = work / "eel.blb"
+    same(done("new", file), b"", "new is silent")
+    same(file.read_bytes(), BLANK, "a blank file")
+    same(done("list", file), b"blorb 24 bytes 0 resources\n", "list of a blank file")
+    (work / "eel").write_bytes(b"eel")
+    same(done("add", file, "Data", "7", "TEXT", work / "eel"), b"", "add is silent")
+    same(file.read_bytes(), SAMPLE_A, "sample A")
+    same(done("list", file), b"blorb 48 bytes 1 resources\nData 7 at 36 TEXT 3\n", "the lister's text of A")
+    same(done("check", file), b"accepted 48 bytes 1 resources\n", "check of A")
+    same(done("get", file, "Data", "7"), b"eel", "the data of A")
+    done("add", file, "Pict", "1", "Rect", "-", stdin=be(320) + be(0))
+    sample_b = file.read_bytes()
+    same(sample_b, edited(editing_reference.added, SAMPLE_A, b"Pict", 1, b"Rect", be(320) + be(0)), "sample B")
+    same(done("list", file), b"blorb 76 bytes 2 resources\nData 7 at 48 TEXT 3\nPict 1 at 60 Rect 8\n", "the text of B")
+    done("remove", file, "Data", "7")
+    same(done("list", file), b"blorb 52 bytes 1 resources\nPict 1 at 36 Rect 8\n", "B without Data 7")
+    done("undo", file)
+    same(file.read_bytes(), sample_b, "undo gives B")
+    done("replace", file, "Data", "7", "BINA", "/dev/null")
+    same(done("list", file), b"blorb 72 bytes 2 resources\nData 7 at 48 BINA 0\nPict 1 at 56 Rect 8\n", "B with an empty 'BINA'")
+    for before in (sample_b, SAMPLE_A, BLANK):
+        done("undo", file)
+        same(file.read_bytes(), before, "undo, one edit after the other")
+    refused(26, 0, "undo", file)
+    same(sorted(contents(work)), ["eel", "eel.blb"], "with nothing to undo there is no journal, and nothing else is left")
+    file.write_bytes(put(SAMPLE_A, 47, b"\1"))
+    result = refused(7, 47, "list", file)
+    same(result.out, b"refused 7 at 47\n", "the lister's text of a refused file")
+    same(refused(7, 47, "check", file).out, b"", "check refuses on standard error")
+
+
+def media(work):
+    """Real data of each kind goes in and comes out byte for byte; usages and types without their spaces."""
+    file, out = work / "game.blb", work / "out"
+    song = b"song" + bytes(1080) + b"M.K."
+    parts = [("Pict", "1", "PNG", png()), ("Pict", "2", "JPEG", jpeg()), ("Snd", "3", "OGGV", ogg()), ("Snd", "4", "FORM", aiff()),
+             ("Snd", "5", "FORM", aiff(b"odd")), ("Snd ", "6", "MOD ", song), ("Exec", "0", "AGT", b"\1\2\3"),
+             ("Data", "4294967295", "TEXT", "Wie geht's?\n".encode()), ("Data", "0", "BINA", b"")]
+    done("new", file)
+    wanted = BLANK
+    for usage, number, kind, data in parts:
+        (work / "data").write_bytes(data)
+        done("add", file, usage, number, kind, work / "data")
+        held = data[8:] if kind == "FORM" else data
+        wanted = edited(editing_reference.added, wanted, usage.ljust(4).encode(), int(number), kind.ljust(4).encode(), held)
+        same(file.read_bytes(), wanted, f"the file with {usage} {number}")
+    same(done("list", file), listing(wanted), "list of the whole game")
+    for usage, number, _, data in parts:
+        same(done("get", file, usage, number), data, f"get {usage} {number}")
+        done("get", file, usage, number, "-o", out)
+        same(out.read_bytes(), data, f"get {usage} {number} -o")
+    done("get", "-o", out, file, "Pict", "1")
+    same(out.read_bytes(), png(), "-o in front")
+    # An AIFF sound stands in the file as its own file does, and its data alone is taken too.
+    expect(aiff() in wanted and aiff(b"odd") in wanted, "a whole AIFF file stands in the Blorb file")
+    done("replace", file, "Snd", "4", "FORM", "-", stdin=aiff()[8:])
+    same(file.read_bytes(), wanted, "an AIFF file's data without its header")
+    for wrong in (aiff()[:-1], aiff() + b"\0", b"FORM" + be(4) + b"AIFC", b"FORM", b""):
+        refused(114, 24 + 12 * 3, "replace", file, "Snd", "4", "FORM", "-", stdin=wrong)
+    same(file.read_bytes(), wanted, "a refused replacement changes nothing")
+    # The header is only taken off where the type is FORM.
+    done("add", file, "Data", "9", "BINA", "-", stdin=aiff())
+    same(done("get", file, "Data", "9"), aiff(), "an AIFF file as plain data")
+
+
+def wrong_files():
+    """One file at least for each refusal of the reader, and what it is."""
+    text = [(b"TEXT", b"eel")]
+    two = blorb([(b"Data", 7, 0), (b"Pict", 1, 1)], text + [(b"Rect", bytes(8))])
+    row = (b"Data", 7, 36)
+    return {
+        2: BLANK[:11], 3: b"form" + BLANK[4:], 4: put(BLANK, 8, b"IFR!"), 5: put32(BLANK, 4, 17), 6: put32(SAMPLE_A, 40, 9),
+        7: put(SAMPLE_A, 47, b"\1"), 8: form(chunk(b"ANNO")), 9: form(index([]), index([])), 10: put32(SAMPLE_A, 20, 2),
+        11: form(index([(b"Data", i, 49188) for i in range(4097)]), chunk(b"TEXT")), 12: put(SAMPLE_A, 24, b"D\x1b[m"),
+        13: put32(SAMPLE_A, 32, 37), 14: put(SAMPLE_A, 36, b"\0\n\xffX"), 15: form(index([(b"Exec", 1, 36)]), chunk(b"ZCOD")),
+        16: blorb([(b"Data", 7, 0), (b"Data", 7, 0)], text), 17: form(index([]), chunk(b"RelN", b"ab"), chunk(b"RelN", b"ab")),
+        18: form(index([row]), chunk(*text[0]), chunk(b"RelN", b"a")), 19: form(two[12:], chunk(b"Fspc", be(1))),
+    }
+
+
+def refused_files(work):
+    file = work / "wrong.blb"
+    for number, wrong in wrong_files().items():
+        verdict = reference.read(wrong)
+        same(verdict[:2], ("refused", number), "the reference's refusal")
+        file.write_bytes(wrong)
+        same(refused(*verdict[1:], "list", file).out, listing(wrong), "list of a refused file")
+        text = refused(*verdict[1:], "check", file).err
+        expect(all(c == "\n" or " " <= c <= "~" for c in text), f"only printable text: {text!r}")
+        refused(*verdict[1:], "get", file, "Data", "7", "-o", work / "out")
+        for words in (("add", "Data", "8", "TEXT", "-"), ("replace", "Data", "7", "TEXT", "-"), ("remove", "Data", "7"), ("undo",)):
+            refused(*verdict[1:], words[0], file, *words[1:], stdin=b"new")
+        same(contents(work), {"wrong.blb": wrong}, "a refused file is left alone")
+
+
+def refused_edits(work):
+    file = work / "game.blb"
+    shared = blorb([(b"Pict", 1, 0), (b"Pict", 2, 0), (b"Data", 3, 1), (b"Pict", 4, 2)],
+                   [(b"JPEG", jpeg()), (b"TEXT", b"odd"), (b"JPEG", jpeg()), (b"Fspc", be(4))])
+    held = {"game.blb": shared}
+    file.write_bytes(shared)
+    last = 24 + 12 * 4
+    for number, place, *words in (
+            (22, 0, "get", "Data", "4"), (22, 0, "get", "Dat", "3"), (22, 0, "remove", "Data", "4"), (22, 0, "remove", "dat\n", "3"),
+            (22, 0, "replace", "Snd", "3", "MOD", "-"), (23, 0, "replace", "Pict", "1", "PNG", "-"), (26, 0, "undo"),
+            (109, len(shared) + 12, "add", "Data", "5", "RIdx", "-"), (112, last, "add", "\x1bPic", "5", "PNG", "-"),
+            (114, last, "add", "Pict", "5", "\x1b[2J", "-"), (114, 48, "replace", "Data", "3", "JPEG", "-"),
+            (115, last + 4, "add", "Exec", "1", "ZCOD", "-"), (116, last, "add", "Data", "3", "TEXT", "-"),
+            (119, len(shared) - 12 - 8 - 108 + 8 - 12, "remove", "Pict", "4")):
+        text = refused(number, place, words[0], file, *words[1:], stdin=b"new").err
+        expect(all(c == "\n" or " " <= c <= "~" for c in text), f"only printable text: {text!r}")
+        same(contents(work), held, f"{words} refused, nothing changed")
+    full = blorb([(b"Data", i, 0) for i in range(4096)], [(b"TEXT", b"")])
+    file.write_bytes(full)
+    refused(111, 20, "add", file, "Data", "5000", "TEXT", "-")
+    same(done("list", file), listing(full), "list of 4,096 entries")
+    same(contents(work), {"game.blb": full}, "4,096 entries and no more")
+
+
+def cut_and_damaged(work):
+    """Every beginning of a file, every byte changed, and many changes at once: always the reference's answer."""
+    dice, file = Dice(7), work / "bad.blb"
+    whole = blorb([(b"Data", 7, 0), (b"Pict", 1, 1), (b"Snd ", 3, 2), (b"Pict", 2, 3)],
+                  [(b"TEXT", b"eel"), (b"Rect", bytes(8)), (b"FORM", aiff()[8:]), (b"JPEG", b"\xff\xd8\xff"), (b"Fspc", be(2)),
+                   (b"RelN", b"\0\1")])
+    bad = [whole[:n] for n in range(len(whole))]
+    bad += [put(whole, at, bytes([whole[at] ^ 1 << dice.below(8)])) for at in range(len(whole))]
+    for _ in range(150):
+        spoiled = whole
+        for _ in range(1 + dice.below(3)):
+            spoiled = put(spoiled, 4 * dice.below(len(whole) // 4), dice.one_of([be(dice.below(64)), b"RIdx", b"Fspc", dice.bytes(4)]))
+        bad.append(spoiled)
+    for spoiled in bad:
+        file.write_bytes(spoiled)
+        result = run("list", file)
+        same(result.out, listing(spoiled), f"list of {spoiled.hex()}")
+        same(result.status, 1 if result.out.startswith(b"refused") else 0, f"status for {spoiled.hex()}")
+    return len(bad)
+
+
+def a_call(dice, file):
+    """Words for the program and a change of the reference, which may be refused."""
+    pairs = [("Data", 1 + dice.below(8)), ("Pict", 1 + dice.below(4)), ("Snd", 1 + dice.below(3)), ("Exec", dice.below(2))]
+    usage, number = dice.one_of(pairs)
+    kind = {"Data": ("TEXT", "BINA"), "Pict": ("PNG", "Rect"), "Snd": ("MOD", "OGGV"), "Exec": ("ZCOD", "AGT")}[usage][dice.below(2)]
+    data = dice.bytes(8 if kind == "Rect" else dice.below(40))
+    what = dice.one_of(["added", "added", "replaced", "removed"])
+    tags = [usage.ljust(4).encode(), number]
+    words = [{"added": "add", "replaced": "replace", "removed": "remove"}[what], file, usage, str(number)]
+    if what != "removed":
+        tags += [kind.ljust(4).encode(), data]
+        words += [kind, "-"]
+    return words, data, lambda old: edited(getattr(editing_reference, what), old, *tags)
+
+
+def chains(work):
+    """Long mixed runs against the reference, then undo all the way back to the starting file."""
+    dice, file = Dice(2004), work / "chain.blb"
+    for start in (BLANK, blorb([(b"Pict", 1, 0), (b"Pict", 2, 0), (b"Data", 3, 1)], [(b"JPEG", jpeg()), (b"TEXT", b"odd"), (b"ANNO", b"x")])):
+        file.write_bytes(start)
+        states = [start]
+        for _ in range(120):
+            if dice.below(5) == 0:
+                result = run("undo", file)
+                same(result.status, 0 if len(states) > 1 else 1, f"undo: {result}")
+                states = states[:-1] if len(states) > 1 else states
+            else:
+                words, data, change = a_call(dice, file)
+                result = run(*words, stdin=data)
+                try:
+                    states.append(change(states[-1]))
+                    same(result.status, 0, f"{words}: {result}")
+                except reference.Refusal:
+                    same(result.status, 1, f"{words}: {result}")
+            same(file.read_bytes(), states[-1], "the file after a step")
+        expect(len(states) > 10, "the run has edits left to undo")
+        while len(states) > 1:
+            done("undo", file)
+            states.pop()
+            same(file.read_bytes(), states[-1], "the file after an undo")
+        refused(26, 0, "undo", file)
+        same(contents(work), {"chain.blb": start}, "back at the starting file, byte for byte")
+
+
+def at_the_limit(work):
+    file, data = work / "large.blb", work / "data"
+    exact = blorb([(b"Data", 1, 0)], [(b"BINA", bytes(LIMIT - 44))])
+    assert len(exact) == LIMIT
+    file.write_bytes(exact)
+    same(done("check", file), b"accepted 16777216 bytes 1 resources\n", "exactly the limit")
+    same(done("get", file, "Data", "1"), bytes(LIMIT - 44), "its data")
+    refused(101, 0, "add", file, "Data", "2", "BINA", "-")
+    data.write_bytes(b"\1" * (LIMIT - 44))
+    done("replace", file, "Data", "1", "BINA", data)
+    done("remove", file, "Data", "1")
+    same(file.read_bytes(), BLANK, "all removed")
+    done("add", file, "Data", "3", "BINA", data)
+    same(done("get", file, "Data", "3"), data.read_bytes(), "the new data, up to exactly the limit")
+    for _ in range(3):
+        done("undo", file)
+    expect(file.read_bytes() == exact, "undo of the largest edits")
+    file.write_bytes(exact + b"\0")
+    same(refused(1, 0, "list", file).out, b"refused 1 at 0\n", "a byte over the limit")
+    with open(file, "r+b") as f:
+        f.truncate(40 << 30)    # a hole: reading it whole would take minutes
+    refused(1, 0, "check", file)
+    refused(1, 0, "remove", file, "Data", "1")
+    with open(data, "r+b") as f:
+        f.truncate(40 << 30)
+    file.write_bytes(SAMPLE_A)
+    refused(101, 0, "add", file, "Data", "8", "BINA", data)
+    refused(22, 0, "replace", file, "Data", "8", "BINA", data)
+    refused(101, 0, "replace", file, "Data", "7", "BINA", data)
+    same(file.read_bytes(), SAMPLE_A, "data over the limit")
+
+
+def new_and_names(work):
+    file = work / "game.blb"
+    done("new", file)
+    failed("new", file, saying="Move it away")
+    (work / "link").symlink_to(work / "nowhere")
+    failed("new", work / "link")
+    done("add", file, "Data", "7", "TEXT", "-", stdin=b"eel")
+    journal = (work / "game.blb.undo").read_bytes()
+    file.unlink()
+    failed("new", file, saying="Move it away")
+    expect(not file.exists() and (work / "game.blb.undo").read_bytes() == journal, "an older journal is neither used nor lost")
+    failed("new", work / "no" / "game.blb")
+    failed("add", work / "none.blb", "Data", "7", "TEXT", "-", saying="Check the name")
+    failed("add", work, "Data", "7", "TEXT", "-", saying="plain file")
+    failed("list", work)
+    os.mkfifo(work / "pipe")
+    failed("add", work / "pipe", "Data", "7", "TEXT", "-", saying="plain file")
+    failed("add", file, "Data", "7", "TEXT", work / "no data", saying="no data")
+    long = work / ("n" * 241)
+    done("new", long)
+    failed("add", long, "Data", "7", "TEXT", "-", saying="shorter name")
+    same(long.read_bytes(), BLANK, "a name too long for a journal's")
+
+
+def links_and_permissions(work):
+    (work / "real").mkdir()
+    real, link = work / "real" / "game.blb", work / "link.blb"
+    done("new", real)
+    os.chmod(real, 0o640)
+    if os.getuid() == 0:
+        os.chown(real, NOBODY, NOBODY)
+    link.symlink_to("real/game.blb")
+    done("add", link, "Data", "7", "TEXT", "-", stdin=b"eel")
+    expect(link.is_symlink() and real.read_bytes() == SAMPLE_A, "an edit goes through a link")
+    same(sorted(contents(work / "real")), ["game.blb", "game.blb.undo"], "the journal lies beside the real file")
+    for name in ("game.blb", "game.blb.undo"):
+        status = (work / "real" / name).stat()
+        same(stat.S_IMODE(status.st_mode), 0o640, f"permissions of {name}")
+        expect(os.getuid() != 0 or (status.st_uid, status.st_gid) == (NOBODY, NOBODY), f"owner of {name}")
+    done("undo", real)
+    same(real.read_bytes(), BLANK, "undo by the other name")
+    out = work / "out"
+    out.write_bytes(b"old")
+    os.chmod(out, 0o604)
+    done("add", real, "Data", "7", "TEXT", "-", stdin=b"eel")
+    done("get", link, "Data", "7", "-o", out)
+    same((out.read_bytes(), stat.S_IMODE(out.stat().st_mode)), (b"eel", 0o604), "get -o keeps permissions")
+    for name in (real, link):
+        failed("get", link, "Data", "7", "-o", name, saying="itself")
+    same(real.read_bytes(), SAMPLE_A, "get does not overwrite its own file")
+
+
+def outputs(work):
+    """Where standard output or OUT takes nothing."""
+    file = work / "game.blb"
+    file.write_bytes(SAMPLE_A)
+    with open("/dev/full", "wb") as full:
+        for words in (("list", file), ("check", file), ("get", file, "Data", "7"), ("--help",), ("list", "--help")):
+            result = run(*words, stdout=full)
+            expect(result.status == 2 and "Make room" in result.err, f"{words} on a full device: {result}")
+    failed("get", file, "Data", "7", "-o", "/dev/full", saying="Make room")
+    expect(stat.S_ISCHR(os.stat("/dev/full").st_mode), "a device is written to, not replaced")
+    failed("get", file, "Data", "7", "-o", work / "no" / "out")
+    failed("get", file, "Data", "7", "-o", work)
+    result = run("get", file, "Data", "7", preexec_fn=lambda: os.close(1))
+    expect(result.status == 2 and "standard output" in result.err, f"standard output is closed: {result}")
+    same(run("undo", file, preexec_fn=lambda: os.closerange(0, 3)).status, 1, "all three are closed")
+    failed("add", file, "Data", "8", "TEXT", "-", preexec_fn=lambda: os.close(0), saying="standard input")
+    same(contents(work), {"game.blb": SAMPLE_A}, "nothing is left behind")
+
+
+def intact(work, held, words):
+    """A call that fails leaves all files as they were."""
+    failed(*words[0], **words[1])
+    same(contents(work), held, f"{words[0]} failed, nothing changed")
+
+
+def size_limit(work):
+    """Every limit on the size of a file up to where the edit succeeds, as `ulimit -f` sets it."""
+    file = work / "game.blb"
+    file.write_bytes(SAMPLE_A)
+    done("add", file, "Data", "8", "TEXT", "-", stdin=b"x" * 50)
+    held = contents(work)
+    limit = 0
+    while True:
+        def lower(limit=limit):
+            resource.setrlimit(resource.RLIMIT_FSIZE, (limit, limit))
+        result = run("remove", file, "Data", "7", preexec_fn=lower)
+        if result.status == 0:
+            break
+        expect(result.status == 2 and "Make room" in result.err, f"under a limit of {limit} bytes: {result}")
+        same(contents(work), held, f"under a limit of {limit} bytes nothing changes")
+        limit += 7
+    expect(limit > 150, "the limit was met")
+
+
+def full_disk(work):
+    """A file system of 24 KiB that cannot hold a second copy. Needs the right to mount one."""
+    small = work / "small"
+    small.mkdir()
+    mounted = subprocess.run(["mount", "-t", "tmpfs", "-o", "size=24k", "none", small], capture_output=True)
+    if mounted.returncode != 0:
+        print("  not run: a full disk (no right to mount one); the limit on sizes stands for it")
+        return
+    try:
+        file = small / "game.blb"
+        done("new", file)
+        done("add", file, "Data", "1", "BINA", "-", stdin=bytes(10000))
+        held = contents(small)
+        for words in (("add", file, "Data", "2", "BINA", "-"), ("remove", file, "Data", "1"), ("get", file, "Data", "1", "-o", small / "out")):
+            intact(small, held, (words, {"stdin": bytes(9000), "saying": "Make room"}))
+        done("undo", file)
+        same(contents(small), {"game.blb": BLANK}, "undo needs little room")
+    finally:
+        subprocess.run(["umount", small], check=True)
+
+
+def permissions(work):
+    """What the user may not write is left alone. Run as another user where this one may write everything."""
+    user = {"user": NOBODY, "group": NOBODY, "extra_groups": []} if os.getuid() == 0 else {}
+    folder, file = work / "closed", work / "closed" / "game.blb"
+    folder.mkdir()
+    done("new", file)
+    done("add", file, "Data", "7", "TEXT", "-", stdin=b"eel")
+    held = contents(folder)
+    for folder_mode, file_mode in ((0o555, 0o666), (0o777, 0o444)):
+        os.chmod(file, file_mode)
+        os.chmod(folder, folder_mode)
+        for words in (("add", file, "Data", "8", "TEXT", "-"), ("remove", file, "Data", "7"), ("undo", file)):
+            intact(folder, held, (words, {**user, "saying": "permissions"}))
+        same(done("get", file, "Data", "7", **user), b"eel", "reading is permitted")
+    os.chmod(folder, 0o555)
+    failed("new", folder / "new.blb", saying="permissions", **user)
+    failed("get", file, "Data", "7", "-o", folder / "out", saying="permissions", **user)
+    os.chmod(file, 0)
+    failed("list", file, saying="permissions", **user)
+    os.chmod(file, 0o644)
+    os.chmod(folder, 0o755)
+    same(contents(folder), held, "nothing changed in a closed folder")
+
+
+def two_at_once(work):
+    """Edits at the same time wait for each other: none is lost, and all can be undone."""
+    file = work / "game.blb"
+    done("new", file)
+    count = 12
+    (work / "data").write_bytes(b"data")
+    running = [subprocess.Popen([PROGRAM, "add", file, "Data", str(i), "TEXT", work / "data"]) for i in range(count)]
+    same([p.wait() for p in running], [0] * count, "edits at the same time")
+    text = done("list", file).decode()
+    same(sorted(int(line.split()[1]) for line in text.splitlines()[1:]), list(range(count)), "every edit is there")
+    for _ in range(count):
+        done("undo", file)
+    same(contents(work), {"game.blb": BLANK, "data": b"data"}, "every edit is undone")
+
+
+PARTS = (help_and_misuse, samples_of_01, media, refused_files, refused_edits, cut_and_damaged, chains, at_the_limit, new_and_names,
+         links_and_permissions, outputs, size_limit, full_disk, permissions, two_at_once)
