@@ -1,8 +1,10 @@
 """Every command and exit status, on good files, damaged files, files at the limit, and where the system fails."""
+import fcntl
 import os
 import resource
 import stat
 import subprocess
+import time
 
 from building import Dice, blorb, chunk, form, index, put, put32
 from command_kit import (PROGRAM, aiff, be, contents, done, edited, editing_reference, expect, failed, jpeg, listing, ogg, png,
@@ -409,6 +411,14 @@ def two_at_once(work):
     for _ in range(count):
         done("undo", file)
     same(contents(work), {"game.blb": BLANK, "data": b"data"}, "every edit is undone")
+    # While another holds the folder's lock, an edit waits; reading does not.
+    folder = os.open(work, os.O_RDONLY)
+    fcntl.flock(folder, fcntl.LOCK_EX)
+    waiting = subprocess.Popen([PROGRAM, "add", file, "Data", "1", "TEXT", work / "data"])
+    time.sleep(0.3)
+    same((waiting.poll(), done("check", file)), (None, b"accepted 24 bytes 0 resources\n"), "an edit waits")
+    os.close(folder)
+    same((waiting.wait(), done("get", file, "Data", "1")), (0, b"data"), "and goes on")
 
 
 PARTS = (help_and_misuse, samples_of_01, media, refused_files, refused_edits, cut_and_damaged, chains, at_the_limit, new_and_names,

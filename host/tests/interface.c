@@ -1,0 +1,611 @@
+/*
+ * The C interface, every call: each answer in full and each byte of every buffer afterwards, against files written down by hand.
+ *
+ * Everything runs three times, on buffers of exactly the size that is named: from malloc (the address sanitizer then sees the C
+ * library's moves), with a page behind that may not be touched, and with such a page before. The pages catch the library's own
+ * reads and writes too, which no sanitizer has compiled.
+ */
+#define _DEFAULT_SOURCE
+#include <inttypes.h>
+#include <stdio.h>
+#include <stdlib.h>
+#include <string.h>
+#include <sys/mman.h>
+#include <unistd.h>
+
+#include "blorb.h"
+
+enum { FILLER = 0xee, IMAGE_ROOM = 512 };
+enum { FROM_MALLOC, PAGE_BEHIND, PAGE_BEFORE, LENDINGS } lending;
+static unsigned long checks;
+
+static void expect(int right, const char *what)
+{
+    checks++;
+    if (right)
+        return;
+    printf("interface: FAILED: %s (buffers: %d)\n", what, (int)lending);
+    exit(1);
+}
+
+/* ---- files and records by hand */
+
+typedef struct image {
+    uint8_t at[IMAGE_ROOM];
+    size_t length;
+} image;
+
+static void put32(uint8_t *at, uint32_t n)
+{
+    for (int i = 0; i < 4; i++)
+        at[i] = (uint8_t)(n >> (24 - 8 * i));
+}
+
+static uint32_t get32(const uint8_t *at)
+{
+    return (uint32_t)at[0] << 24 | (uint32_t)at[1] << 16 | (uint32_t)at[2] << 8 | at[3];
+}
+
+static void append(image *f, const void *from, size_t n)
+{
+    if (n > 0)
+        memcpy(f->at + f->length, from, n);
+    f->length += n;
+}
+
+static void append32(image *f, uint32_t n)
+{
+    put32(f->at + f->length, n);
+    f->length += 4;
+}
+
+static image blank(void)
+{
+    image f = {.length = 24};
+    memcpy(f.at, "FORM\0\0\0\20IFRSRIdx\0\0\0\4\0\0\0\0", 24);
+    return f;
+}
+
+/* Rows come before chunks. */
+static void row(image *f, const char *usage, uint32_t number, uint32_t start)
+{
+    append(f, usage, 4);
+    append32(f, number);
+    append32(f, start);
+    put32(f->at + 4, (uint32_t)f->length - 8);
+    put32(f->at + 16, get32(f->at + 16) + 12);
+    put32(f->at + 20, get32(f->at + 20) + 1);
+}
+
+static void chunk(image *f, const char *type, const void *data, uint32_t n)
+{
+    append(f, type, 4);
+    append32(f, n);
+    append(f, data, n);
+    append(f, "", n % 2);
+    put32(f->at + 4, (uint32_t)f->length - 8);
+}
+
+static image record(uint8_t kind, const char *usage, uint32_t number, uint32_t place, uint32_t start, const char *type,
+                    const void *data, uint32_t n)
+{
+    image r = {.length = 0};
+    append(&r, &kind, 1);
+    append(&r, usage, 4);
+    append32(&r, number);
+    append32(&r, place);
+    append32(&r, start);
+    append(&r, type, 4);
+    append32(&r, n);
+    append(&r, data, n);
+    append32(&r, 25 + n);
+    return r;
+}
+
+/* Document 01's samples A and B. */
+static image sample_a(void)
+{
+    image f = blank();
+    row(&f, "Data", 7, 36);
+    chunk(&f, "TEXT", "eel", 3);
+    return f;
+}
+
+static image sample_b(void)
+{
+    image f = blank();
+    row(&f, "Data", 7, 48);
+    row(&f, "Pict", 1, 60);
+    chunk(&f, "TEXT", "eel", 3);
+    chunk(&f, "Rect", "\0\0\1\x40\0\0\0\0", 8);
+    return f;
+}
+
+/* Sample B without its text. */
+static image without_text(void)
+{
+    image f = blank();
+    row(&f, "Pict", 1, 36);
+    chunk(&f, "Rect", "\0\0\1\x40\0\0\0\0", 8);
+    return f;
+}
+
+/* Two pictures on one chunk, and a third that is the frontispiece. */
+static image shared(void)
+{
+    image f = blank();
+    row(&f, "Pict", 1, 60);
+    row(&f, "Pict", 2, 60);
+    row(&f, "Pict", 3, 72);
+    chunk(&f, "JPEG", "abcd", 4);
+    chunk(&f, "PNG ", "odd", 3);
+    chunk(&f, "Fspc", "\0\0\0\3", 4);
+    return f;
+}
+
+/* ---- buffers of an exact size */
+
+typedef struct lent {
+    uint8_t *at;
+    size_t size;
+    uint8_t *map;
+    size_t map_size;
+} lent;
+
+static lent lend(const uint8_t *from, size_t length, size_t size)
+{
+    lent l = {.size = size};
+    size_t page = (size_t)sysconf(_SC_PAGESIZE), inside = (size + page - 1) / page * page;
+    if (size == 0)
+        return l;
+    if (lending == FROM_MALLOC) {
+        l.at = malloc(size);
+    } else {
+        l.map_size = inside + 2 * page;
+        l.map = mmap(NULL, l.map_size, PROT_NONE, MAP_PRIVATE | MAP_ANONYMOUS, -1, 0);
+        if (l.map == MAP_FAILED || mprotect(l.map + page, inside, PROT_READ | PROT_WRITE) != 0)
+            exit(2);
+        l.at = l.map + page + (lending == PAGE_BEHIND ? inside - size : 0);
+    }
+    if (l.at == NULL)
+        exit(2);
+    memset(l.at, FILLER, size);
+    if (length > 0)
+        memcpy(l.at, from, length);
+    return l;
+}
+
+static void give_back(lent *l)
+{
+    if (l->map != NULL)
+        munmap(l->map, l->map_size);
+    else
+        free(l->at);
+}
+
+/* ---- reading */
+
+static void reads(const image *f, uint64_t refusal, uint64_t place, uint64_t count, const char *what)
+{
+    lent l = lend(f->at, f->length, f->length);
+    blorb_read_answer r = blorb_read(l.at, l.size);
+    uint64_t length = refusal == 0 ? f->length : 0;
+    expect(r.refusal == refusal && r.place == place && r.length == length && r.count == count, what);
+    size_t beyond[] = {count, count + 1, SIZE_MAX};
+    for (int i = 0; i < 3; i++) {
+        blorb_entry_answer e = blorb_entry(l.at, l.size, beyond[i]);
+        expect(e.refusal == (refusal != 0 ? refusal : BLORB_NOT_THERE) && e.place == place, what);
+        expect(e.usage == 0 && e.number == 0 && e.start == 0, what);
+    }
+    blorb_lookup_answer k = blorb_lookup(l.at, l.size, "Pics", 1);
+    expect(k.refusal == (refusal != 0 ? refusal : BLORB_NOT_THERE) && k.place == place, what);
+    expect(k.type == 0 && k.start == 0 && k.length == 0, what);
+    expect(f->length == 0 || memcmp(l.at, f->at, f->length) == 0, what);
+    give_back(&l);
+}
+
+static void finds(const image *f, size_t i, const char *usage, uint32_t number, uint64_t start, uint32_t type, uint64_t length)
+{
+    lent l = lend(f->at, f->length, f->length);
+    blorb_entry_answer e = blorb_entry(l.at, l.size, i);
+    expect(e.refusal == 0 && e.place == 0 && e.number == number && e.start == start, "entry");
+    expect(e.usage == BLORB_TAG(usage[0], usage[1], usage[2], usage[3]), "entry's usage");
+    blorb_lookup_answer k = blorb_lookup(l.at, l.size, usage, number);
+    expect(k.refusal == 0 && k.place == 0 && k.type == type && k.start == start + 8 && k.length == length, "lookup");
+    give_back(&l);
+}
+
+static void accepted_files(void)
+{
+    image a = sample_a(), b = sample_b(), s = shared(), none = blank();
+    reads(&none, 0, 0, 0, "blank");
+    reads(&a, 0, 0, 1, "sample A");
+    reads(&b, 0, 0, 2, "sample B");
+    reads(&s, 0, 0, 3, "shared chunk");
+    finds(&a, 0, "Data", 7, 36, BLORB_TAG('T', 'E', 'X', 'T'), 3);
+    finds(&b, 0, "Data", 7, 48, BLORB_TAG('T', 'E', 'X', 'T'), 3);
+    finds(&b, 1, "Pict", 1, 60, BLORB_TAG('R', 'e', 'c', 't'), 8);
+    finds(&s, 0, "Pict", 1, 60, BLORB_TAG('J', 'P', 'E', 'G'), 4);
+    finds(&s, 1, "Pict", 2, 60, BLORB_TAG('J', 'P', 'E', 'G'), 4);
+    finds(&s, 2, "Pict", 3, 72, BLORB_TAG('P', 'N', 'G', ' '), 3);
+}
+
+/* Sample A with four other bytes somewhere. */
+static void reads_changed(size_t at, const char *bytes, uint64_t refusal, uint64_t place, const char *what)
+{
+    image f = sample_a();
+    memcpy(f.at + at, bytes, 4);
+    reads(&f, refusal, place, 0, what);
+}
+
+static void refused_files(void)
+{
+    image none = {.length = 0}, f = sample_a();
+    reads(&none, 2, 0, 0, "no bytes, a null pointer");
+    f.length = 11;
+    reads(&f, 2, 0, 0, "2");
+    reads_changed(0, "FORK", 3, 0, "3");
+    reads_changed(8, "IFRT", 4, 8, "4");
+    reads_changed(4, "\0\0\0\x29", 5, 4, "5");
+    reads_changed(40, "\0\0\0\5", 6, 36, "6");
+    reads_changed(40, "\xff\xff\xff\xff", 6, 36, "6, a length that wraps");
+    reads_changed(44, "eel\1", 7, 47, "7");
+    reads_changed(12, "RIdy", 8, 12, "8");
+    reads_changed(36, "RIdx", 9, 36, "9");
+    reads_changed(20, "\x40\0\0\1", 10, 16, "10, a count that wraps");
+    reads_changed(24, "Dat\xff", 12, 24, "12");
+    reads_changed(32, "\0\0\0\x25", 13, 32, "13");
+    reads_changed(32, "\0\0\0\x0c", 13, 32, "13, the index");
+    reads_changed(36, "JPEG", 14, 24, "14");
+    reads_changed(24, "Exec", 14, 24, "14 before 15");
+    f = blank();
+    row(&f, "Exec", 1, 36);
+    chunk(&f, "ZCOD", "", 0);
+    reads(&f, 15, 28, 0, "15");
+    f = blank();
+    row(&f, "Data", 7, 48);
+    row(&f, "Data", 7, 48);
+    chunk(&f, "TEXT", "", 0);
+    reads(&f, 16, 36, 0, "16");
+}
+
+static void refused_optional(void)
+{
+    image f = blank();
+    chunk(&f, "RelN", "ab", 2);
+    chunk(&f, "RelN", "ab", 2);
+    reads(&f, 17, 34, 0, "17");
+    f = sample_a();
+    chunk(&f, "Fspc", "abcde", 5);
+    reads(&f, 18, 52, 0, "18");
+    f = sample_b();
+    chunk(&f, "Fspc", "\0\0\0\1", 4);
+    reads(&f, 19, 84, 0, "19");
+}
+
+/* Refusals 1 and 11 and the largest accepted index need more room than an image has. */
+static void large_files(void)
+{
+    size_t size = (size_t)BLORB_MAX_SIZE + 1;
+    lent l = lend(NULL, 0, size);
+    expect(blorb_read(l.at, size).refusal == BLORB_TOO_LONG, "1");
+    expect(blorb_lookup(l.at, size, "Pict", 1).refusal == BLORB_TOO_LONG, "lookup: 1");
+    image f = sample_a();
+    memcpy(l.at, f.at, f.length);
+    put32(l.at + 4, BLORB_MAX_SIZE - 8);
+    memcpy(l.at + 36, "BINA", 4);
+    put32(l.at + 40, BLORB_MAX_SIZE - 44);
+    blorb_read_answer r = blorb_read(l.at, BLORB_MAX_SIZE);
+    expect(r.refusal == 0 && r.length == BLORB_MAX_SIZE && r.count == 1, "exactly the limit");
+    blorb_edit_answer a = blorb_add(l.at, size, BLORB_MAX_SIZE, NULL, 0, 0, "Data", 8, "TEXT", NULL, 0);
+    expect(a.refusal == BLORB_RESULT_TOO_LONG && a.place == 0 && a.length == BLORB_MAX_SIZE && a.used == 0, "101");
+    lent small = lend(f.at, f.length, f.length);
+    a = blorb_replace(small.at, small.size, f.length, NULL, 0, 0, "Data", 7, "BINA", l.at, size);
+    expect(a.refusal == BLORB_RESULT_TOO_LONG && memcmp(small.at, f.at, f.length) == 0, "replace: 101");
+    give_back(&small);
+    give_back(&l);
+}
+
+/* A file of `count` entries on one empty chunk. */
+static lent many(uint32_t count)
+{
+    size_t at = 24 + 12 * (size_t)count;
+    image b = blank();
+    lent l = lend(b.at, b.length, at + 8);
+    put32(l.at + 4, (uint32_t)at);
+    put32(l.at + 16, 4 + 12 * count);
+    put32(l.at + 20, count);
+    for (uint32_t i = 0; i < count; i++) {
+        memcpy(l.at + 24 + 12 * i, "Data", 4);
+        put32(l.at + 28 + 12 * i, i);
+        put32(l.at + 32 + 12 * i, (uint32_t)at);
+    }
+    memcpy(l.at + at, "TEXT\0\0\0\0", 8);
+    return l;
+}
+
+static void many_entries(void)
+{
+    lent most = many(BLORB_MAX_ENTRIES), over = many(BLORB_MAX_ENTRIES + 1);
+    blorb_read_answer r = blorb_read(most.at, most.size);
+    expect(r.refusal == 0 && r.count == BLORB_MAX_ENTRIES, "4,096 entries");
+    expect(blorb_entry(most.at, most.size, BLORB_MAX_ENTRIES - 1).number == BLORB_MAX_ENTRIES - 1, "the last entry");
+    r = blorb_read(over.at, over.size);
+    expect(r.refusal == BLORB_TOO_MANY && r.place == 20, "11");
+    blorb_edit_answer a = blorb_add(most.at, most.size, most.size, NULL, 0, 0, "Data", 5000, "TEXT", NULL, 0);
+    expect(a.refusal == BLORB_RESULT_TOO_MANY && a.place == 20 && a.length == most.size, "111");
+    give_back(&most);
+    give_back(&over);
+}
+
+/* ---- edits */
+
+/* Two buffers with a file and records at their beginning, and copies of both. */
+typedef struct pair {
+    lent file, journal;
+    uint8_t file_was[IMAGE_ROOM], journal_was[IMAGE_ROOM];
+    size_t length, used;
+} pair;
+
+static pair prepared(const image *f, size_t file_room, const image *records, size_t journal_room)
+{
+    pair p = {.length = f->length, .used = records->length};
+    p.file = lend(f->at, f->length < file_room ? f->length : file_room, file_room);
+    p.journal = lend(records->at, records->length < journal_room ? records->length : journal_room, journal_room);
+    if (file_room > 0)
+        memcpy(p.file_was, p.file.at, file_room);
+    if (journal_room > 0)
+        memcpy(p.journal_was, p.journal.at, journal_room);
+    return p;
+}
+
+static void refused(pair *p, blorb_edit_answer a, uint64_t refusal, uint64_t place, const char *what)
+{
+    expect(a.refusal == refusal && a.place == place, what);
+    expect(a.length == p->length && a.used == p->used, what);
+    expect(p->file.size == 0 || memcmp(p->file.at, p->file_was, p->file.size) == 0, what);
+    expect(p->journal.size == 0 || memcmp(p->journal.at, p->journal_was, p->journal.size) == 0, what);
+    give_back(&p->file);
+    give_back(&p->journal);
+}
+
+/* The new file, zeros up to a longer old end, the old bytes behind; the journal with the new record, or as it was. */
+static void made(pair *p, blorb_edit_answer a, const image *file, const image *rec, size_t used, const char *what)
+{
+    expect(a.refusal == 0 && a.place == 0 && a.length == file->length && a.used == used, what);
+    memcpy(p->file_was, file->at, file->length);
+    if (file->length < p->length)
+        memset(p->file_was + file->length, 0, p->length - file->length);
+    if (rec != NULL)
+        memcpy(p->journal_was + p->used, rec->at, rec->length);
+    expect(memcmp(p->file.at, p->file_was, p->file.size) == 0, what);
+    expect(p->journal.size == 0 || memcmp(p->journal.at, p->journal_was, p->journal.size) == 0, what);
+    give_back(&p->file);
+    give_back(&p->journal);
+}
+
+static blorb_edit_answer add(pair *p, const char *usage, uint32_t number, const char *type, const char *data, size_t n)
+{
+    lent d = lend((const uint8_t *)data, n, n);
+    blorb_edit_answer a = blorb_add(p->file.at, p->file.size, p->length, p->journal.at, p->journal.size, p->used, usage, number,
+                                    type, d.at, d.size);
+    expect(n == 0 || memcmp(d.at, data, n) == 0, "add leaves the data alone");
+    give_back(&d);
+    return a;
+}
+
+static blorb_edit_answer replace(pair *p, const char *usage, uint32_t number, const char *type, const char *data, size_t n)
+{
+    lent d = lend((const uint8_t *)data, n, n);
+    blorb_edit_answer a = blorb_replace(p->file.at, p->file.size, p->length, p->journal.at, p->journal.size, p->used, usage, number,
+                                        type, d.at, d.size);
+    expect(n == 0 || memcmp(d.at, data, n) == 0, "replace leaves the data alone");
+    give_back(&d);
+    return a;
+}
+
+static blorb_edit_answer removal(pair *p, const char *usage, uint32_t number)
+{
+    return blorb_remove(p->file.at, p->file.size, p->length, p->journal.at, p->journal.size, p->used, usage, number);
+}
+
+static blorb_edit_answer undo(pair *p)
+{
+    return blorb_undo(p->file.at, p->file.size, p->length, p->journal.at, p->journal.size, p->used);
+}
+
+static void test_blank(void)
+{
+    image b = blank();
+    for (size_t size = 0; size < 40; size++) {
+        lent l = lend(NULL, 0, size);
+        blorb_edit_answer a = blorb_blank(l.at, size);
+        int fits = size >= BLORB_BLANK_SIZE;
+        expect(a.refusal == (fits ? 0 : BLORB_FILE_ROOM) && a.place == 0, "blank");
+        expect(a.length == (fits ? 24 : 0) && a.used == 0, "blank's lengths");
+        for (size_t i = 0; i < size; i++)
+            expect(l.at[i] == (fits && i < 24 ? b.at[i] : FILLER), "blank's bytes");
+        give_back(&l);
+    }
+}
+
+static void test_add(void)
+{
+    image none = {.length = 0}, b = blank(), a = sample_a(), two = sample_b(), old = {.at = "old", .length = 3};
+    image rec = record(1, "Data", 7, 0, 0, "\0\0\0\0", "", 0), second = record(1, "Pict", 1, 1, 0, "\0\0\0\0", "", 0);
+    pair p = prepared(&b, 48, &none, 29);
+    made(&p, add(&p, "Data", 7, "TEXT", "eel", 3), &a, &rec, 29, "add, no byte to spare");
+    p = prepared(&b, 60, &old, 50);
+    made(&p, add(&p, "Data", 7, "TEXT", "eel", 3), &a, &rec, 32, "add, bytes to spare");
+    p = prepared(&a, 76, &rec, 58);
+    made(&p, add(&p, "Pict", 1, "Rect", "\0\0\1\x40\0\0\0\0", 8), &two, &second, 58, "add of sample B");
+    image empty = blank(), empty_rec = record(1, "Data", 0xffffffff, 0, 0, "\0\0\0\0", "", 0);
+    row(&empty, "Data", 0xffffffff, 36);
+    chunk(&empty, "BINA", "", 0);
+    p = prepared(&b, 44, &none, 29);
+    made(&p, add(&p, "Data", 0xffffffff, "BINA", NULL, 0), &empty, &empty_rec, 29, "add of no data, a null pointer");
+    p = prepared(&b, 47, &none, 29);
+    refused(&p, add(&p, "Data", 7, "TEXT", "eel", 3), 24, 0, "add: 24");
+    p = prepared(&b, 48, &none, 28);
+    refused(&p, add(&p, "Data", 7, "TEXT", "eel", 3), 25, 0, "add: 25");
+    p = prepared(&b, 48, &none, 0);
+    refused(&p, add(&p, "Data", 7, "TEXT", "eel", 3), 25, 0, "add: 25, a null journal");
+}
+
+static void test_add_refused(void)
+{
+    image none = {.length = 0}, a = sample_a(), bad = sample_a();
+    bad.at[47] = 1;
+    pair p = prepared(&bad, 90, &none, 30);
+    refused(&p, add(&p, "Data", 8, "TEXT", "eel", 3), 7, 47, "add: 7");
+    p = prepared(&a, 90, &none, 30);
+    refused(&p, add(&p, "Data", 8, "RIdx", "eel", 3), 109, 60, "add: 109");
+    p = prepared(&a, 90, &none, 30);
+    refused(&p, add(&p, "data", 8, "TEXT", "eel", 3), 112, 36, "add: 112");
+    p = prepared(&a, 90, &none, 30);
+    refused(&p, add(&p, "Pict", 8, "TEXT", "eel", 3), 114, 36, "add: 114");
+    p = prepared(&a, 90, &none, 30);
+    refused(&p, add(&p, "Exec", 8, "ZCOD", "eel", 3), 115, 40, "add: 115");
+    p = prepared(&a, 90, &none, 30);
+    refused(&p, add(&p, "Data", 7, "TEXT", "eel", 3), 116, 36, "add: 116");
+}
+
+static void test_replace(void)
+{
+    image none = {.length = 0}, b = sample_b(), s = shared(), wide = blank(), narrow = blank(), a = sample_a();
+    image rec = record(2, "Data", 7, 0, 48, "TEXT", "eel", 3);
+    row(&narrow, "Data", 7, 48);
+    row(&narrow, "Pict", 1, 56);
+    chunk(&narrow, "BINA", "", 0);
+    chunk(&narrow, "Rect", "\0\0\1\x40\0\0\0\0", 8);
+    row(&wide, "Data", 7, 48);
+    row(&wide, "Pict", 1, 64);
+    chunk(&wide, "TEXT", "conger e", 8);
+    chunk(&wide, "Rect", "\0\0\1\x40\0\0\0\0", 8);
+    pair p = prepared(&b, 76, &none, 32);
+    made(&p, replace(&p, "Data", 7, "BINA", NULL, 0), &narrow, &rec, 32, "replace by less");
+    p = prepared(&b, 80, &none, 40);
+    made(&p, replace(&p, "Data", 7, "TEXT", "conger e", 8), &wide, &rec, 32, "replace by more");
+    p = prepared(&b, 79, &none, 32);
+    refused(&p, replace(&p, "Data", 7, "TEXT", "conger e", 8), 24, 0, "replace: 24");
+    p = prepared(&b, 80, &none, 31);
+    refused(&p, replace(&p, "Data", 7, "TEXT", "conger e", 8), 25, 0, "replace: 25");
+    p = prepared(&b, 80, &none, 40);
+    refused(&p, replace(&p, "Snd ", 7, "MOD ", "x", 1), 22, 0, "replace: 22");
+    p = prepared(&s, s.length, &none, 40);
+    refused(&p, replace(&p, "Pict", 2, "PNG ", "x", 1), 23, 0, "replace: 23");
+    p = prepared(&s, s.length, &none, 40);
+    refused(&p, replace(&p, "Pict", 3, "Rect", "12345678", 8), 119, 96, "replace: 119");
+    p = prepared(&a, 80, &none, 40);
+    refused(&p, replace(&p, "Data", 7, "RIdx", "x", 1), 109, 36, "replace: 109");
+    p = prepared(&a, 80, &none, 40);
+    refused(&p, replace(&p, "Data", 7, "MOD ", "x", 1), 114, 24, "replace: 114");
+}
+
+static void test_remove(void)
+{
+    image none = {.length = 0}, b = sample_b(), s = shared(), left = without_text(), unshared = blank();
+    image rec = record(3, "Data", 7, 0, 48, "TEXT", "eel", 3), entry = record(4, "Pict", 1, 0, 60, "\0\0\0\0", "", 0);
+    row(&unshared, "Pict", 2, 48);
+    row(&unshared, "Pict", 3, 60);
+    chunk(&unshared, "JPEG", "abcd", 4);
+    chunk(&unshared, "PNG ", "odd", 3);
+    chunk(&unshared, "Fspc", "\0\0\0\3", 4);
+    pair p = prepared(&b, 76, &none, 32);
+    made(&p, removal(&p, "Data", 7), &left, &rec, 32, "remove, no byte to spare");
+    p = prepared(&b, 90, &entry, 70);
+    made(&p, removal(&p, "Data", 7), &left, &rec, 61, "remove, bytes to spare");
+    p = prepared(&s, s.length, &none, 29);
+    made(&p, removal(&p, "Pict", 1), &unshared, &entry, 29, "remove of an entry only");
+    p = prepared(&b, 76, &none, 31);
+    refused(&p, removal(&p, "Data", 7), 25, 0, "remove: 25");
+    p = prepared(&b, 76, &none, 40);
+    refused(&p, removal(&p, "Data", 8), 22, 0, "remove: 22");
+    p = prepared(&s, s.length, &none, 40);
+    refused(&p, removal(&p, "Pict", 3), 119, 68, "remove: 119");
+}
+
+static void test_undo(void)
+{
+    image none = {.length = 0}, b = sample_b(), a = sample_a(), left = without_text(), bad = sample_a();
+    image other = record(1, "Data", 8, 0, 0, "\0\0\0\0", "", 0);
+    image added = record(1, "Pict", 1, 1, 0, "\0\0\0\0", "", 0), gone = record(3, "Data", 7, 0, 48, "TEXT", "eel", 3);
+    bad.at[0] = 'G';
+    pair p = prepared(&b, 76, &added, 29);
+    made(&p, undo(&p), &a, NULL, 0, "undo of an add");
+    p = prepared(&left, 76, &gone, 32);
+    made(&p, undo(&p), &b, NULL, 0, "undo of a removal");
+    p = prepared(&left, 75, &gone, 32);
+    refused(&p, undo(&p), 24, 0, "undo: 24");
+    p = prepared(&a, 48, &none, 0);
+    refused(&p, undo(&p), 26, 0, "undo: 26");
+    p = prepared(&a, 48, &other, 29);
+    refused(&p, undo(&p), 21, 0, "undo: 21, another file's");
+    p = prepared(&bad, 48, &other, 29);
+    refused(&p, undo(&p), 3, 0, "undo: 3");
+    other.length = 28;
+    p = prepared(&a, 48, &other, 29);
+    refused(&p, undo(&p), 21, 0, "undo: 21, fewer than 29 bytes");
+}
+
+/* The highest bit of each byte of a record turned: only another number or other data can be undone. */
+static void test_undo_damaged(void)
+{
+    enum { NUMBER = 5, PLACE = 9, DATA = 25, TRAILER = 28 };
+    image left = without_text(), gone = record(3, "Data", 7, 0, 48, "TEXT", "eel", 3);
+    for (size_t at = 0; at < gone.length; at++) {
+        image wrong = gone, b = sample_b();
+        wrong.at[at] ^= 0x80;
+        pair p = prepared(&left, 76, &wrong, 32);
+        int number = at >= NUMBER && at < PLACE, data = at >= DATA && at < TRAILER;
+        if (number || data) {
+            b.at[number ? 28 + at - NUMBER : 56 + at - DATA] ^= 0x80;
+            made(&p, undo(&p), &b, NULL, 0, "undo with another number or other data");
+        } else {
+            refused(&p, undo(&p), 21, 0, "undo: 21, a damaged record");
+        }
+    }
+}
+
+/* 20: lengths beyond the buffers, null pointers too. */
+static void test_lengths(void)
+{
+    image none = {.length = 0}, a = sample_a();
+    size_t wrong[][2] = {{49, 0}, {SIZE_MAX, 0}, {48, 31}, {48, SIZE_MAX}, {SIZE_MAX, SIZE_MAX}};
+    for (size_t i = 0; i < sizeof wrong / sizeof *wrong; i++)
+        for (int call = 0; call < 4; call++) {
+            pair p = prepared(&a, 48, &none, 30);
+            p.length = wrong[i][0];
+            p.used = wrong[i][1];
+            blorb_edit_answer r = call == 0 ? add(&p, "Data", 8, "TEXT", "", 0) : call == 1 ? replace(&p, "Data", 7, "TEXT", "", 0)
+                                : call == 2 ? removal(&p, "Data", 7) : undo(&p);
+            refused(&p, r, 20, 0, "20");
+        }
+    for (size_t length = 0; length < 2; length++) {
+        blorb_edit_answer r = blorb_undo(NULL, 0, length, NULL, 0, 0);
+        expect(r.refusal == (length == 0 ? 2 : 20) && r.length == length && r.used == 0, "undo without buffers");
+        r = blorb_remove(NULL, 0, length, NULL, 0, 1, "Data", 7);
+        expect(r.refusal == 20 && r.length == length && r.used == 1, "remove without buffers");
+    }
+}
+
+int main(void)
+{
+    for (lending = FROM_MALLOC; lending < LENDINGS; lending++) {
+        accepted_files();
+        refused_files();
+        refused_optional();
+        large_files();
+        many_entries();
+        test_blank();
+        test_add();
+        test_add_refused();
+        test_replace();
+        test_remove();
+        test_undo();
+        test_undo_damaged();
+        test_lengths();
+    }
+    printf("interface: %lu checks\ninterface: ok\n", checks);
+    return 0;
+}
