@@ -18,7 +18,8 @@ typedef blorb_edit_answer call(const request *r, contents *c, journal *j, size_t
 
 static blorb_edit_answer call_add(const request *r, contents *c, journal *j, size_t used, const data *d)
 {
-    return blorb_add(c->file, BLORB_MAX_SIZE, c->length, j->records, j->room, used, r->usage, r->number, r->type, d->at, d->length);
+    return blorb_add(c->file, BLORB_MAX_SIZE, c->length, j->records, j->room, used, r->usage, r->number, r->type, d->at,
+                     d->length);
 }
 
 static blorb_edit_answer call_replace(const request *r, contents *c, journal *j, size_t used, const data *d)
@@ -165,13 +166,8 @@ static int make_new(const request *r, const place *p)
     if (is_there(p, p->undo))
         return say_cannot(p->undo, "the journal of an older file of this name is still there", advice);
     blorb_edit_answer a = blorb_blank(blank, sizeof blank);
-    if (stage(p, p->temp, blank, (size_t)a.length, NULL) != 0)
-        return say_failed(r->file, "the file cannot be written");
-    if (install(p, p->temp, p->name) != 0) {
-        discard(p, p->temp);
-        return say_failed(r->file, "the file cannot be written");
-    }
-    return confirm(p) == 0 ? CARRIED_OUT : say_failed(r->file, "the new file is in place, but the disk has not confirmed it");
+    int done = replace_file(p, blank, (size_t)a.length, NULL);
+    return done == 0 ? CARRIED_OUT : say_failed(r->file, "the file cannot be written");
 }
 
 int run_new(const request *r)

@@ -165,6 +165,17 @@ int confirm(const place *p)
     return fsync(p->folder) == 0 || errno == EINVAL ? 0 : -1;
 }
 
+int replace_file(const place *p, const uint8_t *from, size_t length, const struct stat *like)
+{
+    if (stage(p, p->temp, from, length, like) != 0)
+        return -1;
+    if (install(p, p->temp, p->name) != 0) {
+        discard(p, p->temp);
+        return -1;
+    }
+    return confirm(p);
+}
+
 void discard(const place *p, const char *name)
 {
     int error = errno;

@@ -22,7 +22,8 @@ static const command commands[] = {
     {"check", "f", "check FILE", "say whether the file keeps every rule, or which one it breaks and where", run_check},
     {"get", "funo", "get FILE USAGE NUMBER [-o OUT]", "write a resource's data to standard output or to OUT", run_get},
     {"new", "f", "new FILE", "make a file with no resources", run_new},
-    {"add", "funtd", "add FILE USAGE NUMBER TYPE DATAFILE", "add a resource with the data of DATAFILE, - for standard input", run_add},
+    {"add", "funtd", "add FILE USAGE NUMBER TYPE DATAFILE", "add a resource with the data of DATAFILE; - is standard input",
+     run_add},
     {"replace", "funtd", "replace FILE USAGE NUMBER TYPE DATAFILE", "give a resource another type and other data", run_replace},
     {"remove", "fun", "remove FILE USAGE NUMBER", "remove a resource", run_remove},
     {"undo", "f", "undo FILE", "take back the last add, replace or remove that is not taken back yet", run_undo},
@@ -35,15 +36,17 @@ static void print_help(void)
     puts("blorb: look into Blorb files, and change them with undo\n");
     for (int i = 0; i < COMMANDS; i++)
         printf("  blorb %s\n      %s\n", commands[i].usage, commands[i].help);
-    puts("\nUSAGE is Pict, Snd, Data or Exec; NUMBER is 0 to 4294967295; TYPE is four letters such as JPEG or TEXT. Spaces at the\n"
-         "end of a usage or type can be left out: Snd, PNG, MOD. An AIFF sound has the type FORM.\n"
+    puts("\nUSAGE is Pict, Snd, Data or Exec; NUMBER is 0 to 4294967295; TYPE is four letters such as JPEG or TEXT. Spaces at\n"
+         "the end of a usage or type can be left out: Snd, PNG, MOD. An AIFF sound has the type FORM.\n"
          "What undo needs is kept beside the file, in FILE.undo. Delete it to give up undoing.\n"
          "Exit status: 0 done; 1 the library refused, with its number, place and reason; 2 wrong use, or the system failed.");
 }
 
 static int misused(const command *c, const char *why, const char *what)
 {
-    fprintf(stderr, "blorb %s: %s%s%s\n  usage: blorb %s\n", c->name, why, what[0] != '\0' ? ": " : "", what, c->usage);
+    fprintf(stderr, "blorb %s: %s%s", c->name, why, what[0] != '\0' ? ": " : "");
+    say_safely(what);
+    fprintf(stderr, "\n  usage: blorb %s\n", c->usage);
     return FAILED;
 }
 
@@ -133,7 +136,9 @@ static int run(int count, char **words)
     for (int i = 0; i < COMMANDS; i++)
         if (strcmp(words[0], commands[i].name) == 0)
             return run_command(&commands[i], count - 1, words + 1);
-    fprintf(stderr, "blorb: there is no command %s. `blorb --help` lists them.\n", words[0]);
+    fputs("blorb: there is no command ", stderr);
+    say_safely(words[0]);
+    fputs(". `blorb --help` lists them.\n", stderr);
     return FAILED;
 }
 

@@ -54,7 +54,8 @@ int run_list(const request *r)
 
 static int put_on_output(const uint8_t *from, size_t length)
 {
-    return write_all(STDOUT_FILENO, from, length) == 0 ? CARRIED_OUT : say_failed("standard output", "the data cannot be written");
+    int done = write_all(STDOUT_FILENO, from, length);
+    return done == 0 ? CARRIED_OUT : say_failed("standard output", "the data cannot be written");
 }
 
 /* Devices and pipes are written to as they are; only a plain file can be replaced by a new one. */
@@ -72,11 +73,7 @@ static int put_in_file(const char *path, const struct stat *old, const uint8_t *
     place p;
     int done = open_place(&p, path);
     if (done == 0)
-        done = stage(&p, p.temp, from, length, old);
-    if (done == 0 && (done = install(&p, p.temp, p.name)) != 0)
-        discard(&p, p.temp);
-    if (done == 0)
-        done = confirm(&p);
+        done = replace_file(&p, from, length, old);
     int status = done == 0 ? CARRIED_OUT : say_failed(path, "the data cannot be written");
     close_place(&p);
     return status;
@@ -88,11 +85,13 @@ static int put(const request *r, const contents *c, const uint8_t *from, size_t 
     if (r->out == NULL)
         return put_on_output(from, length);
     if (stat(r->out, &old) != 0)
-        return errno == ENOENT ? put_in_file(r->out, NULL, from, length) : say_failed(r->out, "the file cannot be looked at");
+        return errno == ENOENT ? put_in_file(r->out, NULL, from, length) : say_failed(r->out, "the file cannot be reached");
     if (old.st_dev == c->status.st_dev && old.st_ino == c->status.st_ino)
         return say_cannot(r->out, "the data would overwrite the Blorb file itself", "Give another name after -o.");
     if (!S_ISREG(old.st_mode))
         return put_in_device(r->out, from, length);
+    if (access(r->out, W_OK) != 0)
+        return say_failed(r->out, "the file may not be overwritten");
     return put_in_file(r->out, &old, from, length);
 }
 

@@ -28,7 +28,7 @@ static const meaning meanings[] = {
     {BLORB_NO_IFRS, "the file's form type is not 'IFRS', so it is no Blorb file", "Check the file's name."},
     {BLORB_FORM_LENGTH, "the length in the file's first chunk is not the file's length less 8", GET_AGAIN},
     {BLORB_CHUNK_CUT, "a chunk runs past the end of the file", GET_AGAIN},
-    {BLORB_PADDING, "the padding byte behind a chunk of odd length is not zero", "Set this byte to zero, or pack the file again."},
+    {BLORB_PADDING, "the padding byte behind a chunk of odd length is not zero", "Set it to zero, or pack the file again."},
     {BLORB_NO_INDEX, "the first chunk is not the index 'RIdx'", PACK_AGAIN},
     {BLORB_SECOND_INDEX, "there is a second index 'RIdx'", PACK_AGAIN},
     {BLORB_INDEX_LENGTH, "the length of the index does not agree with its count of entries", PACK_AGAIN},
@@ -49,7 +49,8 @@ static const meaning meanings[] = {
     {BLORB_FILE_ROOM, "there is no room for the file", NULL},
     {BLORB_JOURNAL_ROOM, "there is no room in the journal", NULL},
     {BLORB_NOTHING_TO_UNDO, "there is nothing to undo", NULL},
-    {BLORB_RESULT_TOO_LONG, "the file would be longer than 16,777,216 bytes", "Use smaller data, or remove another resource first."},
+    {BLORB_RESULT_TOO_LONG, "the file would be longer than 16,777,216 bytes",
+     "Use smaller data, or remove another resource first."},
     {BLORB_RESULT_SECOND_INDEX, "a resource may not have the index's type 'RIdx'", TYPES},
     {BLORB_RESULT_TOO_MANY, "the index would have more than 4,096 entries", "Remove another resource first."},
     {BLORB_RESULT_USAGE, "there is no such usage", "Use Pict, Snd, Data or Exec."},
@@ -76,6 +77,18 @@ void show_tag(const char tag[4], char shown[SHOWN_SIZE])
     shown[n] = '\0';
 }
 
+void say_safely(const char *text)
+{
+    for (; *text != '\0'; text++)
+        fputc((unsigned char)*text < ' ' || *text == 0x7f ? '?' : *text, stderr);
+}
+
+static void say_file(const char *file)
+{
+    fputs("blorb: ", stderr);
+    say_safely(file);
+}
+
 static void say_advice(const char *advice)
 {
     if (advice != NULL)
@@ -88,8 +101,10 @@ int say_refused(const char *file, uint64_t number, uint64_t place, const char *a
     for (size_t i = 0; i < sizeof meanings / sizeof *meanings; i++)
         if (meanings[i].number == number)
             known = meanings[i];
-    fprintf(stderr, "blorb: %s: refused %" PRIu64 " at %" PRIu64 ": %s%s%s.\n", file, number, place, known.sentence,
-            about[0] != '\0' ? ": " : "", about);
+    say_file(file);
+    fprintf(stderr, ": refused %" PRIu64 " at %" PRIu64 ": %s%s", number, place, known.sentence, about[0] != '\0' ? ": " : "");
+    say_safely(about);
+    fputs(".\n", stderr);
     say_advice(known.advice);
     return REFUSED;
 }
@@ -115,14 +130,18 @@ static const char *advice_for(int error)
 int say_failed(const char *file, const char *what)
 {
     int error = errno;
-    fprintf(stderr, "blorb: %s: %s: %s.\n", file, what, strerror(error));
+    say_file(file);
+    fprintf(stderr, ": %s: %s.\n", what, strerror(error));
     say_advice(advice_for(error));
     return FAILED;
 }
 
 int say_cannot(const char *file, const char *why, const char *advice)
 {
-    fprintf(stderr, "blorb: %s: %s.\n", file, why);
+    say_file(file);
+    fputs(": ", stderr);
+    say_safely(why);
+    fputs(".\n", stderr);
     say_advice(advice);
     return FAILED;
 }

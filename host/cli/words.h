@@ -14,6 +14,9 @@ enum { CARRIED_OUT = 0, REFUSED = 1, FAILED = 2 };
 enum { SHOWN_SIZE = 19 };
 void show_tag(const char tag[4], char shown[SHOWN_SIZE]);
 
+/* Prints text from outside to standard error, control characters as '?'. */
+void say_safely(const char *text);
+
 /* A refusal of the library; `about` (or "") says what it is about. Gives REFUSED. */
 int say_refused(const char *file, uint64_t number, uint64_t place, const char *about);
 

@@ -3,7 +3,7 @@ import errno
 import itertools
 
 from building import Dice, blorb, put
-from command_kit import (ENDED_BY_SHIM, contents, done, expect, failed, jpeg, refused, restore, run, same)
+from command_kit import ENDED_BY_SHIM, contents, done, editing_reference, expect, failed, jpeg, refused, restore, run, same
 
 FILE, UNDO = "game.blb", "game.blb.undo"
 TEMPS = {FILE + ".blorb-temp", UNDO + ".blorb-temp"}
@@ -89,6 +89,26 @@ def ended_at_every_step(work):
             kinds.add(case.readable(what))
             case.goes_on(left, what)
         same(kinds, {"old", "new"}, f"{step[0]}: both pairs were met")
+
+
+def single_files(work):
+    """new and get -o, ended at every step: there is the old file or the whole new one."""
+    for words, name, olds, wanted in ((("new", work / "n.blb"), "n.blb", [None], editing_reference.BLANK),
+                                      (("get", work / FILE, "Pict", "1", "-o", work / "out"), "out", [None, b"old"], jpeg())):
+        for old in olds:
+            seen = set()
+            for n in itertools.count(1):
+                restore(work, {FILE: START} if old is None else {FILE: START, name: old})
+                status = run(*words, shim={"CRASH_AT": str(n)}).status
+                left = contents(work).get(name)
+                expect(left in (old, wanted), f"{words} ended at step {n}: the old file or the new one")
+                seen.add(left)
+                if status == 0:
+                    break
+                same(status, ENDED_BY_SHIM, f"{words} at step {n}")
+                same(done(*words) if left == old or words[0] == "get" else b"", b"", f"{words} once more")
+                same(contents(work)[name], wanted, f"{words} once more")
+            same(seen, {old, wanted}, f"{words}: both were met")
 
 
 def failing_at_every_step(work):
@@ -218,4 +238,4 @@ def damaged_journals(work):
     expect((work / UNDO).is_symlink(), "a link in the journal's place stays")
 
 
-PARTS = (ended_at_every_step, failing_at_every_step, power_loss, other_journals, damaged_journals)
+PARTS = (ended_at_every_step, single_files, failing_at_every_step, power_loss, other_journals, damaged_journals)

@@ -27,6 +27,7 @@ def help_and_misuse(work):
         failed(name, *["x"] * 9, saying="usage: blorb")
     failed(saying="--help")
     failed("lists", "x", saying="--help")
+    expect("\x1b" not in failed("\x1b[2J").err + failed("list", "x", "\x1b[2J").err, "words are shown safely")
     file = work / "misuse.blb"
     done("new", file)
     for number in ("", "-1", "+1", " 1", "1 ", "0x1", "1e3", "1.0", "4294967296", "18446744073709551616", "9" * 40, "\u0661"):
@@ -275,6 +276,8 @@ def new_and_names(work):
     os.mkfifo(work / "pipe")
     failed("add", work / "pipe", "Data", "7", "TEXT", "-", saying="plain file")
     failed("add", file, "Data", "7", "TEXT", work / "no data", saying="no data")
+    text = failed("list", work / "\x1b[2J\n.blb").err
+    expect("\x1b" not in text and text.count("\n") == 2, f"a name is shown safely: {text!r}")
     long = work / ("n" * 241)
     done("new", long)
     failed("add", long, "Data", "7", "TEXT", "-", saying="shorter name")
@@ -391,6 +394,10 @@ def permissions(work):
     os.chmod(folder, 0o555)
     failed("new", folder / "new.blb", saying="permissions", **user)
     failed("get", file, "Data", "7", "-o", folder / "out", saying="permissions", **user)
+    (work / "kept").write_bytes(b"kept")
+    os.chmod(work / "kept", 0o444)
+    failed("get", file, "Data", "7", "-o", work / "kept", saying="permissions", **user)
+    same((work / "kept").read_bytes(), b"kept", "get -o leaves a file alone that may not be written")
     os.chmod(file, 0)
     failed("list", file, saying="permissions", **user)
     os.chmod(file, 0o644)
