@@ -10,7 +10,7 @@ import command_crash
 import command_use
 
 
-# A file system in memory: what the crash tests try does not depend on the disk, and thousands of waits for one would take minutes.
+# A file system in memory: what the crash tests try does not depend on the disk, and waiting for one would take minutes.
 MEMORY = "/dev/shm" if os.access("/dev/shm", os.W_OK) else None
 
 

@@ -1,4 +1,4 @@
-"""The file and its journal as a pair: ended at every step, failing at every step, after a power loss, and with another journal."""
+"""The file and its journal as a pair: ended and failing at every step, after a power loss, and with another journal."""
 import errno
 import itertools
 
@@ -18,8 +18,9 @@ UNDO_ONE = ("undo",), b""
 
 # What was done before, and the call under test.
 CASES = (
-    ([], ADD), ([], REMOVE), ([REMOVE_SHARED, REPLACE], ADD), ([ADD, REMOVE_SHARED], REPLACE), ([ADD], SAME), ([REPLACE, ADD], REMOVE),
-    ([ADD], REMOVE_SHARED), ([ADD], UNDO_ONE), ([ADD, REPLACE], UNDO_ONE), ([ADD, REMOVE], UNDO_ONE), ([ADD, SAME], UNDO_ONE),
+    ([], ADD), ([], REMOVE), ([REMOVE_SHARED, REPLACE], ADD), ([ADD, REMOVE_SHARED], REPLACE), ([ADD], SAME),
+    ([REPLACE, ADD], REMOVE), ([ADD], REMOVE_SHARED),
+    ([ADD], UNDO_ONE), ([ADD, REPLACE], UNDO_ONE), ([ADD, REMOVE], UNDO_ONE), ([ADD, SAME], UNDO_ONE),
     ([ADD, REPLACE, UNDO_ONE], REMOVE), ([ADD, REPLACE, REMOVE, UNDO_ONE], UNDO_ONE),
 )
 
@@ -66,7 +67,7 @@ class Case:
         return "old" if files == self.old else "new"
 
     def goes_on(self, left, what):
-        """From what was left, the call can be made again where it was not carried out, and nothing stays of the interrupted one."""
+        """From what was left, the call can be made again where it was not carried out; nothing stays of the interrupted one."""
         restore(self.folder, left)
         if left[FILE] == self.old[0] != self.new[0]:
             same(call(self.folder, self.step).status, 0, f"{what}: the call made again")
@@ -112,7 +113,7 @@ def single_files(work):
 
 
 def failing_at_every_step(work):
-    """Each step fails instead: the old pair stays and nothing else is left, but where the disk only does not confirm the new one."""
+    """Each step fails instead: the old pair stays, or the new one is in place and only unconfirmed; nothing else is left."""
     for earlier, step in CASES:
         case = Case(work, earlier, step)
         for n in range(1, len(case.steps) + 1):

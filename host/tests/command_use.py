@@ -77,8 +77,9 @@ def media(work):
     """Real data of each kind goes in and comes out byte for byte; usages and types without their spaces."""
     file, out = work / "game.blb", work / "out"
     song = b"song" + bytes(1080) + b"M.K."
-    parts = [("Pict", "1", "PNG", png()), ("Pict", "2", "JPEG", jpeg()), ("Snd", "3", "OGGV", ogg()), ("Snd", "4", "FORM", aiff()),
-             ("Snd", "5", "FORM", aiff(b"odd")), ("Snd ", "6", "MOD ", song), ("Exec", "0", "AGT", b"\1\2\3"),
+    parts = [("Pict", "1", "PNG", png()), ("Pict", "2", "JPEG", jpeg()), ("Snd", "3", "OGGV", ogg()),
+             ("Snd", "4", "FORM", aiff()), ("Snd", "5", "FORM", aiff(b"odd")),
+             ("Snd ", "6", "MOD ", song), ("Exec", "0", "AGT", b"\1\2\3"),
              ("Data", "4294967295", "TEXT", "Wie geht's?\n".encode()), ("Data", "0", "BINA", b"")]
     done("new", file)
     wanted = BLANK
@@ -132,8 +133,10 @@ def refused_files(work):
         text = refused(*verdict[1:], "check", file).err
         expect(all(c == "\n" or " " <= c <= "~" for c in text), f"only printable text: {text!r}")
         refused(*verdict[1:], "get", file, "Data", "7", "-o", work / "out")
-        for words in (("add", "Data", "8", "TEXT", "-"), ("replace", "Data", "7", "TEXT", "-"), ("remove", "Data", "7"), ("undo",)):
-            refused(*verdict[1:], words[0], file, *words[1:], stdin=b"new")
+        refused(*verdict[1:], "add", file, "Data", "8", "TEXT", "-", stdin=b"new")
+        refused(*verdict[1:], "replace", file, "Data", "7", "TEXT", "-", stdin=b"new")
+        refused(*verdict[1:], "remove", file, "Data", "7")
+        refused(*verdict[1:], "undo", file)
         same(contents(work), {"wrong.blb": wrong}, "a refused file is left alone")
 
 
@@ -145,7 +148,8 @@ def refused_edits(work):
     file.write_bytes(shared)
     last = 24 + 12 * 4
     for number, place, *words in (
-            (22, 0, "get", "Data", "4"), (22, 0, "get", "Dat", "3"), (22, 0, "remove", "Data", "4"), (22, 0, "remove", "dat\n", "3"),
+            (22, 0, "get", "Data", "4"), (22, 0, "get", "Dat", "3"), (22, 0, "remove", "Data", "4"),
+            (22, 0, "remove", "dat\n", "3"),
             (22, 0, "replace", "Snd", "3", "MOD", "-"), (23, 0, "replace", "Pict", "1", "PNG", "-"), (26, 0, "undo"),
             (109, len(shared) + 12, "add", "Data", "5", "RIdx", "-"), (112, last, "add", "\x1bPic", "5", "PNG", "-"),
             (114, last, "add", "Pict", "5", "\x1b[2J", "-"), (114, 48, "replace", "Data", "3", "JPEG", "-"),
@@ -172,21 +176,24 @@ def cut_and_damaged(work):
     for _ in range(150):
         spoiled = whole
         for _ in range(1 + dice.below(3)):
-            spoiled = put(spoiled, 4 * dice.below(len(whole) // 4), dice.one_of([be(dice.below(64)), b"RIdx", b"Fspc", dice.bytes(4)]))
+            word = dice.one_of([be(dice.below(64)), b"RIdx", b"Fspc", dice.bytes(4)])
+            spoiled = put(spoiled, 4 * dice.below(len(whole) // 4), word)
         bad.append(spoiled)
     for spoiled in bad:
         file.write_bytes(spoiled)
         result = run("list", file)
         same(result.out, listing(spoiled), f"list of {spoiled.hex()}")
         same(result.status, 1 if result.out.startswith(b"refused") else 0, f"status for {spoiled.hex()}")
-    return len(bad)
+
+
+KINDS = {"Data": ("TEXT", "BINA"), "Pict": ("PNG", "Rect"), "Snd": ("MOD", "OGGV"), "Exec": ("ZCOD", "AGT")}
 
 
 def a_call(dice, file):
     """Words for the program and a change of the reference, which may be refused."""
     pairs = [("Data", 1 + dice.below(8)), ("Pict", 1 + dice.below(4)), ("Snd", 1 + dice.below(3)), ("Exec", dice.below(2))]
     usage, number = dice.one_of(pairs)
-    kind = {"Data": ("TEXT", "BINA"), "Pict": ("PNG", "Rect"), "Snd": ("MOD", "OGGV"), "Exec": ("ZCOD", "AGT")}[usage][dice.below(2)]
+    kind = dice.one_of(KINDS[usage])
     data = dice.bytes(8 if kind == "Rect" else dice.below(40))
     what = dice.one_of(["added", "added", "replaced", "removed"])
     tags = [usage.ljust(4).encode(), number]
@@ -200,7 +207,8 @@ def a_call(dice, file):
 def chains(work):
     """Long mixed runs against the reference, then undo all the way back to the starting file."""
     dice, file = Dice(2004), work / "chain.blb"
-    for start in (BLANK, blorb([(b"Pict", 1, 0), (b"Pict", 2, 0), (b"Data", 3, 1)], [(b"JPEG", jpeg()), (b"TEXT", b"odd"), (b"ANNO", b"x")])):
+    shared = blorb([(b"Pict", 1, 0), (b"Pict", 2, 0), (b"Data", 3, 1)], [(b"JPEG", jpeg()), (b"TEXT", b"odd"), (b"ANNO", b"x")])
+    for start in (BLANK, shared):
         file.write_bytes(start)
         states = [start]
         for _ in range(120):
@@ -331,10 +339,10 @@ def outputs(work):
     same(contents(work), {"game.blb": SAMPLE_A}, "nothing is left behind")
 
 
-def intact(work, held, words):
+def intact(work, held, *words, **more):
     """A call that fails leaves all files as they were."""
-    failed(*words[0], **words[1])
-    same(contents(work), held, f"{words[0]} failed, nothing changed")
+    failed(*words, **more)
+    same(contents(work), held, f"{words} failed, nothing changed")
 
 
 def size_limit(work):
@@ -369,8 +377,9 @@ def full_disk(work):
         done("new", file)
         done("add", file, "Data", "1", "BINA", "-", stdin=bytes(10000))
         held = contents(small)
-        for words in (("add", file, "Data", "2", "BINA", "-"), ("remove", file, "Data", "1"), ("get", file, "Data", "1", "-o", small / "out")):
-            intact(small, held, (words, {"stdin": bytes(9000), "saying": "Make room"}))
+        intact(small, held, "add", file, "Data", "2", "BINA", "-", stdin=bytes(9000), saying="Make room")
+        intact(small, held, "remove", file, "Data", "1", saying="Make room")
+        intact(small, held, "get", file, "Data", "1", "-o", small / "out", saying="Make room")
         done("undo", file)
         same(contents(small), {"game.blb": BLANK}, "undo needs little room")
     finally:
@@ -389,7 +398,7 @@ def permissions(work):
         os.chmod(file, file_mode)
         os.chmod(folder, folder_mode)
         for words in (("add", file, "Data", "8", "TEXT", "-"), ("remove", file, "Data", "7"), ("undo", file)):
-            intact(folder, held, (words, {**user, "saying": "permissions"}))
+            intact(folder, held, *words, saying="permissions", **user)
         same(done("get", file, "Data", "7", **user), b"eel", "reading is permitted")
     os.chmod(folder, 0o555)
     failed("new", folder / "new.blb", saying="permissions", **user)
@@ -428,5 +437,5 @@ def two_at_once(work):
     same((waiting.wait(), done("get", file, "Data", "1")), (0, b"data"), "and goes on")
 
 
-PARTS = (help_and_misuse, samples_of_01, media, refused_files, refused_edits, cut_and_damaged, chains, at_the_limit, new_and_names,
-         links_and_permissions, outputs, size_limit, full_disk, permissions, two_at_once)
+PARTS = (help_and_misuse, samples_of_01, media, refused_files, refused_edits, cut_and_damaged, chains, at_the_limit,
+         new_and_names, links_and_permissions, outputs, size_limit, full_disk, permissions, two_at_once)

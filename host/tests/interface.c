@@ -397,8 +397,8 @@ static blorb_edit_answer add(pair *p, const char *usage, uint32_t number, const 
 static blorb_edit_answer replace(pair *p, const char *usage, uint32_t number, const char *type, const char *data, size_t n)
 {
     lent d = lend((const uint8_t *)data, n, n);
-    blorb_edit_answer a = blorb_replace(p->file.at, p->file.size, p->length, p->journal.at, p->journal.size, p->used, usage, number,
-                                        type, d.at, d.size);
+    blorb_edit_answer a = blorb_replace(p->file.at, p->file.size, p->length, p->journal.at, p->journal.size, p->used, usage,
+                                        number, type, d.at, d.size);
     expect(n == 0 || memcmp(d.at, data, n) == 0, "replace leaves the data alone");
     give_back(&d);
     return a;
@@ -577,8 +577,10 @@ static void test_lengths(void)
             pair p = prepared(&a, 48, &none, 30);
             p.length = wrong[i][0];
             p.used = wrong[i][1];
-            blorb_edit_answer r = call == 0 ? add(&p, "Data", 8, "TEXT", "", 0) : call == 1 ? replace(&p, "Data", 7, "TEXT", "", 0)
-                                : call == 2 ? removal(&p, "Data", 7) : undo(&p);
+            blorb_edit_answer r = call == 0   ? add(&p, "Data", 8, "TEXT", "", 0)
+                                  : call == 1 ? replace(&p, "Data", 7, "TEXT", "", 0)
+                                  : call == 2 ? removal(&p, "Data", 7)
+                                              : undo(&p);
             refused(&p, r, 20, 0, "20");
         }
     for (size_t length = 0; length < 2; length++) {
