@@ -183,7 +183,11 @@ def cut_and_damaged(work):
         file.write_bytes(spoiled)
         result = run("list", file)
         same(result.out, listing(spoiled), f"list of {spoiled.hex()}")
-        same(result.status, 1 if result.out.startswith(b"refused") else 0, f"status for {spoiled.hex()}")
+        bad_file = result.out.startswith(b"refused")
+        same(result.status, 1 if bad_file else 0, f"status for {spoiled.hex()}")
+        text = f"{file}: {result.out.decode().strip()}: " if bad_file else ""
+        expect(text in result.err and bool(text) == bool(result.err), f"{spoiled.hex()}: {result}")
+        expect(all(c == "\n" or " " <= c <= "~" for c in result.err), f"only printable text: {result.err!r}")
 
 
 KINDS = {"Data": ("TEXT", "BINA"), "Pict": ("PNG", "Rect"), "Snd": ("MOD", "OGGV"), "Exec": ("ZCOD", "AGT")}
