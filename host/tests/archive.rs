@@ -1,0 +1,241 @@
+//! The library's calls through its C interface, on buffers that lie inside larger guarded arrays.
+
+use crate::reference::{Answer, Call, Edit, Refusal, State, Tag};
+use std::ptr;
+
+/// The structures of blorb.h that come back by value.
+mod raw {
+    #[repr(C)]
+    pub struct Read {
+        pub refusal: u64,
+        pub place: u64,
+        pub length: u64,
+        pub count: u64,
+    }
+
+    #[repr(C)]
+    pub struct Entry {
+        pub refusal: u64,
+        pub place: u64,
+        pub usage: u32,
+        pub number: u32,
+        pub start: u64,
+    }
+
+    #[repr(C)]
+    pub struct Lookup {
+        pub refusal: u64,
+        pub place: u64,
+        pub tag: u32,
+        pub start: u64,
+        pub length: u64,
+    }
+
+    #[repr(C)]
+    pub struct Edit {
+        pub refusal: u64,
+        pub place: u64,
+        pub length: u64,
+        pub used: u64,
+    }
+
+    #[rustfmt::skip]
+    extern "C" {
+        pub fn blorb_read(file: *const u8, size: usize) -> Read;
+        pub fn blorb_entry(file: *const u8, size: usize, i: usize) -> Entry;
+        pub fn blorb_lookup(file: *const u8, size: usize, usage: *const u8, number: u32) -> Lookup;
+        pub fn blorb_blank(file: *mut u8, size: usize) -> Edit;
+        pub fn blorb_add(file: *mut u8, size: usize, length: usize, journal: *mut u8, journal_size: usize, used: usize,
+            usage: *const u8, number: u32, tag: *const u8, data: *const u8, data_size: usize) -> Edit;
+        pub fn blorb_replace(file: *mut u8, size: usize, length: usize, journal: *mut u8, journal_size: usize, used: usize,
+            usage: *const u8, number: u32, tag: *const u8, data: *const u8, data_size: usize) -> Edit;
+        pub fn blorb_remove(file: *mut u8, size: usize, length: usize, journal: *mut u8, journal_size: usize, used: usize,
+            usage: *const u8, number: u32) -> Edit;
+        pub fn blorb_undo(file: *mut u8, size: usize, length: usize, journal: *const u8, journal_size: usize,
+            used: usize) -> Edit;
+    }
+}
+
+const GUARD: usize = 64;
+
+/// A copy of some bytes with guard bytes before and behind.
+pub struct Lent {
+    array: Vec<u8>,
+    from: usize,
+    size: usize,
+}
+
+/// The guard bytes differ from place to place, so that moving them is seen too.
+fn guard_byte(i: usize) -> u8 {
+    (i as u8).wrapping_mul(37) ^ 0xA5
+}
+
+impl Lent {
+    /// The copy begins `shift` (below 16) bytes past an even place, so that no call can count on an alignment.
+    pub fn new(bytes: &[u8], shift: usize) -> Lent {
+        let from = GUARD + shift;
+        let mut array = Vec::with_capacity(from + bytes.len() + GUARD);
+        array.extend((0..from).map(guard_byte));
+        array.extend(bytes);
+        array.extend((0..GUARD).map(guard_byte));
+        Lent { array, from, size: bytes.len() }
+    }
+
+    /// Where nothing is lent, half of the pointers are null.
+    fn pointer(&mut self) -> *mut u8 {
+        if self.size == 0 && self.from % 2 == 0 {
+            return ptr::null_mut();
+        }
+        self.array[self.from..].as_mut_ptr()
+    }
+
+    pub fn bytes(&self) -> &[u8] {
+        &self.array[self.from..self.from + self.size]
+    }
+
+    fn guards_whole(&self) -> bool {
+        let (before, behind) = (&self.array[..self.from], &self.array[self.from + self.size..]);
+        let whole = |guard: &[u8]| guard.iter().enumerate().all(|(i, &byte)| byte == guard_byte(i));
+        whole(before) && whole(behind)
+    }
+
+    /// A complaint where a guard byte was written, or where the bytes are not those expected.
+    pub fn complaint(&self, what: &str, expected: &[u8]) -> Option<String> {
+        if !self.guards_whole() {
+            return Some(format!("a byte outside the {what} was written"));
+        }
+        first_difference(what, expected, self.bytes())
+    }
+}
+
+pub fn first_difference(what: &str, expected: &[u8], found: &[u8]) -> Option<String> {
+    if expected == found {
+        return None;
+    }
+    match expected.iter().zip(found).position(|(a, b)| a != b) {
+        Some(i) => Some(format!("{what} byte {i}: expected {}, found {}", expected[i], found[i])),
+        None => Some(format!("{what}: expected {} bytes, found {}", expected.len(), found.len())),
+    }
+}
+
+/// The reading calls' answers in the reference's form. A refused call must hand back zeros besides number and place.
+type Reading<const N: usize> = Result<Result<[u64; N], Refusal>, String>;
+
+fn reading<const N: usize>(refusal: u64, place: u64, values: [u64; N]) -> Reading<N> {
+    match refusal {
+        0 if place != 0 => Err(format!("place {place} without a refusal")),
+        0 => Ok(Ok(values)),
+        _ if values != [0; N] => Err(format!("refused with {refusal} at {place}, yet handed back {values:?}")),
+        number => Ok(Err(Refusal { number, place })),
+    }
+}
+
+pub fn read(file: &mut Lent) -> Reading<2> {
+    let answer = unsafe { raw::blorb_read(file.pointer(), file.size) };
+    reading(answer.refusal, answer.place, [answer.length, answer.count])
+}
+
+pub fn entry(file: &mut Lent, i: usize) -> Reading<3> {
+    let answer = unsafe { raw::blorb_entry(file.pointer(), file.size, i) };
+    reading(answer.refusal, answer.place, [answer.usage as u64, answer.number as u64, answer.start])
+}
+
+pub fn lookup(file: &mut Lent, usage: &Tag, number: u32) -> Reading<3> {
+    let answer = unsafe { raw::blorb_lookup(file.pointer(), file.size, usage.as_ptr(), number) };
+    reading(answer.refusal, answer.place, [answer.tag as u64, answer.start, answer.length])
+}
+
+fn edited(answer: raw::Edit) -> Answer {
+    Answer { refusal: answer.refusal, place: answer.place, length: answer.length, used: answer.used }
+}
+
+pub fn blank(file: &mut Lent) -> Answer {
+    edited(unsafe { raw::blorb_blank(file.pointer(), file.size) })
+}
+
+/// The two buffers of an editing call.
+pub struct Buffers {
+    pub file: Lent,
+    pub journal: Lent,
+}
+
+impl Buffers {
+    pub fn new(state: &State, shift: usize) -> Buffers {
+        Buffers { file: Lent::new(&state.file, shift), journal: Lent::new(&state.journal, (shift + 5) % 16) }
+    }
+
+    /// One call with these lengths, and a complaint where anything else than `after` is in the buffers afterwards.
+    pub fn call(&mut self, call: &Call, state: &State, after: &State) -> (Answer, Option<String>) {
+        let (answer, complaint) = match call {
+            Call::Edit(edit) => call_edit(edit, state, &mut self.file, &mut self.journal),
+            Call::Undo => (call_undo(state, &mut self.file, &mut self.journal), None),
+        };
+        let complaint = complaint
+            .or_else(|| self.file.complaint("file buffer", &after.file))
+            .or_else(|| self.journal.complaint("journal", &after.journal));
+        (answer, complaint)
+    }
+}
+
+fn call_undo(state: &State, file: &mut Lent, journal: &mut Lent) -> Answer {
+    edited(unsafe {
+        raw::blorb_undo(file.pointer(), file.size, state.length, journal.pointer(), journal.size, state.used)
+    })
+}
+
+fn call_edit(edit: &Edit, state: &State, file: &mut Lent, journal: &mut Lent) -> (Answer, Option<String>) {
+    let (usage, number, tag, data): (_, _, &Tag, &[u8]) = match edit {
+        Edit::Add { usage, number, tag, data } | Edit::Replace { usage, number, tag, data } => {
+            (usage, *number, tag, data)
+        }
+        Edit::Remove { usage, number } => (usage, *number, &[0; 4], &[]),
+    };
+    let mut lent_usage = Lent::new(usage, file.from % 7);
+    let mut lent_tag = Lent::new(tag, file.from % 5);
+    let mut lent_data = Lent::new(data, file.from % 3);
+    let (u, t, d, n) = (lent_usage.pointer(), lent_tag.pointer(), lent_data.pointer(), data.len());
+    let (f, size, length) = (file.pointer(), file.size, state.length);
+    let (j, journal_size, used) = (journal.pointer(), journal.size, state.used);
+    let answer = unsafe {
+        match edit {
+            Edit::Add { .. } => raw::blorb_add(f, size, length, j, journal_size, used, u, number, t, d, n),
+            Edit::Replace { .. } => raw::blorb_replace(f, size, length, j, journal_size, used, u, number, t, d, n),
+            Edit::Remove { .. } => raw::blorb_remove(f, size, length, j, journal_size, used, u, number),
+        }
+    };
+    let complaint = lent_usage
+        .complaint("usage", usage)
+        .or_else(|| lent_tag.complaint("type", tag))
+        .or_else(|| lent_data.complaint("data", data));
+    (edited(answer), complaint)
+}
+
+/// Calls that are lent more than 4 GiB: what was called, its answer, and the answer expected.
+pub fn on_huge_arrays(zeros: &mut [u8]) -> Vec<(&'static str, [u64; 4], [u64; 4])> {
+    let numbers = |answer: raw::Edit| [answer.refusal, answer.place, answer.length, answer.used];
+    let (mut small, mut journal) = ([0; 100], [0; 100]);
+    let (f, j, z, huge) = (small.as_mut_ptr(), journal.as_mut_ptr(), zeros.as_mut_ptr(), zeros.len());
+    let (text, tag) = (b"Data".as_ptr(), b"TEXT".as_ptr());
+    let mut answers = Vec::new();
+    unsafe {
+        let read = raw::blorb_read(z, huge);
+        answers.push(("read of a huge file", [read.refusal, read.place, read.length, read.count], [1, 0, 0, 0]));
+        raw::blorb_blank(f, 100);
+        let add = raw::blorb_add(f, 100, 24, j, 100, 0, text, 7, tag, z, huge);
+        answers.push(("add of huge data", numbers(add), [101, 0, 24, 0]));
+        let add = raw::blorb_add(f, 100, 24, j, 100, 0, text, 7, tag, b"eel".as_ptr(), 3);
+        answers.push(("add of small data", numbers(add), [0, 0, 48, 29]));
+        let replace = raw::blorb_replace(f, 100, 48, j, 100, 29, text, 7, tag, z, huge);
+        answers.push(("replace by huge data", numbers(replace), [101, 0, 48, 29]));
+        answers.push(("blank in a huge buffer", numbers(raw::blorb_blank(z, huge)), [0, 0, 24, 0]));
+        let add = raw::blorb_add(z, huge, 24, j, 100, 29, text, 7, tag, b"eel".as_ptr(), 3);
+        answers.push(("add in a huge buffer", numbers(add), [0, 0, 48, 58]));
+        let undo = raw::blorb_undo(z, huge, 48, j, 100, 58);
+        answers.push(("undo in a huge buffer", numbers(undo), [0, 0, 24, 29]));
+        let remove = raw::blorb_remove(z, huge, huge, j, 100, 0, text, 7);
+        answers.push(("remove from a huge file", numbers(remove), [1, 0, huge as u64, 0]));
+        let add = raw::blorb_add(f, 100, 48, z, huge, huge - 28, text, 8, tag, f, 0);
+        answers.push(("add with a huge journal, no room", numbers(add), [25, 0, 48, huge as u64 - 28]));
+    }
+    answers
+}
