@@ -210,9 +210,14 @@ fn fault(rng: &mut Rng) -> u64 {
 
 fn built_file(session: &mut Session, rng: &mut Rng, faults: &[u64]) -> Vec<u8> {
     let draft = some_draft(rng);
-    let (layout, built) = generate::faulty(rng, draft, faults);
-    check_expected(session, &layout.bytes, built);
-    layout.bytes
+    let built = generate::faulty(rng, draft, faults);
+    check_expected(session, &built.file, built.refusal);
+    if let (&[first, second], 2) = (faults, built.faults) {
+        if first + 1 == second {
+            session.count("pairs", first);
+        }
+    }
+    built.file
 }
 
 fn single_faults(session: &mut Session, rng: &mut Rng) {
@@ -221,11 +226,16 @@ fn single_faults(session: &mut Session, rng: &mut Rng) {
     check_file(session, rng, &file);
 }
 
-/// Two faults, mostly neighbours in the table.
+/// Two faults, mostly neighbours in the table, or the same one twice where a file can have it in two places.
 fn two_faults(rng: &mut Rng) -> [u64; 2] {
     let first = fault(rng);
-    let second = if rng.chance(60) { first + 1 } else { fault(rng) };
-    [first, if second == first || second > 19 { 2 } else { second }]
+    let second = match rng.below(10) {
+        0..=4 => first + 1,
+        5 | 6 => first,
+        _ => fault(rng),
+    };
+    let twice = matches!(first, 7 | 9 | 12..=18);
+    [first, if second > 19 || (second == first && !twice) { 2 } else { second }]
 }
 
 fn double_faults(session: &mut Session, rng: &mut Rng) {
@@ -290,8 +300,10 @@ fn edits_of_bad_files(session: &mut Session, rng: &mut Rng) {
         let replaces = [0, 100, 0, 0][choice];
         let edit = generate::edit_call(rng, &file, adds, replaces);
         let call = if choice == 3 { Call::Undo } else { Call::Edit(edit) };
-        if rng.chance(5) {
-            generate::exceed(rng, &mut state);
+        match rng.below(20) {
+            0 => generate::exceed(rng, &mut state),
+            1 => state.length = rng.between(0, state.file.len()),
+            _ => {}
         }
         check_call(session, rng, &call, &state);
     }
@@ -375,9 +387,12 @@ fn runs(session: &mut Session, rng: &mut Rng) {
     let start = start_of_run(rng);
     let style = rng.below(4);
     let calls = rng.between(50, 200);
-    check_run(session, rng, start, calls, |rng, state, step| match rng.chance(undo_chance(style, step)) {
-        true => Call::Undo,
-        false => Call::Edit(generate::edit_call(rng, &state.file[..state.length], 45, 25)),
+    check_run(session, rng, start, calls, |rng, state, step| {
+        let undo = if state.used == 0 { 4 } else { undo_chance(style, step) };
+        match rng.chance(undo) {
+            true => Call::Undo,
+            false => Call::Edit(generate::edit_call(rng, &state.file[..state.length], 45, 25)),
+        }
     });
 }
 
@@ -408,6 +423,7 @@ fn rows() -> Vec<(&'static str, Vec<u64>)> {
         ("remove", with(&[20, 22, 25, 119])),
         ("undo", with(&[20, 21, 24, 26])),
         ("built", file.clone()),
+        ("pairs", (2..=18).collect()),
         ("ledger", vec![0, 22, 23, 24, 25, 26, 101, 109, 111, 112, 114, 115, 116, 119]),
         ("undone", vec![1, 2, 3, 4]),
     ]
@@ -415,7 +431,8 @@ fn rows() -> Vec<(&'static str, Vec<u64>)> {
 
 /// Prints the table. False where a number was seen that cannot be, or (if asked) one that must be was not.
 fn print_table(session: &Session, complete: bool) -> bool {
-    println!("how often each number was seen (built: refusals by construction; ledger: answers in runs; undone: kinds):");
+    println!("how often each number was seen (built: refusals by construction, pairs: k with k + 1 in one file,");
+    println!("ledger: answers in runs, undone: kinds of records):");
     let mut good = true;
     for (row, numbers) in rows() {
         let seen: BTreeMap<u64, u64> =

@@ -436,9 +436,16 @@ impl Mark {
     }
 }
 
-/// A file with these faults, and the refusal that follows from how it was built. The later checks' faults go in first, so
-/// that what they rely on is not changed by an earlier check's fault unless that one decides anyway.
-pub fn faulty(rng: &mut Rng, mut draft: Draft, numbers: &[u64]) -> (Layout, Option<Refusal>) {
+/// A file with faults, the refusal that follows from how it was built, and how many of the faults it has.
+pub struct Built {
+    pub file: Vec<u8>,
+    pub refusal: Option<Refusal>,
+    pub faults: usize,
+}
+
+/// The later checks' faults go in first, so that what they rely on is not changed by an earlier check's fault unless that one
+/// decides anyway.
+pub fn faulty(rng: &mut Rng, mut draft: Draft, numbers: &[u64]) -> Built {
     let mut numbers = numbers.to_vec();
     numbers.sort();
     let mut marks = Vec::new();
@@ -446,8 +453,9 @@ pub fn faulty(rng: &mut Rng, mut draft: Draft, numbers: &[u64]) -> (Layout, Opti
         marks.extend(inject(rng, &mut draft, number));
     }
     let layout = draft.render();
-    let first = marks.iter().filter_map(|mark| mark.resolve(&draft, &layout)).min_by_key(|(order, _)| *order);
-    (layout, first.map(|(_, refusal)| refusal))
+    let resolved: Vec<_> = marks.iter().filter_map(|mark| mark.resolve(&draft, &layout)).collect();
+    let refusal = resolved.iter().min_by_key(|(order, _)| *order).map(|(_, refusal)| *refusal);
+    Built { file: layout.bytes, refusal, faults: resolved.len() }
 }
 
 /// Refusal 1 is built elsewhere, since it takes a file of 16 MB.
@@ -473,8 +481,8 @@ fn inject_head(rng: &mut Rng, draft: &mut Draft, number: u64) -> Mark {
         3 => draft.form = rng.pick(&[*b"form", *b"FORN", *b"RIFF", [0; 4], *b"IFRS"]),
         4 => draft.kind = rng.pick(&[*b"ifrs", *b"IFRT", *b"IFZS", [0; 4], *b"FORM"]),
         _ => {
-            let right = draft.render().bytes.len() as u32;
-            let wrong = [right.wrapping_sub(9), right.wrapping_sub(7), right, 0, u32::MAX, right ^ (1 << 31)];
+            let right = draft.render().bytes.len() as u32 - 8;
+            let wrong = [right - 1, right + 1, right + 8, 0, u32::MAX, right ^ (1 << 31), right ^ (1 << 24)];
             draft.form_length = Some(rng.pick(&wrong));
         }
     }
@@ -528,8 +536,10 @@ fn inject_index(rng: &mut Rng, draft: &mut Draft, number: u64) -> Mark {
         8 if rng.chance(50) && movable => draft.index_at = rng.between(1, draft.chunks.len()),
         8 => draft.index_tag = rng.pick(&[*b"ridx", *b"RIdy", *b"RelN", [0; 4]]),
         9 => {
-            let content = data(rng);
-            draft.insert_anywhere(rng, *b"RIdx", content);
+            for _ in 0..rng.pick(&[1, 1, 2]) {
+                let content = data(rng);
+                draft.insert_anywhere(rng, *b"RIdx", content);
+            }
             return Mark::SecondIndex;
         }
         10 if rng.chance(50) => {
