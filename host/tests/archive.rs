@@ -1,5 +1,6 @@
 //! The library's calls through its C interface, on buffers that lie inside larger guarded arrays.
 
+use crate::fence::{self, Fenced};
 use crate::reference::{Answer, Call, Edit, Refusal, State, Tag};
 use std::ptr;
 
@@ -58,11 +59,20 @@ mod raw {
 
 const GUARD: usize = 64;
 
-/// A copy of some bytes with guard bytes before and behind.
+enum Memory {
+    Heap(Vec<u8>),
+    Fenced(Fenced),
+}
+
+/// A copy of some bytes with guard bytes before and behind, or guard bytes on one side and a fence on the other.
 pub struct Lent {
-    array: Vec<u8>,
+    memory: Memory,
+    shift: usize,
     from: usize,
     size: usize,
+    /// How many guard bytes there are.
+    before: usize,
+    behind: usize,
 }
 
 /// The guard bytes differ from place to place, so that moving them is seen too.
@@ -71,30 +81,54 @@ fn guard_byte(i: usize) -> u8 {
 }
 
 impl Lent {
-    /// The copy begins `shift` (below 16) bytes past an even place, so that no call can count on an alignment.
+    /// `shift` decides where the copy begins: so many bytes into the heap, up to the fence behind, or from the one before.
     pub fn new(bytes: &[u8], shift: usize) -> Lent {
-        let from = GUARD + shift;
-        let mut array = Vec::with_capacity(from + bytes.len() + GUARD);
-        array.extend((0..from).map(guard_byte));
-        array.extend(bytes);
-        array.extend((0..GUARD).map(guard_byte));
-        Lent { array, from, size: bytes.len() }
+        let size = bytes.len();
+        let fits = size + GUARD <= fence::ROOM;
+        let (memory, from, before, behind) = match shift % 3 {
+            1 if fits => (Memory::Fenced(Fenced::take()), fence::ROOM - size, GUARD, 0),
+            2 if fits => (Memory::Fenced(Fenced::take()), 0, 0, GUARD),
+            _ => (Memory::Heap(vec![0; shift + size + 2 * GUARD]), GUARD + shift, GUARD, GUARD),
+        };
+        let mut lent = Lent { memory, shift, from, size, before, behind };
+        let array = lent.array_mut();
+        array[from..from + size].copy_from_slice(bytes);
+        (0..before).for_each(|i| array[from - before + i] = guard_byte(i));
+        (0..behind).for_each(|i| array[from + size + i] = guard_byte(i));
+        lent
+    }
+
+    fn array(&self) -> &[u8] {
+        match &self.memory {
+            Memory::Heap(array) => array,
+            Memory::Fenced(fenced) => fenced.bytes(),
+        }
+    }
+
+    fn array_mut(&mut self) -> &mut [u8] {
+        match &mut self.memory {
+            Memory::Heap(array) => array,
+            Memory::Fenced(fenced) => fenced.bytes_mut(),
+        }
     }
 
     /// Where nothing is lent, half of the pointers are null.
     fn pointer(&mut self) -> *mut u8 {
-        if self.size == 0 && self.from % 2 == 0 {
+        if self.size == 0 && self.shift % 2 == 0 {
             return ptr::null_mut();
         }
-        self.array[self.from..].as_mut_ptr()
+        let from = self.from;
+        self.array_mut()[from..].as_mut_ptr()
     }
 
     pub fn bytes(&self) -> &[u8] {
-        &self.array[self.from..self.from + self.size]
+        &self.array()[self.from..self.from + self.size]
     }
 
     fn guards_whole(&self) -> bool {
-        let (before, behind) = (&self.array[..self.from], &self.array[self.from + self.size..]);
+        let end = self.from + self.size;
+        let before = &self.array()[self.from - self.before..self.from];
+        let behind = &self.array()[end..end + self.behind];
         let whole = |guard: &[u8]| guard.iter().enumerate().all(|(i, &byte)| byte == guard_byte(i));
         whole(before) && whole(behind)
     }
@@ -161,7 +195,7 @@ pub struct Buffers {
 
 impl Buffers {
     pub fn new(state: &State, shift: usize) -> Buffers {
-        Buffers { file: Lent::new(&state.file, shift), journal: Lent::new(&state.journal, (shift + 5) % 16) }
+        Buffers { file: Lent::new(&state.file, shift), journal: Lent::new(&state.journal, shift + 5) }
     }
 
     /// One call with these lengths, and a complaint where anything else than `after` is in the buffers afterwards.
@@ -190,9 +224,9 @@ fn call_edit(edit: &Edit, state: &State, file: &mut Lent, journal: &mut Lent) ->
         }
         Edit::Remove { usage, number } => (usage, *number, &[0; 4], &[]),
     };
-    let mut lent_usage = Lent::new(usage, file.from % 7);
-    let mut lent_tag = Lent::new(tag, file.from % 5);
-    let mut lent_data = Lent::new(data, file.from % 3);
+    let mut lent_usage = Lent::new(usage, file.shift + 1);
+    let mut lent_tag = Lent::new(tag, file.shift + 2);
+    let mut lent_data = Lent::new(data, file.shift / 2);
     let (u, t, d, n) = (lent_usage.pointer(), lent_tag.pointer(), lent_data.pointer(), data.len());
     let (f, size, length) = (file.pointer(), file.size, state.length);
     let (j, journal_size, used) = (journal.pointer(), journal.size, state.used);

@@ -3,9 +3,11 @@
 //! A case is one number: its low byte is the family, all of it seeds what is generated. So one case can be replayed alone.
 
 mod archive;
+mod fence;
 mod generate;
 mod large;
 mod reference;
+mod samples;
 
 use archive::{first_difference, Buffers, Lent};
 use generate::Rng;
@@ -13,6 +15,7 @@ use reference::{Answer, Call, Edit, Ledger, Refusal, State, Tag};
 use std::collections::BTreeMap;
 use std::fmt::Debug;
 use std::process::exit;
+use std::sync::atomic::Ordering;
 
 const DEFAULT_SEED: u64 = 20_040_204;
 const DEFAULT_COUNT: u64 = 240_000;
@@ -192,7 +195,7 @@ fn valid_files(session: &mut Session, rng: &mut Rng) {
 }
 
 /// The refusal that follows from how a file was built, against the reference.
-fn check_expected(session: &mut Session, file: &[u8], built: Option<Refusal>) {
+pub fn check_expected(session: &mut Session, file: &[u8], built: Option<Refusal>) {
     let judged = reference::read(file).err();
     if judged != built {
         session.fail(&format!("file={}", hex(file)), &format!("built {built:?}\nreference {judged:?}"));
@@ -467,6 +470,7 @@ fn family_of(i: u64) -> u64 {
 
 fn run_case(session: &mut Session, case: u64) {
     session.case = case;
+    fence::CASE.store(case, Ordering::Relaxed);
     let mut rng = Rng(case);
     let family = (case & 0xFF) as usize;
     match FAMILIES.get(family) {
@@ -508,6 +512,7 @@ fn main() {
         println!("usage: compare [--seed N] [--count M] [--case C]");
         exit(2);
     };
+    fence::report_faults();
     let mut session = Session { case: 0, calls: 0, table: BTreeMap::new() };
     if let Some(case) = options.case {
         run_case(&mut session, case);

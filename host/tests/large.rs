@@ -1,13 +1,15 @@
-//! Cases at the limits of 16,777,216 bytes and 4,096 entries, and sizes beyond 32 bits. Each runs once.
+//! Cases that run once: at the limits of 16,777,216 bytes and 4,096 entries, sizes beyond 32 bits, and the samples.
 
 use crate::archive;
 use crate::generate::{self, Rng};
 use crate::reference::{Call, Chunk, Edit, Entry, File, Record, State, Tag, LIMIT, MOST_ENTRIES};
+use crate::samples::samples;
 use crate::{check_call, check_file, check_run, Session};
 use std::ops::Range;
 
 const FIRST: usize = 0xE0;
-const CASES: [fn(&mut Session, &mut Rng); 10] = [
+const CASES: [fn(&mut Session, &mut Rng); 11] = [
+    samples,
     at_limit,
     over_limit,
     add_to_limit,
@@ -58,20 +60,20 @@ fn many_entries(rng: &mut Rng, count: usize, chunks: usize) -> File {
     File { chunks, entries }
 }
 
-fn add(usage: &Tag, number: u32, tag: &Tag, data: Vec<u8>) -> Call {
+pub fn add(usage: &Tag, number: u32, tag: &Tag, data: Vec<u8>) -> Call {
     Call::Edit(Edit::Add { usage: *usage, number, tag: *tag, data })
 }
 
-fn replace(usage: &Tag, number: u32, tag: &Tag, data: Vec<u8>) -> Call {
+pub fn replace(usage: &Tag, number: u32, tag: &Tag, data: Vec<u8>) -> Call {
     Call::Edit(Edit::Replace { usage: *usage, number, tag: *tag, data })
 }
 
-fn remove(usage: &Tag, number: u32) -> Call {
+pub fn remove(usage: &Tag, number: u32) -> Call {
     Call::Edit(Edit::Remove { usage: *usage, number })
 }
 
 /// A call that must be answered with this number, which 01 names for the case. Gives the buffers afterwards.
-fn expect(session: &mut Session, rng: &mut Rng, call: &Call, state: &State, number: u64) -> State {
+pub fn expect(session: &mut Session, rng: &mut Rng, call: &Call, state: &State, number: u64) -> State {
     let (answer, after) = check_call(session, rng, call, state);
     if answer.refusal != number {
         session.fail(call.name(), &format!("must give {number}, gave {answer:?}"));
