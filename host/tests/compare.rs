@@ -18,7 +18,7 @@ use std::process::exit;
 use std::sync::atomic::Ordering;
 
 const DEFAULT_SEED: u64 = 20_040_204;
-const DEFAULT_COUNT: u64 = 240_000;
+const DEFAULT_COUNT: u64 = 400_000;
 
 // ---- Reports -------------------------------------------------------------------------------------------------------
 
@@ -57,7 +57,11 @@ fn hex(bytes: &[u8]) -> String {
 
 fn describe_resource(name: &str, usage: &Tag, number: u32, tag: &Tag, data: &[u8]) -> String {
     let (size, data) = (data.len(), hex(data));
-    format!("{name} usage=\"{}\" number={number} type=\"{}\" data_size={size} data={data}", usage.escape_ascii(), tag.escape_ascii())
+    format!(
+        "{name} usage=\"{}\" number={number} type=\"{}\" data_size={size} data={data}",
+        usage.escape_ascii(),
+        tag.escape_ascii()
+    )
 }
 
 /// The call with all that it is given.
@@ -112,7 +116,14 @@ pub fn check_file(session: &mut Session, rng: &mut Rng, file: &[u8]) {
     for (usage, number) in lookup_pairs(rng, file, view.is_ok()) {
         let found = archive::lookup(&mut lent, &usage, number);
         let arguments = format!("usage=\"{}\" number={number}", usage.escape_ascii());
-        check_reading(session, "lookup", &arguments, file, reference::lookup_answer(file, &view, &usage, number), found);
+        check_reading(
+            session,
+            "lookup",
+            &arguments,
+            file,
+            reference::lookup_answer(file, &view, &usage, number),
+            found,
+        );
     }
     if let Some(complaint) = lent.complaint("file", file) {
         session.fail(&format!("reading file={}", hex(file)), &complaint);
@@ -371,7 +382,13 @@ fn start_of_run(rng: &mut Rng) -> State {
 }
 
 /// A run in the same two buffers from an accepted file and an empty journal, with the ledger beside it.
-pub fn check_run(session: &mut Session, rng: &mut Rng, start: State, calls: usize, next: impl Fn(&mut Rng, &State, usize) -> Call) {
+pub fn check_run(
+    session: &mut Session,
+    rng: &mut Rng,
+    start: State,
+    calls: usize,
+    next: impl Fn(&mut Rng, &State, usize) -> Call,
+) {
     let mut state = start;
     let mut ledger = Ledger::new(&state.file[..state.length], state.file.len(), state.journal.len());
     let mut buffers = Buffers::new(&state, rng.below(16));

@@ -108,7 +108,9 @@ fn over_limit(session: &mut Session, rng: &mut Rng) {
         check_file(session, rng, &file);
         session.count("built", 1);
         let state = generate::lend(rng, file, vec![1; 29], 50, 50);
-        for call in [add(b"Data", 9, b"TEXT", vec![]), replace(b"Data", 2, b"TEXT", vec![]), remove(b"Data", 2), Call::Undo] {
+        for call in
+            [add(b"Data", 9, b"TEXT", vec![]), replace(b"Data", 2, b"TEXT", vec![]), remove(b"Data", 2), Call::Undo]
+        {
             expect(session, rng, &call, &state, 1);
         }
     }
@@ -157,12 +159,12 @@ fn undo_to_limit(session: &mut Session, rng: &mut Rng) {
     let (place, start) = (0, file.len() as u32 + 12);
     let data_start = list.starts()[list.entries[1].chunk] as u32;
     for (size, number) in [(980, 0), (979, 0), (981, 21), (982, 21)] {
-        let removed = Record { kind: 3, usage: *b"Snd ", number: 4, place, start, tag: *b"MOD ", data: rng.bytes(size) };
+        let removed =
+            Record { kind: 3, usage: *b"Snd ", number: 4, place, start, tag: *b"MOD ", data: rng.bytes(size) };
         let state = generate::lend(rng, file.clone(), removed.write(), 1100, 3);
         expect(session, rng, &Call::Undo, &state, number);
         let data = rng.bytes(size + 24);
-        let replaced =
-            Record { kind: 2, usage: *b"Data", number: 2, place: 1, start: data_start, tag: *b"TEXT", data };
+        let replaced = Record { kind: 2, usage: *b"Data", number: 2, place: 1, start: data_start, tag: *b"TEXT", data };
         let state = generate::lend(rng, file.clone(), replaced.write(), 1100, 3);
         expect(session, rng, &Call::Undo, &state, number);
     }
@@ -198,7 +200,8 @@ fn too_many_entries(session: &mut Session, rng: &mut Rng) {
     let file = many_entries(rng, MOST_ENTRIES + 1, 50).write();
     check_file(session, rng, &file);
     let state = generate::lend(rng, file, vec![1; 29], 100, 100);
-    for call in [add(b"Data", 9, b"TEXT", vec![]), replace(b"Pict", 2, b"JPEG", vec![]), remove(b"Pict", 2), Call::Undo] {
+    for call in [add(b"Data", 9, b"TEXT", vec![]), replace(b"Pict", 2, b"JPEG", vec![]), remove(b"Pict", 2), Call::Undo]
+    {
         expect(session, rng, &call, &state, 11);
     }
 }

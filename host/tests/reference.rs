@@ -166,10 +166,10 @@ pub fn suits(usage: &Tag, tag: &Tag, data: &[u8]) -> bool {
             [b"OGGV", b"MOD ", b"SONG"].contains(&tag) || (tag == b"FORM" && data.len() >= 4 && &data[..4] == b"AIFF")
         }
         b"Data" => [b"TEXT", b"BINA"].contains(&tag),
-        b"Exec" => [
-            b"ZCOD", b"GLUL", b"TAD2", b"TAD3", b"HUGO", b"ALAN", b"ADRI", b"LEVE", b"AGT ", b"MAGS", b"ADVS", b"EXEC",
-        ]
-        .contains(&tag),
+        b"Exec" => {
+            [b"ZCOD", b"GLUL", b"TAD2", b"TAD3", b"HUGO", b"ALAN", b"ADRI", b"LEVE", b"AGT ", b"MAGS", b"ADVS", b"EXEC"]
+                .contains(&tag)
+        }
         _ => false,
     }
 }
@@ -217,12 +217,7 @@ pub fn entry_answer(view: &Result<View, Refusal>, i: usize) -> Result<[u64; 3], 
     Ok([usage as u64, entry.number as u64, view.spans[entry.chunk].start as u64])
 }
 
-pub fn lookup_answer(
-    file: &[u8],
-    view: &Result<View, Refusal>,
-    usage: &Tag,
-    number: u32,
-) -> Result<[u64; 3], Refusal> {
+pub fn lookup_answer(file: &[u8], view: &Result<View, Refusal>, usage: &Tag, number: u32) -> Result<[u64; 3], Refusal> {
     let view = view.as_ref().map_err(|&refusal| refusal)?;
     let Some(entry) = view.entries.iter().find(|entry| &entry.usage == usage && entry.number == number) else {
         return refuse(22, 0);
