@@ -1,7 +1,7 @@
 //! The library's calls through its C interface, on buffers that lie inside larger guarded arrays.
 
 use crate::fence::{self, Fenced};
-use crate::reference::{Answer, Call, Edit, Refusal, State, Tag};
+use crate::reference::{blank_file, Answer, Call, Edit, Refusal, State, Tag};
 use std::ptr;
 
 /// The structures of blorb.h that come back by value.
@@ -175,7 +175,11 @@ pub fn entry(file: &mut Lent, i: usize) -> Reading<3> {
 }
 
 pub fn lookup(file: &mut Lent, usage: &Tag, number: u32) -> Reading<3> {
-    let answer = unsafe { raw::blorb_lookup(file.pointer(), file.size, usage.as_ptr(), number) };
+    let mut lent_usage = Lent::new(usage, file.shift + 1);
+    let answer = unsafe { raw::blorb_lookup(file.pointer(), file.size, lent_usage.pointer(), number) };
+    if let Some(complaint) = lent_usage.complaint("usage", usage) {
+        return Err(complaint);
+    }
     reading(answer.refusal, answer.place, [answer.tag as u64, answer.start, answer.length])
 }
 
@@ -244,32 +248,39 @@ fn call_edit(edit: &Edit, state: &State, file: &mut Lent, journal: &mut Lent) ->
     (edited(answer), complaint)
 }
 
-/// Calls that are lent more than 4 GiB: what was called, its answer, and the answer expected.
-pub fn on_huge_arrays(zeros: &mut [u8]) -> Vec<(&'static str, [u64; 4], [u64; 4])> {
+/// Calls that are lent more than 4 GiB: what was called, and what was found and expected: answers, and a file's first bytes.
+pub fn on_huge_arrays(zeros: &mut [u8]) -> Vec<(&'static str, String, String)> {
     let numbers = |answer: raw::Edit| [answer.refusal, answer.place, answer.length, answer.used];
     let (mut small, mut journal) = ([0; 100], [0; 100]);
     let (f, j, z, huge) = (small.as_mut_ptr(), journal.as_mut_ptr(), zeros.as_mut_ptr(), zeros.len());
-    let (text, tag) = (b"Data".as_ptr(), b"TEXT".as_ptr());
-    let mut answers = Vec::new();
+    let (usage, tag, eel, none) = (b"Data".as_ptr(), b"TEXT".as_ptr(), b"eel".as_ptr(), ptr::null());
+    let mut found = Vec::new();
+    let mut check = |what, found_numbers: [u64; 4], expected: [u64; 4]| {
+        found.push((what, format!("{found_numbers:?}"), format!("{expected:?}")));
+    };
     unsafe {
         let read = raw::blorb_read(z, huge);
-        answers.push(("read of a huge file", [read.refusal, read.place, read.length, read.count], [1, 0, 0, 0]));
+        check("read of a huge file", [read.refusal, read.place, read.length, read.count], [1, 0, 0, 0]);
+        let remove = raw::blorb_remove(z, huge, huge, j, 100, 0, usage, 7);
+        check("remove from a huge file", numbers(remove), [1, 0, huge as u64, 0]);
         raw::blorb_blank(f, 100);
-        let add = raw::blorb_add(f, 100, 24, j, 100, 0, text, 7, tag, z, huge);
-        answers.push(("add of huge data", numbers(add), [101, 0, 24, 0]));
-        let add = raw::blorb_add(f, 100, 24, j, 100, 0, text, 7, tag, b"eel".as_ptr(), 3);
-        answers.push(("add of small data", numbers(add), [0, 0, 48, 29]));
-        let replace = raw::blorb_replace(f, 100, 48, j, 100, 29, text, 7, tag, z, huge);
-        answers.push(("replace by huge data", numbers(replace), [101, 0, 48, 29]));
-        answers.push(("blank in a huge buffer", numbers(raw::blorb_blank(z, huge)), [0, 0, 24, 0]));
-        let add = raw::blorb_add(z, huge, 24, j, 100, 29, text, 7, tag, b"eel".as_ptr(), 3);
-        answers.push(("add in a huge buffer", numbers(add), [0, 0, 48, 58]));
-        let undo = raw::blorb_undo(z, huge, 48, j, 100, 58);
-        answers.push(("undo in a huge buffer", numbers(undo), [0, 0, 24, 29]));
-        let remove = raw::blorb_remove(z, huge, huge, j, 100, 0, text, 7);
-        answers.push(("remove from a huge file", numbers(remove), [1, 0, huge as u64, 0]));
-        let add = raw::blorb_add(f, 100, 48, z, huge, huge - 28, text, 8, tag, f, 0);
-        answers.push(("add with a huge journal, no room", numbers(add), [25, 0, 48, huge as u64 - 28]));
+        let add = raw::blorb_add(f, 100, 24, j, 100, 0, usage, 7, tag, z, huge);
+        check("add of huge data", numbers(add), [101, 0, 24, 0]);
+        let add = raw::blorb_add(f, 100, 24, j, 100, 0, usage, 7, tag, eel, 3);
+        check("add of small data", numbers(add), [0, 0, 48, 29]);
+        let replace = raw::blorb_replace(f, 100, 48, j, 100, 29, usage, 7, tag, z, huge);
+        check("replace by huge data", numbers(replace), [101, 0, 48, 29]);
+        let add = raw::blorb_add(f, 100, 48, z, huge, huge - 28, usage, 8, tag, none, 0);
+        check("add with a huge journal, no room", numbers(add), [25, 0, 48, huge as u64 - 28]);
+        check("blank in a huge buffer", numbers(raw::blorb_blank(z, huge)), [0, 0, 24, 0]);
+        let add = raw::blorb_add(z, huge, 24, j, 100, 29, usage, 7, tag, eel, 3);
+        check("add in a huge buffer", numbers(add), [0, 0, 48, 58]);
     }
-    answers
+    found.push(("file in a huge buffer", format!("{:?}", &zeros[..100]), format!("{small:?}")));
+    let undo = unsafe { raw::blorb_undo(zeros.as_mut_ptr(), huge, 48, journal.as_ptr(), 100, 58) };
+    found.push(("undo in a huge buffer", format!("{:?}", numbers(undo)), format!("{:?}", [0, 0, 24, 29])));
+    small[..48].fill(0);
+    small[..24].copy_from_slice(&blank_file());
+    found.push(("file undone in a huge buffer", format!("{:?}", &zeros[..100]), format!("{small:?}")));
+    found
 }

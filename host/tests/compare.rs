@@ -14,6 +14,7 @@ use generate::Rng;
 use reference::{Answer, Call, Edit, Ledger, Refusal, State, Tag};
 use std::collections::BTreeMap;
 use std::fmt::Debug;
+use std::panic;
 use std::process::exit;
 use std::sync::atomic::Ordering;
 
@@ -132,7 +133,7 @@ pub fn check_file(session: &mut Session, rng: &mut Rng, file: &[u8]) {
 
 fn entry_numbers(rng: &mut Rng, count: usize) -> Vec<usize> {
     let mut numbers: Vec<usize> = match count {
-        0..=64 => (0..count).collect(),
+        0..=300 => (0..count).collect(),
         _ => vec![0, 1, rng.below(count), rng.below(count), count - 1],
     };
     numbers.extend([count, count + 1]);
@@ -145,7 +146,7 @@ fn lookup_pairs(rng: &mut Rng, file: &[u8], accepted: bool) -> Vec<(Tag, u32)> {
     let all = generate::pairs_in(file);
     let mut pairs = match all.len() {
         0 => Vec::new(),
-        1..=64 if accepted => all,
+        1..=300 if accepted => all,
         _ => (0..4).map(|_| rng.pick(&all)).collect(),
     };
     pairs.extend((0..3).map(|_| generate::target(rng, file)));
@@ -530,6 +531,10 @@ fn main() {
         exit(2);
     };
     fence::report_faults();
+    panic::set_hook(Box::new(|panic| {
+        println!("compare: DIFFERENCE, case {:#x} ended with {panic}", fence::CASE.load(Ordering::Relaxed));
+        exit(1);
+    }));
     let mut session = Session { case: 0, calls: 0, table: BTreeMap::new() };
     if let Some(case) = options.case {
         run_case(&mut session, case);

@@ -18,6 +18,7 @@ extern "C" {
 const PROTECT_NONE: i32 = 0;
 const PROTECT_READ_WRITE: i32 = 3;
 const MAP_PRIVATE_ANONYMOUS: i32 = 0x22;
+const MAP_NO_RESERVE: i32 = 0x4000;
 const BUS_ERROR: i32 = 7;
 const SEGMENTATION_FAULT: i32 = 11;
 
@@ -54,6 +55,16 @@ fn new_area() -> *mut u8 {
         assert!(area as isize != -1, "no memory");
         assert_eq!(mprotect(area.add(ROOM), ROOM, PROTECT_READ_WRITE), 0, "no memory");
         area.add(ROOM)
+    }
+}
+
+/// Zero bytes that take memory only where they are written. They stay for as long as the program runs.
+pub fn huge_zeros(length: usize) -> &'static mut [u8] {
+    unsafe {
+        let flags = MAP_PRIVATE_ANONYMOUS | MAP_NO_RESERVE;
+        let area = mmap(ptr::null_mut(), length, PROTECT_READ_WRITE, flags, -1, 0);
+        assert!(area as isize != -1, "no memory");
+        std::slice::from_raw_parts_mut(area, length)
     }
 }
 

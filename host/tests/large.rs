@@ -1,6 +1,7 @@
 //! Cases that run once: at the limits of 16,777,216 bytes and 4,096 entries, sizes beyond 32 bits, and the samples.
 
 use crate::archive;
+use crate::fence;
 use crate::generate::{self, Rng};
 use crate::reference::{Call, Chunk, Edit, Entry, File, Record, State, Tag, LIMIT, MOST_ENTRIES};
 use crate::samples::samples;
@@ -210,10 +211,9 @@ fn too_many_entries(session: &mut Session, rng: &mut Rng) {
 
 /// Lent arrays of more than 4 GiB. They are too large to be copied, so only answers and the first bytes are compared.
 fn beyond_32_bits(session: &mut Session, _: &mut Rng) {
-    let mut zeros = vec![0u8; (1 << 32) + 24];
-    for (what, found, expected) in archive::on_huge_arrays(&mut zeros) {
+    for (what, found, expected) in archive::on_huge_arrays(fence::huge_zeros((1 << 32) + 24)) {
         if found != expected {
-            session.fail(what, &format!("expected {expected:?}\nfound    {found:?}"));
+            session.fail(what, &format!("expected {expected}\nfound    {found}"));
         }
     }
 }
