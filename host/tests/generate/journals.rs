@@ -114,7 +114,7 @@ fn usage_for(rng: &mut Rng, file: &File, chunk: usize) -> Tag {
 /// One field that no longer fits the file, or makes the file after it a bad one.
 fn miss(rng: &mut Rng, file: &File, record: &mut Record) {
     let existing = if file.entries.is_empty() { None } else { Some(rng.pick(&file.entries)) };
-    match rng.below(10) {
+    match rng.below(12) {
         0 => record.kind = rng.pick(&[0, 1, 2, 3, 4, 5, 255]),
         1 => record.usage = if rng.chance(50) { unknown_usage(rng) } else { *rng.pick(&USAGES) },
         2 => record.number = other_value(rng, record.number),
@@ -124,6 +124,8 @@ fn miss(rng: &mut Rng, file: &File, record: &mut Record) {
         6 => (record.tag, record.data) = unsuited(rng, &record.usage),
         7 => (record.tag, record.data) = edit_content(rng, &record.usage),
         8 => (record.usage, record.number) = existing.map_or((*b"Exec", 1), |entry| (entry.usage, entry.number)),
+        9 => record.data = if record.data.is_empty() { vec![0; rng.between(1, 4)] } else { Vec::new() },
+        10 => record.tag = if record.tag == [0; 4] { *b"TEXT" } else { [0; 4] },
         _ => (record.usage, record.tag) = (*b"Exec", *b"GLUL"),
     }
 }
