@@ -220,10 +220,12 @@ fn beyond_32_bits(session: &mut Session, _: &mut Rng) {
 
 // ---- Runs ----------------------------------------------------------------------------------------------------------
 
+/// The first call goes past the limit.
 fn run_at_length_limit(session: &mut Session, rng: &mut Rng) {
     let file = filled(rng, LIMIT - 60).write();
     let state = generate::lend(rng, file, Vec::new(), 100, 400);
-    check_run(session, rng, state, 40, |rng, _, _| match rng.below(8) {
+    check_run(session, rng, state, 40, |rng, _, step| match rng.below(8) {
+        _ if step == 0 => add(b"Data", 4, b"TEXT", vec![1; 60]),
         0..=2 => {
             let size = rng.below(30);
             add(b"Data", rng.between(4, 6) as u32, b"TEXT", rng.bytes(size))
@@ -237,10 +239,12 @@ fn run_at_length_limit(session: &mut Session, rng: &mut Rng) {
     });
 }
 
+/// The third call is one entry too many.
 fn run_at_entry_limit(session: &mut Session, rng: &mut Rng) {
     let file = many_entries(rng, MOST_ENTRIES - 2, 3).write();
     let state = generate::lend(rng, file, Vec::new(), 200, 400);
-    check_run(session, rng, state, 60, |rng, _, _| match rng.below(8) {
+    check_run(session, rng, state, 60, |rng, _, step| match rng.below(8) {
+        _ if step < 3 => add(b"Snd ", step as u32, b"MOD ", vec![1]),
         0..=4 => add(b"Snd ", rng.below(9) as u32, b"MOD ", vec![1]),
         5 => remove(b"Pict", rng.below(MOST_ENTRIES) as u32),
         _ => Call::Undo,
