@@ -1,0 +1,557 @@
+//! Compares the library, through its C interface, with the reference on generated inputs.
+//!
+//! A case is one number: its low byte is the family, all of it seeds what is generated. So one case can be replayed alone.
+
+mod archive;
+mod fence;
+mod generate;
+mod large;
+mod reference;
+mod samples;
+
+use archive::{first_difference, Buffers, Lent};
+use generate::Rng;
+use reference::{Answer, Call, Edit, Ledger, Refusal, State, Tag};
+use std::collections::BTreeMap;
+use std::fmt::Debug;
+use std::panic;
+use std::process::exit;
+use std::sync::atomic::Ordering;
+
+const DEFAULT_SEED: u64 = 20_040_204;
+const DEFAULT_COUNT: u64 = 400_000;
+
+// ---- Reports -------------------------------------------------------------------------------------------------------
+
+/// The case under way, and how often each number was seen in each row of the table.
+pub struct Session {
+    pub case: u64,
+    calls: u64,
+    table: BTreeMap<(&'static str, u64), u64>,
+}
+
+impl Session {
+    pub fn count(&mut self, row: &'static str, number: u64) {
+        *self.table.entry((row, number)).or_default() += 1;
+    }
+
+    fn count_call(&mut self, row: &'static str, number: u64) {
+        self.calls += 1;
+        self.count(row, number);
+    }
+
+    pub fn fail(&self, call: &str, complaint: &str) -> ! {
+        println!("compare: DIFFERENCE in case {:#x}", self.case);
+        println!("{call}");
+        println!("{complaint}");
+        println!("replay: host/tests/compare --case {:#x}", self.case);
+        exit(1);
+    }
+}
+
+fn hex(bytes: &[u8]) -> String {
+    if bytes.len() > 20_000 {
+        return format!("({} bytes, see the case)", bytes.len());
+    }
+    bytes.iter().map(|byte| format!("{byte:02x}")).collect()
+}
+
+fn describe_resource(name: &str, usage: &Tag, number: u32, tag: &Tag, data: &[u8]) -> String {
+    let (size, data) = (data.len(), hex(data));
+    format!(
+        "{name} usage=\"{}\" number={number} type=\"{}\" data_size={size} data={data}",
+        usage.escape_ascii(),
+        tag.escape_ascii()
+    )
+}
+
+/// The call with all that it is given.
+fn describe(call: &Call, state: &State) -> String {
+    let call = match call {
+        Call::Edit(Edit::Add { usage, number, tag, data }) => describe_resource("blorb_add", usage, *number, tag, data),
+        Call::Edit(Edit::Replace { usage, number, tag, data }) => {
+            describe_resource("blorb_replace", usage, *number, tag, data)
+        }
+        Call::Edit(Edit::Remove { usage, number }) => {
+            format!("blorb_remove usage=\"{}\" number={number}", usage.escape_ascii())
+        }
+        Call::Undo => "blorb_undo".to_string(),
+    };
+    let State { file, length, journal, used } = state;
+    let (size, journal_size) = (file.len(), journal.len());
+    format!(
+        "{call}\n  size={size} length={length} journal_size={journal_size} used={used}\n  file={}\n  journal={}",
+        hex(file),
+        hex(journal)
+    )
+}
+
+// ---- Single comparisons --------------------------------------------------------------------------------------------
+
+/// Compares one reading call's answer and counts it.
+fn check_reading<T: PartialEq + Debug>(
+    session: &mut Session,
+    row: &'static str,
+    arguments: &str,
+    file: &[u8],
+    expected: Result<T, Refusal>,
+    found: Result<Result<T, Refusal>, String>,
+) {
+    session.count_call(row, expected.as_ref().map_or_else(|refusal| refusal.number, |_| 0));
+    if found.as_ref() != Ok(&expected) {
+        let call = format!("blorb_{row} {arguments} size={}\n  file={}", file.len(), hex(file));
+        session.fail(&call, &format!("expected {expected:?}\nfound    {found:?}"));
+    }
+}
+
+/// The reading calls on one file: all entries and pairs of small files, some of large ones.
+pub fn check_file(session: &mut Session, rng: &mut Rng, file: &[u8]) {
+    let mut lent = Lent::new(file, rng.below(16));
+    let view = reference::read(file);
+    let found = archive::read(&mut lent);
+    check_reading(session, "read", "", file, reference::read_answer(file), found);
+    for i in entry_numbers(rng, view.as_ref().map_or(0, |view| view.entries.len())) {
+        let found = archive::entry(&mut lent, i);
+        check_reading(session, "entry", &format!("i={i}"), file, reference::entry_answer(&view, i), found);
+    }
+    for (usage, number) in lookup_pairs(rng, file, view.is_ok()) {
+        let found = archive::lookup(&mut lent, &usage, number);
+        let arguments = format!("usage=\"{}\" number={number}", usage.escape_ascii());
+        check_reading(
+            session,
+            "lookup",
+            &arguments,
+            file,
+            reference::lookup_answer(file, &view, &usage, number),
+            found,
+        );
+    }
+    if let Some(complaint) = lent.complaint("file", file) {
+        session.fail(&format!("reading file={}", hex(file)), &complaint);
+    }
+}
+
+fn entry_numbers(rng: &mut Rng, count: usize) -> Vec<usize> {
+    let mut numbers: Vec<usize> = match count {
+        0..=300 => (0..count).collect(),
+        _ => vec![0, 1, rng.below(count), rng.below(count), count - 1],
+    };
+    numbers.extend([count, count + 1]);
+    let wraps = [usize::MAX, usize::MAX / 12, 1 << 32, (1 << 32) + rng.below(count + 1), (usize::MAX - 24) / 12 + 1];
+    numbers.push(rng.pick(&wraps));
+    numbers
+}
+
+fn lookup_pairs(rng: &mut Rng, file: &[u8], accepted: bool) -> Vec<(Tag, u32)> {
+    let all = generate::pairs_in(file);
+    let mut pairs = match all.len() {
+        0 => Vec::new(),
+        1..=300 if accepted => all,
+        _ => (0..4).map(|_| rng.pick(&all)).collect(),
+    };
+    pairs.extend((0..3).map(|_| generate::target(rng, file)));
+    pairs
+}
+
+/// One editing call on these buffers. Gives what they hold afterwards.
+fn check_call_on(session: &mut Session, buffers: &mut Buffers, call: &Call, state: &State) -> (Answer, State) {
+    let (expected, after) = reference::call(call, state);
+    let (found, complaint) = buffers.call(call, state, &after);
+    session.count_call(call.name(), expected.refusal);
+    if found != expected {
+        let complaint = complaint.map_or(String::new(), |complaint| format!("\n{complaint}"));
+        session.fail(&describe(call, state), &format!("expected {expected:?}\nfound    {found:?}{complaint}"));
+    }
+    if let Some(complaint) = complaint {
+        session.fail(&describe(call, state), &format!("both answered {expected:?}\n{complaint}"));
+    }
+    if let (Call::Undo, 0) = (call, expected.refusal) {
+        session.count("undone", state.journal[after.used] as u64);
+    }
+    (expected, after)
+}
+
+/// One editing call on fresh buffers.
+pub fn check_call(session: &mut Session, rng: &mut Rng, call: &Call, state: &State) -> (Answer, State) {
+    let mut buffers = Buffers::new(state, rng.below(16));
+    check_call_on(session, &mut buffers, call, state)
+}
+
+// ---- Families ------------------------------------------------------------------------------------------------------
+
+type Family = fn(&mut Session, &mut Rng);
+
+/// How many of 100 cases each family has.
+const FAMILIES: [(usize, Family); 10] = [
+    (20, valid_files),
+    (16, single_faults),
+    (12, double_faults),
+    (13, damaged_files),
+    (4, random_files),
+    (13, edits_of_valid_files),
+    (8, edits_of_bad_files),
+    (10, undos),
+    (1, blanks),
+    (3, runs),
+];
+
+fn some_draft(rng: &mut Rng) -> generate::Draft {
+    let count = generate::entry_count(rng);
+    generate::valid(rng, count)
+}
+
+fn valid_files(session: &mut Session, rng: &mut Rng) {
+    let file = some_draft(rng).render().bytes;
+    check_expected(session, &file, None);
+    check_file(session, rng, &file);
+}
+
+/// The refusal that follows from how a file was built, against the reference.
+pub fn check_expected(session: &mut Session, file: &[u8], built: Option<Refusal>) {
+    let judged = reference::read(file).err();
+    if judged != built {
+        session.fail(&format!("file={}", hex(file)), &format!("built {built:?}\nreference {judged:?}"));
+    }
+    session.count("built", built.map_or(0, |refusal| refusal.number));
+}
+
+/// 11 takes 49 kB and a long search, so it comes less often.
+fn fault(rng: &mut Rng) -> u64 {
+    match rng.between(2, 19) as u64 {
+        11 if rng.chance(90) => 10,
+        number => number,
+    }
+}
+
+fn built_file(session: &mut Session, rng: &mut Rng, faults: &[u64]) -> Vec<u8> {
+    let draft = some_draft(rng);
+    let built = generate::faulty(rng, draft, faults);
+    check_expected(session, &built.file, built.refusal);
+    if let (&[first, second], 2) = (faults, built.faults) {
+        if first + 1 == second {
+            session.count("pairs", first);
+        }
+    }
+    built.file
+}
+
+fn single_faults(session: &mut Session, rng: &mut Rng) {
+    let number = fault(rng);
+    let file = built_file(session, rng, &[number]);
+    check_file(session, rng, &file);
+}
+
+/// Two faults, mostly neighbours in the table, or the same one twice where a file can have it in two places.
+fn two_faults(rng: &mut Rng) -> [u64; 2] {
+    let first = fault(rng);
+    let second = match rng.below(10) {
+        0..=4 => first + 1,
+        5 | 6 => first,
+        _ => fault(rng),
+    };
+    let twice = matches!(first, 7 | 9 | 12..=18);
+    [first, if second > 19 || (second == first && !twice) { 2 } else { second }]
+}
+
+fn double_faults(session: &mut Session, rng: &mut Rng) {
+    let numbers = two_faults(rng);
+    let file = built_file(session, rng, &numbers);
+    check_file(session, rng, &file);
+}
+
+fn damaged_file(rng: &mut Rng) -> Vec<u8> {
+    let layout = some_draft(rng).render();
+    generate::mutated(rng, &layout)
+}
+
+fn damaged_files(session: &mut Session, rng: &mut Rng) {
+    let file = damaged_file(rng);
+    check_file(session, rng, &file);
+}
+
+fn random_files(session: &mut Session, rng: &mut Rng) {
+    let file = generate::random_bytes(rng);
+    check_file(session, rng, &file);
+}
+
+/// Buffers around this file with random bytes as journal, which no edit looks at.
+fn edit_state(rng: &mut Rng, file: Vec<u8>) -> State {
+    let (used, file_more, journal_more) = (rng.below(40), rng.below(400), rng.below(400));
+    let records = rng.bytes(used);
+    generate::lend(rng, file, records, file_more, journal_more)
+}
+
+fn edits_of_valid_files(session: &mut Session, rng: &mut Rng) {
+    let file = some_draft(rng).render().bytes;
+    for _ in 0..4 {
+        let mut state = edit_state(rng, file.clone());
+        let call = Call::Edit(generate::edit_call(rng, &file, 36, 36));
+        if rng.chance(50) {
+            state = generate::tighten(rng, &call, state);
+        }
+        if rng.chance(5) {
+            generate::exceed(rng, &mut state);
+        }
+        check_call(session, rng, &call, &state);
+    }
+}
+
+fn edits_of_bad_files(session: &mut Session, rng: &mut Rng) {
+    let file = match rng.below(10) {
+        0..=4 => {
+            let number = fault(rng);
+            built_file(session, rng, &[number])
+        }
+        5..=6 => {
+            let numbers = two_faults(rng);
+            built_file(session, rng, &numbers)
+        }
+        7..=8 => damaged_file(rng),
+        _ => generate::random_bytes(rng),
+    };
+    for choice in 0..4 {
+        let mut state = edit_state(rng, file.clone());
+        let adds = [100, 0, 0, 0][choice];
+        let replaces = [0, 100, 0, 0][choice];
+        let edit = generate::edit_call(rng, &file, adds, replaces);
+        let call = if choice == 3 { Call::Undo } else { Call::Edit(edit) };
+        match rng.below(20) {
+            0 => generate::exceed(rng, &mut state),
+            1 => state.length = rng.between(0, state.file.len()),
+            _ => {}
+        }
+        check_call(session, rng, &call, &state);
+    }
+}
+
+fn undos(session: &mut Session, rng: &mut Rng) {
+    let mut state = generate::undo_state(rng);
+    if rng.chance(5) {
+        generate::exceed(rng, &mut state);
+    }
+    check_call(session, rng, &Call::Undo, &state);
+}
+
+fn blanks(session: &mut Session, rng: &mut Rng) {
+    let size = rng.between(0, 60);
+    let buffer = rng.bytes(size);
+    let mut lent = Lent::new(&buffer, rng.below(16));
+    let (expected, after) = reference::blank(&buffer);
+    let found = archive::blank(&mut lent);
+    session.count_call("blank", expected.refusal);
+    let call = format!("blorb_blank size={size} file={}", hex(&buffer));
+    if found != expected {
+        session.fail(&call, &format!("expected {expected:?}\nfound    {found:?}"));
+    }
+    if let Some(complaint) = lent.complaint("file buffer", &after) {
+        session.fail(&call, &complaint);
+    }
+}
+
+// ---- Whole runs ----------------------------------------------------------------------------------------------------
+
+/// How likely the next call is an undo: always little, always much, or in turns.
+fn undo_chance(style: usize, step: usize) -> usize {
+    match style {
+        0 => 8,
+        1 => 35,
+        2 => 60,
+        _ if step / 40 % 2 == 0 => 5,
+        _ => 92,
+    }
+}
+
+fn start_of_run(rng: &mut Rng) -> State {
+    let file = match rng.below(5) {
+        0 => reference::blank_file(),
+        _ => {
+            let count = rng.between(0, 12);
+            generate::valid(rng, count).render().bytes
+        }
+    };
+    let file_more = match rng.below(4) {
+        0 => rng.below(60),
+        1 | 2 => rng.between(60, 500),
+        _ => 6000,
+    };
+    let journal_more = match rng.below(4) {
+        0 => rng.below(100),
+        1 | 2 => rng.between(100, 800),
+        _ => 8000,
+    };
+    generate::lend(rng, file, Vec::new(), file_more, journal_more)
+}
+
+/// A run in the same two buffers from an accepted file and an empty journal, with the ledger beside it.
+pub fn check_run(
+    session: &mut Session,
+    rng: &mut Rng,
+    start: State,
+    calls: usize,
+    next: impl Fn(&mut Rng, &State, usize) -> Call,
+) {
+    let mut state = start;
+    let mut ledger = Ledger::new(&state.file[..state.length], state.file.len(), state.journal.len());
+    let mut buffers = Buffers::new(&state, rng.below(16));
+    for step in 0..calls {
+        let call = next(rng, &state, step);
+        let (answer, after) = check_call_on(session, &mut buffers, &call, &state);
+        session.count("ledger", answer.refusal);
+        if let Some(complaint) = against_ledger(&mut ledger, &call, answer, &after) {
+            session.fail(&describe(&call, &state), &format!("call {step} of the run: {complaint}"));
+        }
+        state = after;
+    }
+}
+
+fn runs(session: &mut Session, rng: &mut Rng) {
+    let start = start_of_run(rng);
+    let style = rng.below(4);
+    let calls = rng.between(50, 200);
+    check_run(session, rng, start, calls, |rng, state, step| {
+        let undo = if state.used == 0 { 4 } else { undo_chance(style, step) };
+        match rng.chance(undo) {
+            true => Call::Undo,
+            false => Call::Edit(generate::edit_call(rng, &state.file[..state.length], 45, 25)),
+        }
+    });
+}
+
+/// The ledger's answer, lengths, file and records against those of the run. Answer and buffers were found to be the library's.
+fn against_ledger(ledger: &mut Ledger, call: &Call, answer: Answer, after: &State) -> Option<String> {
+    let expected = ledger.call(call);
+    if answer != expected {
+        return Some(format!("ledger {expected:?}\nfound  {answer:?}"));
+    }
+    let (length, used) = (answer.length as usize, answer.used as usize);
+    first_difference("file of the ledger", &ledger.file(), &after.file[..length])
+        .or_else(|| first_difference("records of the ledger", ledger.records(), &after.journal[..used]))
+}
+
+// ---- The table -----------------------------------------------------------------------------------------------------
+
+/// Each row with the numbers that must be seen in it; no others may be. 0 is a call carried out or an accepted file.
+fn rows() -> Vec<(&'static str, Vec<u64>)> {
+    let file: Vec<u64> = (0..=19).collect();
+    let with = |more: &[u64]| [&file, more].concat();
+    vec![
+        ("read", file.clone()),
+        ("entry", with(&[22])),
+        ("lookup", with(&[22])),
+        ("blank", vec![0, 24]),
+        ("add", with(&[20, 24, 25, 101, 109, 111, 112, 114, 115, 116])),
+        ("replace", with(&[20, 22, 23, 24, 25, 101, 109, 114, 119])),
+        ("remove", with(&[20, 22, 25, 119])),
+        ("undo", with(&[20, 21, 24, 26])),
+        ("built", file.clone()),
+        ("pairs", (2..=18).collect()),
+        ("ledger", vec![0, 22, 23, 24, 25, 26, 101, 109, 111, 112, 114, 115, 116, 119]),
+        ("undone", vec![1, 2, 3, 4]),
+    ]
+}
+
+/// Prints the table. False where a number was seen that cannot be, or (if asked) one that must be was not.
+fn print_table(session: &Session, complete: bool) -> bool {
+    println!("how often each number was seen (built: refusals by construction, pairs: k with k + 1 in one file,");
+    println!("ledger: answers in runs, undone: kinds of records):");
+    let mut good = true;
+    for (row, numbers) in rows() {
+        let seen: BTreeMap<u64, u64> =
+            session.table.range((row, 0)..=(row, u64::MAX)).map(|((_, number), count)| (*number, *count)).collect();
+        let list: Vec<String> = seen.iter().map(|(number, count)| format!("{number}:{count}")).collect();
+        println!("  {row:7} {}", list.join(" "));
+        for number in numbers.iter().filter(|number| complete && !seen.contains_key(number)) {
+            println!("compare: {row} never gave {number}");
+            good = false;
+        }
+        for number in seen.keys().filter(|number| !numbers.contains(number)) {
+            println!("compare: {row} gave {number}, which cannot be");
+            good = false;
+        }
+    }
+    good
+}
+
+// ---- The program ---------------------------------------------------------------------------------------------------
+
+/// The family's number for the i-th case.
+fn family_of(i: u64) -> u64 {
+    let mut left = (i % 100) as usize;
+    for (family, (share, _)) in FAMILIES.iter().enumerate() {
+        if left < *share {
+            return family as u64;
+        }
+        left -= share;
+    }
+    unreachable!("the shares make 100")
+}
+
+fn run_case(session: &mut Session, case: u64) {
+    session.case = case;
+    fence::CASE.store(case, Ordering::Relaxed);
+    let mut rng = Rng(case);
+    let family = (case & 0xFF) as usize;
+    match FAMILIES.get(family) {
+        Some((_, run)) => run(session, &mut rng),
+        None => large::run(session, &mut rng, family),
+    }
+}
+
+struct Options {
+    seed: u64,
+    count: u64,
+    case: Option<u64>,
+}
+
+fn parse_number(text: &str) -> Option<u64> {
+    match text.strip_prefix("0x") {
+        Some(digits) => u64::from_str_radix(digits, 16).ok(),
+        None => text.parse().ok(),
+    }
+}
+
+fn options() -> Option<Options> {
+    let mut options = Options { seed: DEFAULT_SEED, count: DEFAULT_COUNT, case: None };
+    let mut arguments = std::env::args().skip(1);
+    while let Some(name) = arguments.next() {
+        let value = parse_number(&arguments.next()?)?;
+        match name.as_str() {
+            "--seed" => options.seed = value,
+            "--count" => options.count = value,
+            "--case" => options.case = Some(value),
+            _ => return None,
+        }
+    }
+    Some(options)
+}
+
+fn main() {
+    let Some(options) = options() else {
+        println!("usage: compare [--seed N] [--count M] [--case C]");
+        exit(2);
+    };
+    fence::report_faults();
+    panic::set_hook(Box::new(|panic| {
+        println!("compare: DIFFERENCE, case {:#x} ended with {panic}", fence::CASE.load(Ordering::Relaxed));
+        exit(1);
+    }));
+    let mut session = Session { case: 0, calls: 0, table: BTreeMap::new() };
+    if let Some(case) = options.case {
+        run_case(&mut session, case);
+        println!("compare: case {case:#x} shows no difference");
+        return;
+    }
+    println!("compare: seed {} count {}", options.seed, options.count);
+    let mut rng = Rng(options.seed);
+    for i in 0..options.count {
+        run_case(&mut session, rng.next() & !0xFF | family_of(i));
+    }
+    for family in large::FAMILIES {
+        run_case(&mut session, rng.next() & !0xFF | family as u64);
+    }
+    println!("compare: {} inputs, {} calls", options.count + large::FAMILIES.len() as u64, session.calls);
+    if !print_table(&session, options.count >= DEFAULT_COUNT / 4) {
+        exit(1);
+    }
+    println!("compare: ok");
+}

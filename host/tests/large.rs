@@ -1,0 +1,252 @@
+//! Cases that run once: at the limits of 16,777,216 bytes and 4,096 entries, sizes beyond 32 bits, and the samples.
+
+use crate::archive;
+use crate::fence;
+use crate::generate::{self, Rng};
+use crate::reference::{Call, Chunk, Edit, Entry, File, Record, State, Tag, LIMIT, MOST_ENTRIES};
+use crate::samples::samples;
+use crate::{check_call, check_file, check_run, Session};
+use std::ops::Range;
+
+const FIRST: usize = 0xE0;
+const CASES: [fn(&mut Session, &mut Rng); 11] = [
+    samples,
+    at_limit,
+    over_limit,
+    add_to_limit,
+    replace_to_limit,
+    undo_to_limit,
+    most_entries,
+    too_many_entries,
+    beyond_32_bits,
+    run_at_length_limit,
+    run_at_entry_limit,
+];
+pub const FAMILIES: Range<usize> = FIRST..FIRST + CASES.len();
+
+pub fn run(session: &mut Session, rng: &mut Rng, family: usize) {
+    match family.checked_sub(FIRST).and_then(|i| CASES.get(i)) {
+        Some(case) => case(session, rng),
+        None => session.fail("no call", &format!("there is no family {family:#x}")),
+    }
+}
+
+// ---- Files and calls -----------------------------------------------------------------------------------------------
+
+/// A good file of this even length: Data 1 fills it up, Data 2 and the frontispiece's picture Pict 3 are small.
+fn filled(rng: &mut Rng, length: usize) -> File {
+    let mut file = File { chunks: Vec::new(), entries: Vec::new() };
+    let contents: [(&Tag, u32, &Tag, &[u8]); 3] =
+        [(b"Data", 1, b"BINA", b""), (b"Data", 2, b"TEXT", b"eel"), (b"Pict", 3, b"JPEG", b"picture")];
+    for (chunk, (usage, number, tag, data)) in contents.into_iter().enumerate() {
+        file.chunks.push(Chunk { tag: *tag, data: data.to_vec() });
+        file.entries.push(Entry { usage: *usage, number, chunk });
+    }
+    file.chunks.push(Chunk { tag: *b"Fspc", data: vec![0, 0, 0, 3] });
+    file.chunks[0].data = rng.bytes(length - file.length());
+    if rng.chance(50) {
+        file.chunks.swap(0, 1);
+        file.entries[0].chunk = 1;
+        file.entries[1].chunk = 0;
+    }
+    file
+}
+
+/// Pictures 0, 1, 2 .. with few chunks, which most of them share.
+fn many_entries(rng: &mut Rng, count: usize, chunks: usize) -> File {
+    let chunk = |rng: &mut Rng| Chunk { tag: *b"JPEG", data: rng.bytes(3) };
+    let chunks: Vec<Chunk> = (0..chunks).map(|_| chunk(rng)).collect();
+    let entry = |rng: &mut Rng, i| Entry { usage: *b"Pict", number: i as u32, chunk: rng.below(chunks.len()) };
+    let entries = (0..count).map(|i| entry(rng, i)).collect();
+    File { chunks, entries }
+}
+
+pub fn add(usage: &Tag, number: u32, tag: &Tag, data: Vec<u8>) -> Call {
+    Call::Edit(Edit::Add { usage: *usage, number, tag: *tag, data })
+}
+
+pub fn replace(usage: &Tag, number: u32, tag: &Tag, data: Vec<u8>) -> Call {
+    Call::Edit(Edit::Replace { usage: *usage, number, tag: *tag, data })
+}
+
+pub fn remove(usage: &Tag, number: u32) -> Call {
+    Call::Edit(Edit::Remove { usage: *usage, number })
+}
+
+/// A call that must be answered with this number, which 01 names for the case. Gives the buffers afterwards.
+pub fn expect(session: &mut Session, rng: &mut Rng, call: &Call, state: &State, number: u64) -> State {
+    let (answer, after) = check_call(session, rng, call, state);
+    if answer.refusal != number {
+        session.fail(call.name(), &format!("must give {number}, gave {answer:?}"));
+    }
+    after
+}
+
+// ---- 16,777,216 bytes ----------------------------------------------------------------------------------------------
+
+fn at_limit(session: &mut Session, rng: &mut Rng) {
+    let file = filled(rng, LIMIT).write();
+    check_file(session, rng, &file);
+    let state = generate::lend(rng, file, Vec::new(), 100, LIMIT);
+    expect(session, rng, &add(b"Data", 9, b"TEXT", vec![]), &state, 101);
+    expect(session, rng, &add(b"Data", 9, b"RIdx", vec![]), &state, 101);
+    expect(session, rng, &replace(b"Data", 2, b"TEXT", vec![7; 5]), &state, 101);
+    expect(session, rng, &replace(b"Data", 2, b"RIdx", vec![7; 5]), &state, 101);
+    expect(session, rng, &replace(b"Data", 2, b"BINA", vec![7; 4]), &state, 0);
+    expect(session, rng, &remove(b"Pict", 3), &state, 119);
+    for call in [remove(b"Data", 1), remove(b"Data", 2), replace(b"Data", 1, b"BINA", vec![])] {
+        let after = expect(session, rng, &call, &state, 0);
+        expect(session, rng, &Call::Undo, &after, 0);
+    }
+    let tight = State { file: state.file[..LIMIT].to_vec(), journal: Vec::new(), ..state };
+    expect(session, rng, &add(b"Data", 9, b"TEXT", vec![]), &tight, 101);
+}
+
+/// One byte over with whatever contents, and two over with a file that is good but for its length.
+fn over_limit(session: &mut Session, rng: &mut Rng) {
+    let good = filled(rng, LIMIT + 2).write();
+    for file in [good[..LIMIT + 1].to_vec(), good, vec![0; LIMIT + 1]] {
+        check_file(session, rng, &file);
+        session.count("built", 1);
+        let state = generate::lend(rng, file, vec![1; 29], 50, 50);
+        for call in
+            [add(b"Data", 9, b"TEXT", vec![]), replace(b"Data", 2, b"TEXT", vec![]), remove(b"Data", 2), Call::Undo]
+        {
+            expect(session, rng, &call, &state, 1);
+        }
+    }
+}
+
+fn add_to_limit(session: &mut Session, rng: &mut Rng) {
+    let data_size = 2 * rng.between(1, 400);
+    let file = filled(rng, LIMIT - 20 - data_size).write();
+    let roomy = generate::lend(rng, file, vec![9; 5], data_size + 60, 29);
+    let sized = |more: usize| State { file: roomy.file[..LIMIT - 1 + more].to_vec(), ..roomy.clone() };
+    let call = |size: usize, rng: &mut Rng| add(b"Snd ", 4, b"OGGV", rng.bytes(size));
+    for (size, state, number) in [
+        (data_size, sized(1), 0),
+        (data_size - 1, sized(1), 0),
+        (data_size, sized(0), 24),
+        (data_size + 1, roomy.clone(), 101),
+        (data_size + 2, sized(0), 101),
+    ] {
+        let call = call(size, rng);
+        expect(session, rng, &call, &state, number);
+    }
+}
+
+fn replace_to_limit(session: &mut Session, rng: &mut Rng) {
+    let data_size = 2 * rng.between(3, 400);
+    // Data 2 has three bytes and one of padding.
+    let file = filled(rng, LIMIT + 4 - data_size).write();
+    let roomy = generate::lend(rng, file, vec![9; 5], data_size + 60, 32);
+    let tight = State { file: roomy.file[..LIMIT - 1].to_vec(), ..roomy.clone() };
+    for (size, state, number) in [
+        (data_size, &roomy, 0),
+        (data_size - 1, &roomy, 0),
+        (data_size, &tight, 24),
+        (data_size + 1, &roomy, 101),
+        (data_size + 2, &tight, 101),
+    ] {
+        let call = replace(b"Data", 2, b"BINA", rng.bytes(size));
+        expect(session, rng, &call, state, number);
+    }
+}
+
+/// Records of a removal and a replacement whose undo gives the longest file, or a longer one, which is never accepted.
+fn undo_to_limit(session: &mut Session, rng: &mut Rng) {
+    let list = filled(rng, LIMIT - 1000);
+    let file = list.write();
+    let (place, start) = (0, file.len() as u32 + 12);
+    let data_start = list.starts()[list.entries[1].chunk] as u32;
+    for (size, number) in [(980, 0), (979, 0), (981, 21), (982, 21)] {
+        let removed =
+            Record { kind: 3, usage: *b"Snd ", number: 4, place, start, tag: *b"MOD ", data: rng.bytes(size) };
+        let state = generate::lend(rng, file.clone(), removed.write(), 1100, 3);
+        expect(session, rng, &Call::Undo, &state, number);
+        let data = rng.bytes(size + 24);
+        let replaced = Record { kind: 2, usage: *b"Data", number: 2, place: 1, start: data_start, tag: *b"TEXT", data };
+        let state = generate::lend(rng, file.clone(), replaced.write(), 1100, 3);
+        expect(session, rng, &Call::Undo, &state, number);
+    }
+}
+
+// ---- 4,096 entries -------------------------------------------------------------------------------------------------
+
+fn most_entries(session: &mut Session, rng: &mut Rng) {
+    for chunks in [1, 60, MOST_ENTRIES] {
+        let list = many_entries(rng, MOST_ENTRIES, chunks);
+        let file = list.write();
+        check_file(session, rng, &file);
+        let state = generate::lend(rng, file.clone(), Vec::new(), 100, 100);
+        expect(session, rng, &add(b"Data", 9, b"TEXT", vec![]), &state, 111);
+        expect(session, rng, &add(b"Data", 9, b"RIdx", vec![]), &state, 109);
+        expect(session, rng, &add(b"Dat?", 9, b"TEXT", vec![]), &state, 111);
+        let last = MOST_ENTRIES as u32 - 1;
+        let after = expect(session, rng, &remove(b"Pict", last), &state, 0);
+        expect(session, rng, &Call::Undo, &after, 0);
+        let after = expect(session, rng, &remove(b"Pict", 0), &state, 0);
+        expect(session, rng, &add(b"Data", 9, b"TEXT", vec![]), &after, 0);
+        let start = list.starts()[0] as u32 + 12;
+        for (kind, tag) in [(3, *b"TEXT"), (4, [0; 4])] {
+            let usage = if kind == 3 { *b"Data" } else { *b"Pict" };
+            let record = Record { kind, usage, number: 9999, place: 7, start, tag, data: Vec::new() };
+            let state = generate::lend(rng, file.clone(), record.write(), 100, 3);
+            expect(session, rng, &Call::Undo, &state, 21);
+        }
+    }
+}
+
+fn too_many_entries(session: &mut Session, rng: &mut Rng) {
+    let file = many_entries(rng, MOST_ENTRIES + 1, 50).write();
+    check_file(session, rng, &file);
+    let state = generate::lend(rng, file, vec![1; 29], 100, 100);
+    for call in [add(b"Data", 9, b"TEXT", vec![]), replace(b"Pict", 2, b"JPEG", vec![]), remove(b"Pict", 2), Call::Undo]
+    {
+        expect(session, rng, &call, &state, 11);
+    }
+}
+
+// ---- Sizes beyond 32 bits ------------------------------------------------------------------------------------------
+
+/// Lent arrays of more than 4 GiB. They are too large to be copied, so only answers and the first bytes are compared.
+fn beyond_32_bits(session: &mut Session, _: &mut Rng) {
+    for (what, found, expected) in archive::on_huge_arrays(fence::huge_zeros((1 << 32) + 24)) {
+        if found != expected {
+            session.fail(what, &format!("expected {expected}\nfound    {found}"));
+        }
+    }
+}
+
+// ---- Runs ----------------------------------------------------------------------------------------------------------
+
+/// The first call goes past the limit.
+fn run_at_length_limit(session: &mut Session, rng: &mut Rng) {
+    let file = filled(rng, LIMIT - 60).write();
+    let state = generate::lend(rng, file, Vec::new(), 100, 400);
+    check_run(session, rng, state, 40, |rng, _, step| match rng.below(8) {
+        _ if step == 0 => add(b"Data", 4, b"TEXT", vec![1; 60]),
+        0..=2 => {
+            let size = rng.below(30);
+            add(b"Data", rng.between(4, 6) as u32, b"TEXT", rng.bytes(size))
+        }
+        3..=4 => {
+            let size = rng.below(70);
+            replace(b"Data", rng.between(2, 6) as u32, b"BINA", rng.bytes(size))
+        }
+        5 => remove(b"Data", rng.between(2, 6) as u32),
+        _ => Call::Undo,
+    });
+}
+
+/// The third call is one entry too many.
+fn run_at_entry_limit(session: &mut Session, rng: &mut Rng) {
+    let file = many_entries(rng, MOST_ENTRIES - 2, 3).write();
+    let state = generate::lend(rng, file, Vec::new(), 200, 400);
+    check_run(session, rng, state, 60, |rng, _, step| match rng.below(8) {
+        _ if step < 3 => add(b"Snd ", step as u32, b"MOD ", vec![1]),
+        0..=4 => add(b"Snd ", rng.below(9) as u32, b"MOD ", vec![1]),
+        5 => remove(b"Pict", rng.below(MOST_ENTRIES) as u32),
+        _ => Call::Undo,
+    });
+}

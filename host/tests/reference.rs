@@ -1,0 +1,724 @@
+//! A second, independent account of what the calls of blorb.h give, to compare the library with.
+//!
+//! A file is read into a list of chunks and a list of entries. An edit changes the lists, writes them out as a new file and
+//! judges that file like any other. Nothing here aims at speed.
+
+use std::collections::{HashMap, HashSet};
+
+pub const LIMIT: usize = 16_777_216;
+pub const MOST_ENTRIES: usize = 4_096;
+pub const USAGES: [&Tag; 4] = [b"Pict", b"Snd ", b"Data", b"Exec"];
+
+pub type Tag = [u8; 4];
+
+#[derive(Clone, Copy, PartialEq, Eq, Debug)]
+pub struct Refusal {
+    pub number: u64,
+    pub place: u64,
+}
+
+fn refuse<T>(number: u64, place: usize) -> Result<T, Refusal> {
+    Err(Refusal { number, place: place as u64 })
+}
+
+pub fn tag_at(bytes: &[u8], at: usize) -> Tag {
+    bytes[at..at + 4].try_into().unwrap()
+}
+
+pub fn number_at(bytes: &[u8], at: usize) -> u32 {
+    u32::from_be_bytes(tag_at(bytes, at))
+}
+
+// ---- Reading -------------------------------------------------------------------------------------------------------
+
+/// Where a chunk begins and how many data bytes it has.
+#[derive(Clone, Copy, Debug)]
+pub struct Span {
+    pub start: usize,
+    pub length: usize,
+}
+
+impl Span {
+    fn data(self, file: &[u8]) -> &[u8] {
+        &file[self.start + 8..self.start + 8 + self.length]
+    }
+}
+
+/// An entry of the index. `chunk` counts the chunks behind the index from 0.
+#[derive(Clone, Copy, Debug)]
+pub struct Entry {
+    pub usage: Tag,
+    pub number: u32,
+    pub chunk: usize,
+}
+
+/// What the reader finds in an accepted file: the chunks behind the index, and the entries.
+pub struct View {
+    pub spans: Vec<Span>,
+    pub entries: Vec<Entry>,
+}
+
+/// Accepts the file, or refuses it with the first reason of the table 1 to 19.
+pub fn read(file: &[u8]) -> Result<View, Refusal> {
+    if file.len() > LIMIT {
+        return refuse(1, 0);
+    }
+    if file.len() < 12 {
+        return refuse(2, 0);
+    }
+    if &tag_at(file, 0) != b"FORM" {
+        return refuse(3, 0);
+    }
+    if &tag_at(file, 8) != b"IFRS" {
+        return refuse(4, 8);
+    }
+    if number_at(file, 4) as usize != file.len() - 8 {
+        return refuse(5, 4);
+    }
+    let mut spans = walk(file)?;
+    let count = index_count(file, &spans)?;
+    spans.remove(0);
+    let entries = read_entries(file, &spans, count)?;
+    let view = View { spans, entries };
+    check_optional(file, &view)?;
+    Ok(view)
+}
+
+/// All chunks from offset 12 to the end. Refusals 6 and 7.
+fn walk(file: &[u8]) -> Result<Vec<Span>, Refusal> {
+    let mut spans = Vec::new();
+    let mut start = 12;
+    while start < file.len() {
+        if file.len() - start < 8 {
+            return refuse(6, start);
+        }
+        let length = number_at(file, start + 4) as usize;
+        let end = start + 8 + length;
+        if end + length % 2 > file.len() {
+            return refuse(6, start);
+        }
+        if length % 2 == 1 && file[end] != 0 {
+            return refuse(7, end);
+        }
+        spans.push(Span { start, length });
+        start = end + length % 2;
+    }
+    Ok(spans)
+}
+
+/// The index's count. Refusals 8 to 11.
+fn index_count(file: &[u8], spans: &[Span]) -> Result<usize, Refusal> {
+    let Some(index) = spans.first() else {
+        return refuse(8, 12);
+    };
+    if &tag_at(file, index.start) != b"RIdx" {
+        return refuse(8, 12);
+    }
+    if let Some(second) = spans[1..].iter().find(|span| &tag_at(file, span.start) == b"RIdx") {
+        return refuse(9, second.start);
+    }
+    if index.length < 4 {
+        return refuse(10, 16);
+    }
+    let count = number_at(file, 20) as usize;
+    if index.length != 4 + 12 * count {
+        return refuse(10, 16);
+    }
+    if count > MOST_ENTRIES {
+        return refuse(11, 20);
+    }
+    Ok(count)
+}
+
+/// The entries in their order. Refusals 12 to 16.
+fn read_entries(file: &[u8], spans: &[Span], count: usize) -> Result<Vec<Entry>, Refusal> {
+    let chunk_at: HashMap<usize, usize> = spans.iter().enumerate().map(|(i, span)| (span.start, i)).collect();
+    let mut pairs = HashSet::new();
+    let mut entries = Vec::new();
+    for i in 0..count {
+        let at = 24 + 12 * i;
+        let (usage, number) = (tag_at(file, at), number_at(file, at + 4));
+        if !USAGES.contains(&&usage) {
+            return refuse(12, at);
+        }
+        let Some(&chunk) = chunk_at.get(&(number_at(file, at + 8) as usize)) else {
+            return refuse(13, at + 8);
+        };
+        if !suits(&usage, &tag_at(file, spans[chunk].start), spans[chunk].data(file)) {
+            return refuse(14, at);
+        }
+        if &usage == b"Exec" && number != 0 {
+            return refuse(15, at + 4);
+        }
+        if !pairs.insert((usage, number)) {
+            return refuse(16, at);
+        }
+        entries.push(Entry { usage, number, chunk });
+    }
+    Ok(entries)
+}
+
+/// Rule 5: may a chunk of this type and with this data stand for this usage?
+pub fn suits(usage: &Tag, tag: &Tag, data: &[u8]) -> bool {
+    match usage {
+        b"Pict" => tag == b"JPEG" || tag == &[80, 78, 71, 32] || (tag == b"Rect" && data.len() == 8),
+        b"Snd " => {
+            [b"OGGV", b"MOD ", b"SONG"].contains(&tag) || (tag == b"FORM" && data.len() >= 4 && &data[..4] == b"AIFF")
+        }
+        b"Data" => [b"TEXT", b"BINA"].contains(&tag),
+        b"Exec" => {
+            [b"ZCOD", b"GLUL", b"TAD2", b"TAD3", b"HUGO", b"ALAN", b"ADRI", b"LEVE", b"AGT ", b"MAGS", b"ADVS", b"EXEC"]
+                .contains(&tag)
+        }
+        _ => false,
+    }
+}
+
+/// Rule 7 by file position. Refusals 17 to 19.
+fn check_optional(file: &[u8], view: &View) -> Result<(), Refusal> {
+    let mut seen = HashSet::new();
+    for span in &view.spans {
+        let tag = tag_at(file, span.start);
+        let right_length = match &tag {
+            b"RelN" => 2,
+            b"Fspc" => 4,
+            _ => continue,
+        };
+        if !seen.insert(tag) {
+            return refuse(17, span.start);
+        }
+        if span.length != right_length {
+            return refuse(18, span.start + 4);
+        }
+        if &tag == b"Fspc" {
+            let number = number_at(file, span.start + 8);
+            let picture = view.entries.iter().find(|entry| &entry.usage == b"Pict" && entry.number == number);
+            match picture {
+                Some(entry) if &tag_at(file, view.spans[entry.chunk].start) != b"Rect" => {}
+                _ => return refuse(19, span.start + 8),
+            }
+        }
+    }
+    Ok(())
+}
+
+/// The answers of the three reading calls, with the numbers that they hand back where they are not refused.
+pub fn read_answer(file: &[u8]) -> Result<[u64; 2], Refusal> {
+    let view = read(file)?;
+    Ok([file.len() as u64, view.entries.len() as u64])
+}
+
+pub fn entry_answer(view: &Result<View, Refusal>, i: usize) -> Result<[u64; 3], Refusal> {
+    let view = view.as_ref().map_err(|&refusal| refusal)?;
+    let Some(entry) = view.entries.get(i) else {
+        return refuse(22, 0);
+    };
+    let usage = u32::from_be_bytes(entry.usage);
+    Ok([usage as u64, entry.number as u64, view.spans[entry.chunk].start as u64])
+}
+
+pub fn lookup_answer(file: &[u8], view: &Result<View, Refusal>, usage: &Tag, number: u32) -> Result<[u64; 3], Refusal> {
+    let view = view.as_ref().map_err(|&refusal| refusal)?;
+    let Some(entry) = view.entries.iter().find(|entry| &entry.usage == usage && entry.number == number) else {
+        return refuse(22, 0);
+    };
+    let span = view.spans[entry.chunk];
+    Ok([number_at(file, span.start) as u64, span.start as u64 + 8, span.length as u64])
+}
+
+// ---- A file as lists -----------------------------------------------------------------------------------------------
+
+#[derive(Clone)]
+pub struct Chunk {
+    pub tag: Tag,
+    pub data: Vec<u8>,
+}
+
+impl Chunk {
+    fn size(&self) -> usize {
+        8 + self.data.len() + self.data.len() % 2
+    }
+}
+
+/// The chunks behind the index and the entries of the index.
+#[derive(Clone)]
+pub struct File {
+    pub chunks: Vec<Chunk>,
+    pub entries: Vec<Entry>,
+}
+
+impl File {
+    pub fn open(file: &[u8]) -> Result<File, Refusal> {
+        let view = read(file)?;
+        let chunk = |span: &Span| Chunk { tag: tag_at(file, span.start), data: span.data(file).to_vec() };
+        Ok(File { chunks: view.spans.iter().map(chunk).collect(), entries: view.entries })
+    }
+
+    /// Where each chunk begins, and at last the file's end.
+    pub fn starts(&self) -> Vec<usize> {
+        let mut starts = vec![24 + 12 * self.entries.len()];
+        for chunk in &self.chunks {
+            starts.push(starts.last().unwrap() + chunk.size());
+        }
+        starts
+    }
+
+    pub fn length(&self) -> usize {
+        *self.starts().last().unwrap()
+    }
+
+    pub fn write(&self) -> Vec<u8> {
+        let starts = self.starts();
+        let number = |value: usize| u32::try_from(value).unwrap().to_be_bytes();
+        let mut bytes = Vec::with_capacity(self.length());
+        bytes.extend(b"FORM");
+        bytes.extend(number(self.length() - 8));
+        bytes.extend(b"IFRSRIdx");
+        bytes.extend(number(4 + 12 * self.entries.len()));
+        bytes.extend(number(self.entries.len()));
+        for entry in &self.entries {
+            bytes.extend(entry.usage);
+            bytes.extend(entry.number.to_be_bytes());
+            bytes.extend(number(starts[entry.chunk]));
+        }
+        for chunk in &self.chunks {
+            bytes.extend(chunk.tag);
+            bytes.extend(number(chunk.data.len()));
+            bytes.extend(&chunk.data);
+            if chunk.data.len() % 2 == 1 {
+                bytes.push(0);
+            }
+        }
+        bytes
+    }
+
+    fn find(&self, usage: &Tag, number: u32) -> Option<usize> {
+        self.entries.iter().position(|entry| &entry.usage == usage && entry.number == number)
+    }
+
+    fn shared(&self, chunk: usize) -> bool {
+        self.entries.iter().filter(|entry| entry.chunk == chunk).count() > 1
+    }
+
+    /// Takes a chunk away that no entry has any more.
+    fn take_chunk(&mut self, chunk: usize) {
+        self.chunks.remove(chunk);
+        for entry in &mut self.entries {
+            if entry.chunk > chunk {
+                entry.chunk -= 1;
+            }
+        }
+    }
+
+    /// Puts a chunk in before the one that has this position now.
+    fn put_chunk(&mut self, position: usize, chunk: Chunk) {
+        self.chunks.insert(position, chunk);
+        for entry in &mut self.entries {
+            if entry.chunk >= position {
+                entry.chunk += 1;
+            }
+        }
+    }
+}
+
+// ---- Records of the journal ----------------------------------------------------------------------------------------
+
+#[derive(Clone, Debug)]
+pub struct Record {
+    pub kind: u8,
+    pub usage: Tag,
+    pub number: u32,
+    pub place: u32,
+    pub start: u32,
+    pub tag: Tag,
+    pub data: Vec<u8>,
+}
+
+impl Record {
+    pub fn write(&self) -> Vec<u8> {
+        let m = self.data.len() as u32;
+        let mut bytes = vec![self.kind];
+        bytes.extend(self.usage);
+        bytes.extend(self.number.to_be_bytes());
+        bytes.extend(self.place.to_be_bytes());
+        bytes.extend(self.start.to_be_bytes());
+        bytes.extend(self.tag);
+        bytes.extend(m.to_be_bytes());
+        bytes.extend(&self.data);
+        bytes.extend((25 + m).to_be_bytes());
+        bytes
+    }
+
+    fn size(&self) -> usize {
+        29 + self.data.len()
+    }
+
+    /// The last record of these bytes, if it is well formed.
+    pub fn last(journal: &[u8]) -> Option<Record> {
+        let used = journal.len();
+        if used < 29 {
+            return None;
+        }
+        let trailer = number_at(journal, used - 4) as usize;
+        if trailer < 25 || trailer > used - 4 {
+            return None;
+        }
+        let bytes = &journal[used - 4 - trailer..used - 4];
+        let record = Record {
+            kind: bytes[0],
+            usage: tag_at(bytes, 1),
+            number: number_at(bytes, 5),
+            place: number_at(bytes, 9),
+            start: number_at(bytes, 13),
+            tag: tag_at(bytes, 17),
+            data: bytes[25..].to_vec(),
+        };
+        if number_at(bytes, 21) as usize != record.data.len() {
+            return None;
+        }
+        let empty = record.tag == [0; 4] && record.data.is_empty();
+        let well_formed = match record.kind {
+            1 => empty && record.start == 0,
+            2 | 3 => true,
+            4 => empty,
+            _ => false,
+        };
+        well_formed.then_some(record)
+    }
+}
+
+// ---- Edits ---------------------------------------------------------------------------------------------------------
+
+#[derive(Clone, Debug)]
+pub enum Edit {
+    Add { usage: Tag, number: u32, tag: Tag, data: Vec<u8> },
+    Replace { usage: Tag, number: u32, tag: Tag, data: Vec<u8> },
+    Remove { usage: Tag, number: u32 },
+}
+
+#[derive(Clone, Debug)]
+pub enum Call {
+    Edit(Edit),
+    Undo,
+}
+
+impl Call {
+    pub fn name(&self) -> &'static str {
+        match self {
+            Call::Edit(Edit::Add { .. }) => "add",
+            Call::Edit(Edit::Replace { .. }) => "replace",
+            Call::Edit(Edit::Remove { .. }) => "remove",
+            Call::Undo => "undo",
+        }
+    }
+}
+
+/// The edit carried out, without asking whether the result is a good file. The entry to be replaced or removed is there.
+fn carry_out(edit: &Edit, present: &File) -> (File, Record) {
+    match edit {
+        Edit::Add { usage, number, tag, data } => add(present, *usage, *number, *tag, data),
+        Edit::Replace { usage, number, tag, data } => replace(present, *usage, *number, *tag, data),
+        Edit::Remove { usage, number } => remove(present, *usage, *number),
+    }
+}
+
+fn add(present: &File, usage: Tag, number: u32, tag: Tag, data: &[u8]) -> (File, Record) {
+    let mut file = present.clone();
+    file.entries.push(Entry { usage, number, chunk: file.chunks.len() });
+    file.chunks.push(Chunk { tag, data: data.to_vec() });
+    let place = present.entries.len() as u32;
+    (file, Record { kind: 1, usage, number, place, start: 0, tag: [0; 4], data: Vec::new() })
+}
+
+fn replace(present: &File, usage: Tag, number: u32, tag: Tag, data: &[u8]) -> (File, Record) {
+    let place = present.find(&usage, number).unwrap();
+    let chunk = present.entries[place].chunk;
+    let mut file = present.clone();
+    let old = std::mem::replace(&mut file.chunks[chunk], Chunk { tag, data: data.to_vec() });
+    let start = present.starts()[chunk] as u32;
+    (file, Record { kind: 2, usage, number, place: place as u32, start, tag: old.tag, data: old.data })
+}
+
+fn remove(present: &File, usage: Tag, number: u32) -> (File, Record) {
+    let place = present.find(&usage, number).unwrap();
+    let chunk = present.entries[place].chunk;
+    let start = present.starts()[chunk] as u32;
+    let mut file = present.clone();
+    file.entries.remove(place);
+    let mut record = Record { kind: 4, usage, number, place: place as u32, start, tag: [0; 4], data: Vec::new() };
+    if !present.shared(chunk) {
+        file.take_chunk(chunk);
+        record.kind = 3;
+        record.tag = present.chunks[chunk].tag;
+        record.data = present.chunks[chunk].data.clone();
+    }
+    (file, record)
+}
+
+/// 22 and 23, where they apply.
+fn check_target(edit: &Edit, present: &File) -> Result<(), Refusal> {
+    let (usage, number, replaces) = match edit {
+        Edit::Add { .. } => return Ok(()),
+        Edit::Replace { usage, number, .. } => (usage, *number, true),
+        Edit::Remove { usage, number } => (usage, *number, false),
+    };
+    let Some(place) = present.find(usage, number) else {
+        return refuse(22, 0);
+    };
+    if replaces && present.shared(present.entries[place].chunk) {
+        return refuse(23, 0);
+    }
+    Ok(())
+}
+
+/// The buffers' lengths and how much of the journal is in use.
+#[derive(Clone, Copy)]
+pub struct Room {
+    pub file: usize,
+    pub journal: usize,
+    pub used: usize,
+}
+
+/// An edit of an accepted file: 22, 23, 100 + k, 24, 25, or the resulting file and the record.
+fn decide(edit: &Edit, present: &File, room: Room) -> Result<(File, Record), Refusal> {
+    check_target(edit, present)?;
+    let (result, record) = carry_out(edit, present);
+    if result.length() > LIMIT {
+        return refuse(101, 0);
+    }
+    if let Err(Refusal { number, place }) = read(&result.write()) {
+        return Err(Refusal { number: 100 + number, place });
+    }
+    if result.length() > room.file {
+        return refuse(24, 0);
+    }
+    if record.size() > room.journal - room.used {
+        return refuse(25, 0);
+    }
+    Ok((result, record))
+}
+
+/// The file that undoing this record gives, if the record fits.
+fn take_back(record: &Record, present: &File) -> Option<File> {
+    let result = match record.kind {
+        1 => take_back_add(record, present)?,
+        2 => take_back_replace(record, present)?,
+        _ => take_back_remove(record, present)?,
+    };
+    (result.length() <= LIMIT && read(&result.write()).is_ok()).then_some(result)
+}
+
+fn take_back_add(record: &Record, present: &File) -> Option<File> {
+    let last = present.entries.last()?;
+    let place = present.entries.len() - 1;
+    let fits = record.place as usize == place
+        && record.usage == last.usage
+        && record.number == last.number
+        && last.chunk + 1 == present.chunks.len()
+        && !present.shared(last.chunk);
+    fits.then(|| {
+        let mut file = present.clone();
+        file.entries.pop();
+        file.chunks.pop();
+        file
+    })
+}
+
+fn take_back_replace(record: &Record, present: &File) -> Option<File> {
+    let entry = present.entries.get(record.place as usize)?;
+    let fits = record.usage == entry.usage
+        && record.number == entry.number
+        && record.start as usize == present.starts()[entry.chunk]
+        && !present.shared(entry.chunk);
+    fits.then(|| {
+        let mut file = present.clone();
+        file.chunks[entry.chunk] = Chunk { tag: record.tag, data: record.data.clone() };
+        file
+    })
+}
+
+/// Kinds 3 and 4. Position `chunks.len()` is the file's end, where only kind 3 fits.
+fn take_back_remove(record: &Record, present: &File) -> Option<File> {
+    let place = record.place as usize;
+    let start = (record.start as usize).checked_sub(12)?;
+    let position = present.starts().iter().position(|&at| at == start)?;
+    if place > present.entries.len() || (record.kind == 4 && position == present.chunks.len()) {
+        return None;
+    }
+    let mut file = present.clone();
+    if record.kind == 3 {
+        file.put_chunk(position, Chunk { tag: record.tag, data: record.data.clone() });
+    }
+    file.entries.insert(place, Entry { usage: record.usage, number: record.number, chunk: position });
+    Some(file)
+}
+
+// ---- Single calls on lent buffers ----------------------------------------------------------------------------------
+
+/// Both whole buffers, and the lengths given with them.
+#[derive(Clone)]
+pub struct State {
+    pub file: Vec<u8>,
+    pub length: usize,
+    pub journal: Vec<u8>,
+    pub used: usize,
+}
+
+#[derive(Clone, Copy, PartialEq, Eq, Debug)]
+pub struct Answer {
+    pub refusal: u64,
+    pub place: u64,
+    pub length: u64,
+    pub used: u64,
+}
+
+impl Answer {
+    pub fn done(length: usize, used: usize) -> Answer {
+        Answer { refusal: 0, place: 0, length: length as u64, used: used as u64 }
+    }
+
+    pub fn refused(refusal: Refusal, length: usize, used: usize) -> Answer {
+        Answer { refusal: refusal.number, place: refusal.place, ..Answer::done(length, used) }
+    }
+}
+
+/// The answer of one call and what the buffers hold afterwards.
+pub fn call(call: &Call, state: &State) -> (Answer, State) {
+    match attempt(call, state) {
+        Ok((file, record, used)) => {
+            let mut after = state.clone();
+            put_file(&mut after, &file);
+            let end = state.used + record.len();
+            after.journal[state.used..end].copy_from_slice(&record);
+            after.used = used;
+            (Answer::done(after.length, after.used), after)
+        }
+        Err(refusal) => (Answer::refused(refusal, state.length, state.used), state.clone()),
+    }
+}
+
+/// The new file, the bytes to be written at `used`, and the new `used`.
+fn attempt(call: &Call, state: &State) -> Result<(Vec<u8>, Vec<u8>, usize), Refusal> {
+    if state.length > state.file.len() || state.used > state.journal.len() {
+        return refuse(20, 0);
+    }
+    let present = File::open(&state.file[..state.length])?;
+    let room = Room { file: state.file.len(), journal: state.journal.len(), used: state.used };
+    match call {
+        Call::Edit(edit) => {
+            let (result, record) = decide(edit, &present, room)?;
+            Ok((result.write(), record.write(), state.used + record.size()))
+        }
+        Call::Undo => {
+            let (result, used) = undo(&present, &state.journal[..state.used])?;
+            if result.length() > state.file.len() {
+                return refuse(24, 0);
+            }
+            Ok((result.write(), Vec::new(), used))
+        }
+    }
+}
+
+/// 26, 21, or the file before the last record's edit and the journal's length without it.
+fn undo(present: &File, journal: &[u8]) -> Result<(File, usize), Refusal> {
+    if journal.is_empty() {
+        return refuse(26, 0);
+    }
+    let Some(record) = Record::last(journal) else {
+        return refuse(21, 0);
+    };
+    let Some(result) = take_back(&record, present) else {
+        return refuse(21, 0);
+    };
+    Ok((result, journal.len() - record.size()))
+}
+
+/// The file in the buffer's first bytes; what a longer file leaves behind becomes zero.
+fn put_file(state: &mut State, file: &[u8]) {
+    state.file[..file.len()].copy_from_slice(file);
+    if file.len() < state.length {
+        state.file[file.len()..state.length].fill(0);
+    }
+    state.length = file.len();
+}
+
+/// The blank file's bytes.
+pub fn blank_file() -> Vec<u8> {
+    File { chunks: Vec::new(), entries: Vec::new() }.write()
+}
+
+/// The answer of blank and what the buffer holds afterwards.
+pub fn blank(buffer: &[u8]) -> (Answer, Vec<u8>) {
+    if buffer.len() < 24 {
+        return (Answer::refused(Refusal { number: 24, place: 0 }, 0, 0), buffer.to_vec());
+    }
+    let mut after = buffer.to_vec();
+    after[..24].copy_from_slice(&blank_file());
+    (Answer::done(24, 0), after)
+}
+
+// ---- Whole runs ----------------------------------------------------------------------------------------------------
+
+/// The ledger: told the starting file, both buffers' lengths and the calls, no answer and no journal byte.
+pub struct Ledger {
+    start: File,
+    list: Vec<Edit>,
+    file_room: usize,
+    journal_room: usize,
+    /// The starting file with the list applied, and the list's records.
+    file: File,
+    records: Vec<u8>,
+}
+
+impl Ledger {
+    pub fn new(start: &[u8], file_room: usize, journal_room: usize) -> Ledger {
+        let start = File::open(start).expect("a run starts from an accepted file");
+        let file = start.clone();
+        Ledger { start, list: Vec::new(), file_room, journal_room, file, records: Vec::new() }
+    }
+
+    pub fn file(&self) -> Vec<u8> {
+        self.file.write()
+    }
+
+    pub fn records(&self) -> &[u8] {
+        &self.records
+    }
+
+    pub fn call(&mut self, call: &Call) -> Answer {
+        match self.attempt(call) {
+            Ok(()) => Answer::done(self.file.length(), self.records.len()),
+            Err(refusal) => Answer::refused(refusal, self.file.length(), self.records.len()),
+        }
+    }
+
+    fn attempt(&mut self, call: &Call) -> Result<(), Refusal> {
+        match call {
+            Call::Edit(edit) => {
+                let room = Room { file: self.file_room, journal: self.journal_room, used: self.records.len() };
+                let (file, record) = decide(edit, &self.file, room)?;
+                self.list.push(edit.clone());
+                self.file = file;
+                self.records.extend(record.write());
+            }
+            Call::Undo => {
+                if self.list.pop().is_none() {
+                    return refuse(26, 0);
+                }
+                self.apply_list();
+            }
+        }
+        Ok(())
+    }
+
+    /// The file and the records anew from the starting file.
+    fn apply_list(&mut self) {
+        self.file = self.start.clone();
+        self.records.clear();
+        for edit in &self.list {
+            let (file, record) = carry_out(edit, &self.file);
+            self.file = file;
+            self.records.extend(record.write());
+        }
+    }
+}
