@@ -1,0 +1,193 @@
+/*
+ * blorb.h: the C interface of the Blorb library.
+ *
+ * A Blorb file is one IFF file with the pictures, sounds, data and code of a text adventure. These calls read it, look a
+ * resource up, edit it in place, and take edits back.
+ *
+ * What is promised of every call, for all bytes, lengths and numbers that can be given to it:
+ *
+ *   - It answers. Nothing is allocated, nothing is kept between calls, no lock is taken, and nothing is printed.
+ *   - The answer's `refusal` is 0 where the call was carried out; else it is one of the numbers below, and `place` is where
+ *     in the file the reason lies (0 where a number has no place).
+ *   - A refused call has written nothing: every lent byte is as it was, and the lengths handed back are those given.
+ *   - No byte outside the lent buffers is read or written.
+ *
+ * These promises are proved of the library's code. They rest on what the caller lends:
+ *
+ *   - A pointer and the size_t that follows it name one array of that many bytes, which nothing else writes during the call. A
+ *     pointer may be null where its size is 0.
+ *   - Buffers that a call may write (no const) overlap no other buffer of the same call.
+ *   - `usage` and `type` point at four bytes, such as "Pict" or "TEXT". No closing zero is needed.
+ *
+ * Answers come back by value, so there is no result area that could be too small.
+ */
+#ifndef BLORB_H
+#define BLORB_H
+
+#include <stddef.h>
+#include <stdint.h>
+
+#ifdef __cplusplus
+extern "C" {
+#endif
+
+/* Sizes. */
+enum {
+    BLORB_MAX_SIZE = 16777216, /* bytes in a file, at most */
+    BLORB_MAX_ENTRIES = 4096,  /* entries in its index, at most */
+    BLORB_BLANK_SIZE = 24,     /* bytes in a blank file */
+    BLORB_ENTRY_SIZE = 12,     /* bytes that an entry takes in the index */
+    BLORB_HEADER_SIZE = 8,     /* bytes before a chunk's data */
+    BLORB_RECORD_SIZE = 29     /* bytes of a journal record besides the old data that it keeps */
+};
+
+/* Usages and types as numbers: the four bytes, the first one highest. */
+#define BLORB_TAG(a, b, c, d) ((uint32_t)(a) << 24 | (uint32_t)(b) << 16 | (uint32_t)(c) << 8 | (uint32_t)(d))
+#define BLORB_PICT BLORB_TAG('P', 'i', 'c', 't')
+#define BLORB_SND BLORB_TAG('S', 'n', 'd', ' ')
+#define BLORB_DATA BLORB_TAG('D', 'a', 't', 'a')
+#define BLORB_EXEC BLORB_TAG('E', 'x', 'e', 'c')
+
+/* Refusals. The first reason in the order of the numbers 1 to 19 decides about a file. */
+enum {
+    BLORB_DONE = 0,
+
+    /* The file. "Entry" is the entry's first byte in the index. */
+    BLORB_TOO_LONG = 1,         /* longer than BLORB_MAX_SIZE; place 0 */
+    BLORB_TOO_SHORT = 2,        /* fewer than 12 bytes; place 0 */
+    BLORB_NO_FORM = 3,          /* no 'FORM'; place 0 */
+    BLORB_NO_IFRS = 4,          /* no 'IFRS'; place 8 */
+    BLORB_FORM_LENGTH = 5,      /* the FORM length is not the file's length less 8; place 4 */
+    BLORB_CHUNK_CUT = 6,        /* a chunk's header, data or padding runs past the end; place: the chunk */
+    BLORB_PADDING = 7,          /* a padding byte is not zero; place: that byte */
+    BLORB_NO_INDEX = 8,         /* no chunk, or the first is not 'RIdx'; place 12 */
+    BLORB_SECOND_INDEX = 9,     /* a second 'RIdx'; place: its start */
+    BLORB_INDEX_LENGTH = 10,    /* the index's length is not 4 + 12 * count; place 16 */
+    BLORB_TOO_MANY = 11,        /* more than BLORB_MAX_ENTRIES entries; place 20 */
+    BLORB_USAGE = 12,           /* unknown usage; place: entry */
+    BLORB_START = 13,           /* no chunk other than the index begins at the start; place: entry + 8 */
+    BLORB_TYPE = 14,            /* the chunk's type does not suit the usage; place: entry */
+    BLORB_EXEC_NUMBER = 15,     /* an Exec with a number other than 0; place: entry + 4 */
+    BLORB_REPEATED = 16,        /* an earlier entry has this usage and number; place: entry */
+    BLORB_SECOND_OPTIONAL = 17, /* a second 'RelN' or 'Fspc'; place: its start */
+    BLORB_OPTIONAL_LENGTH = 18, /* the length of 'RelN' is not 2, or that of 'Fspc' not 4; place: its start + 4 */
+    BLORB_FRONTISPIECE = 19,    /* the frontispiece's picture is not in the index, or a 'Rect'; place: its start + 8 */
+
+    /* The call; place 0. */
+    BLORB_LENGTHS = 20,         /* `length` or `used` exceeds its buffer */
+    BLORB_RECORD = 21,          /* the journal's last record is not well formed, or not this file's */
+    BLORB_NOT_THERE = 22,       /* no such entry */
+    BLORB_SHARED = 23,          /* the chunk to be replaced has another entry too */
+    BLORB_FILE_ROOM = 24,       /* the file buffer is too small for the resulting file */
+    BLORB_JOURNAL_ROOM = 25,    /* the journal is too small for the record */
+    BLORB_NOTHING_TO_UNDO = 26, /* `used` is 0 */
+
+    /* The file that the edit would make; place as in that file. */
+    BLORB_RESULT = 100,         /* 100 + k: it would be refused with k. These can occur: */
+    BLORB_RESULT_TOO_LONG = BLORB_RESULT + BLORB_TOO_LONG,
+    BLORB_RESULT_SECOND_INDEX = BLORB_RESULT + BLORB_SECOND_INDEX,
+    BLORB_RESULT_TOO_MANY = BLORB_RESULT + BLORB_TOO_MANY,
+    BLORB_RESULT_USAGE = BLORB_RESULT + BLORB_USAGE,
+    BLORB_RESULT_TYPE = BLORB_RESULT + BLORB_TYPE,
+    BLORB_RESULT_EXEC_NUMBER = BLORB_RESULT + BLORB_EXEC_NUMBER,
+    BLORB_RESULT_REPEATED = BLORB_RESULT + BLORB_REPEATED,
+    BLORB_RESULT_FRONTISPIECE = BLORB_RESULT + BLORB_FRONTISPIECE
+};
+
+/* Reading. The file is the whole array of `size` bytes; it is only read. */
+
+/* Of a refused file: length and count 0. */
+typedef struct blorb_read_answer {
+    uint64_t refusal;
+    uint64_t place;
+    uint64_t length; /* the file's bytes */
+    uint64_t count;  /* entries in its index */
+} blorb_read_answer;
+
+/* Is this an accepted file, and how many entries has it? Refusals 1 to 19. */
+blorb_read_answer blorb_read(const uint8_t *file, size_t size);
+
+/* Of a refused call: usage, number and start 0. */
+typedef struct blorb_entry_answer {
+    uint64_t refusal;
+    uint64_t place;
+    uint32_t usage;  /* as a number: BLORB_PICT .. BLORB_EXEC */
+    uint32_t number;
+    uint64_t start;  /* where its chunk begins */
+} blorb_entry_answer;
+
+/* Entry i of the index, counted from 0. Refusals 1 to 19, then 22 where i is not below the count. */
+blorb_entry_answer blorb_entry(const uint8_t *file, size_t size, size_t i);
+
+/* Of a refused call: type, start and length 0. */
+typedef struct blorb_lookup_answer {
+    uint64_t refusal;
+    uint64_t place;
+    uint32_t type;   /* the chunk's type as a number */
+    uint64_t start;  /* where its data begins: file + start */
+    uint64_t length; /* the data's bytes, without header and padding */
+} blorb_lookup_answer;
+
+/* The resource with this usage and number. Refusals 1 to 19, then 22 exactly where the index has no such entry. */
+blorb_lookup_answer blorb_lookup(const uint8_t *file, size_t size, const char usage[4], uint32_t number);
+
+/*
+ * Editing. The file is the first `length` bytes of a buffer of `size` bytes; the journal's records are the first `used` bytes of
+ * a buffer of `journal_size` bytes. Begin with a file that blorb_read accepts and used = 0, lend the same two buffers to every
+ * call, and give each call the length and used that the last one handed back: blorb_undo then takes back edit after edit,
+ * the last one first, down to the file begun with, byte for byte.
+ *
+ * Of a call that was carried out, length and used are the new ones. Bytes between a shorter new end and the old end become zero;
+ * bytes past both ends stay. An edit writes its record at `used` and no other byte of the journal; an undo writes none.
+ */
+typedef struct blorb_edit_answer {
+    uint64_t refusal;
+    uint64_t place;
+    uint64_t length;
+    uint64_t used;
+} blorb_edit_answer;
+
+/* The blank file in the buffer's first 24 bytes: length 24, used 0. Refusal 24, with length and used 0. */
+blorb_edit_answer blorb_blank(uint8_t *file, size_t size);
+
+/*
+ * Add a resource: an entry at the end of the index, a chunk at the end of the file. It takes 20 bytes and the data, rounded up
+ * to even, in the file, and BLORB_RECORD_SIZE in the journal.
+ * Refusals: 20, 1 to 19 for the present file, 101, 109, 111, 112, 114, 115, 116, 24, 25.
+ */
+blorb_edit_answer blorb_add(uint8_t *file, size_t size, size_t length,
+                            uint8_t *journal, size_t journal_size, size_t used,
+                            const char usage[4], uint32_t number, const char type[4],
+                            const uint8_t *data, size_t data_size);
+
+/*
+ * Give a resource another type and other data, in the same position. The old data goes to the journal: BLORB_RECORD_SIZE and
+ * the old data's bytes.
+ * Refusals: 20, 1 to 19 for the present file, 22, 23, 101, 109, 114, 119, 24, 25.
+ */
+blorb_edit_answer blorb_replace(uint8_t *file, size_t size, size_t length,
+                                uint8_t *journal, size_t journal_size, size_t used,
+                                const char usage[4], uint32_t number, const char type[4],
+                                const uint8_t *data, size_t data_size);
+
+/*
+ * Remove a resource: its entry, and its chunk unless another entry has it too. The journal takes BLORB_RECORD_SIZE and, where the
+ * chunk goes, the data's bytes.
+ * Refusals: 20, 1 to 19 for the present file, 22, 119, 25.
+ */
+blorb_edit_answer blorb_remove(uint8_t *file, size_t size, size_t length,
+                               uint8_t *journal, size_t journal_size, size_t used,
+                               const char usage[4], uint32_t number);
+
+/*
+ * Take back the edit of the journal's last record. A record that does not fit this file is refused, never applied.
+ * Refusals: 20, 1 to 19 for the present file, 26, 21, 24.
+ */
+blorb_edit_answer blorb_undo(uint8_t *file, size_t size, size_t length,
+                             const uint8_t *journal, size_t journal_size, size_t used);
+
+#ifdef __cplusplus
+}
+#endif
+
+#endif
