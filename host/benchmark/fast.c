@@ -8,6 +8,10 @@
 
 #define CALL(name) fast_##name
 
+/* The straight path goes into each call, the other one stays out of it. */
+#define INLINE inline __attribute__((always_inline))
+#define APART __attribute__((noinline, cold))
+
 enum { SLOTS = 16384 };
 
 static uint32_t starts[BLORB_MAX_SIZE / 8 + 1]; /* where each chunk behind the index begins, rising */
@@ -27,11 +31,7 @@ static uint64_t pair_at(const uint8_t *entry)
 
 static uint64_t pair_of(uint32_t usage, uint32_t number)
 {
-    uint8_t bytes[8];
-
-    put32(bytes, usage);
-    put32(bytes + 4, number);
-    return pair_at(bytes);
+    return (uint64_t)__builtin_bswap32(number) << 32 | __builtin_bswap32(usage);
 }
 
 /* What the pair's entry tells of its chunk. */
@@ -44,65 +44,87 @@ static void found_at(const uint8_t *file, size_t place, struct facts *f)
     f->length = get32(file + f->start + 4);
 }
 
-/* Refusals 14 and 15 of the entry at `e` with its chunk. */
-static bool entry_right(const uint8_t *e, const uint8_t *chunk)
-{
-    uint32_t usage = get32(e);
+/* For each usage a number above all of its numbers so far. */
+struct tops {
+    uint64_t of[8];
+    uint64_t allowed; /* usage and type of the last entry, where rules 5 and 6 need no look at anything else; or 0 */
+};
 
-    return type_allowed(usage, get32(chunk), chunk + 8, get32(chunk + 4)) && (usage != BLORB_EXEC || get32(e + 4) == 0);
+static uint32_t raw32(const uint8_t *p)
+{
+    uint32_t v;
+
+    memcpy(&v, p, 4);
+    return v;
 }
 
-/* Types that need no look at the length or the data, so that what held for one chunk holds for all. */
-static bool by_type_alone(uint32_t type)
+/* Refusals 12, 14 and 15 of the entry at `e`, which has another usage or type than the last one. */
+static inline bool other_kind(struct tops *t, const uint8_t *e, const uint8_t *chunk)
 {
-    return type != RECT && type != FORM;
+    uint32_t usage = get32(e), type = get32(chunk);
+
+    if (!type_allowed(usage, type, chunk + 8, get32(chunk + 4)) || (usage == BLORB_EXEC && get32(e + 4) != 0))
+        return false;
+    t->allowed = type == RECT || type == FORM || usage == BLORB_EXEC ? 0 : (uint64_t)raw32(chunk) << 32 | raw32(e);
+    return true;
+}
+
+/* Whether the entry at `e` is in order and its number above all before it of its usage. */
+static inline bool rising(struct tops *t, const uint8_t *e, const uint8_t *chunk)
+{
+    uint64_t number = get32(e + 4), *top = &t->of[e[0] % 8];
+
+    if (((uint64_t)raw32(chunk) << 32 | raw32(e)) != t->allowed && !other_kind(t, e, chunk))
+        return false;
+    if (number < *top)
+        return false;
+    *top = number + 1;
+    return true;
+}
+
+/* Chunks without an entry, from `at` up to `to`. */
+static bool passed_over(const uint8_t *file, size_t size, size_t *at, size_t to, size_t asked, bool *begins)
+{
+    while (*at < to) {
+        *begins |= *at == asked;
+        size_t now = *at;
+        if (chunk_whole(file, size, now, at).refusal != 0 || special(get32(file + now)))
+            return false;
+    }
+    return true;
 }
 
 /* Entries and chunks side by side: false where the file must be judged otherwise. */
-static bool side_by_side(const uint8_t *file, size_t size, uint64_t pair, size_t asked, struct facts *f)
+static INLINE bool side_by_side(const uint8_t *file, size_t size, uint64_t pair, size_t asked, struct facts *f)
 {
-    uint64_t tops[8] = {0}, allowed = 0;
-    size_t count = get32(file + 20), at = entry_at(count), hit = count, begins = 0;
-    const uint8_t *e = file + 24, *end = file + at;
+    struct tops tops = {{0}, 0};
+    size_t count = get32(file + 20), at = entry_at(count), last = 0, hit = 0;
+    const uint8_t *end = file + at;
 
-    while (at < size) {
-        bool listed = false;
-        size_t next;
-        if (e < end && get32(e + 8) == at) {
-            /* The entry's number instead of the walk's: loads of later chunks need not wait for those of earlier ones. */
-            at = get32(e + 8);
-            __asm__("" : "+r"(at));
-        }
-        if (chunk_whole(file, size, at, &next).refusal != 0)
-            return false;
-        begins |= at == asked;
-        for (; e < end && get32(e + 8) == at; e += 12) {
-            uint32_t type = get32(file + at);
-            uint64_t both = (uint64_t)get32(e) << 32 | type, number = get32(e + 4), *top = &tops[e[0] % 8];
-            if (both != allowed || get32(e) == BLORB_EXEC) {
-                if (!entry_right(e, file + at))
-                    return false;
-                allowed = by_type_alone(type) ? both : 0;
-            }
-            if (number < *top)
+    for (const uint8_t *e = file + 24; e < end; e += 12) {
+        /* Chunks are read at the entry's start, once it is known to be the walk's: no load waits for the one before. */
+        size_t start = get32(e + 8), same = start;
+        __asm__("" : "+r"(same));
+        if (start != last) {
+            if (at != start && (!passed_over(file, size, &at, start, asked, &f->begins) || at != start))
                 return false;
-            *top = number + 1;
-            if (pair_at(e) == pair)
-                hit = (size_t)(e - (file + 24)) / 12;
-            listed = true;
+            f->begins |= at == asked;
+            if (chunk_whole(file, size, same, &at).refusal != 0)
+                return false;
+            last = start;
         }
-        if (!listed && special(get32(file + at)))
+        if (!rising(&tops, e, file + same))
             return false;
-        at = next;
+        if (pair_at(e) == pair)
+            hit = (size_t)(e - file);
     }
-    f->begins = begins;
     f->count = count;
-    if (hit < count) {
-        found_at(file, hit, f);
-        f->shared = (hit > 0 && get32(file + entry_at(hit) - 4) == f->start)
-            || (hit + 1 < count && get32(file + entry_at(hit + 1) + 8) == f->start);
+    if (hit != 0) {
+        found_at(file, (hit - 24) / 12, f);
+        f->shared = (f->place > 0 && get32(file + hit - 4) == f->start)
+            || (f->place + 1 < count && get32(file + hit + 20) == f->start);
     }
-    return e == end;
+    return passed_over(file, size, &at, size, asked, &f->begins) && at == size;
 }
 
 /* Refusals 6 and 7; notes the starts, and whether a chunk behind the index is an 'RIdx', a 'RelN' or an 'Fspc'. */
@@ -296,21 +318,24 @@ static bool index_whole(const uint8_t *file, size_t size)
     return size >= 24 && get32(file + 12) == RIDX && index_shape(file).refusal == 0 && entry_at(get32(file + 20)) <= size;
 }
 
-static struct facts inspect(const uint8_t *file, size_t size, uint32_t usage, uint32_t number, size_t asked)
+static APART void inspect_any(const uint8_t *file, size_t size, uint64_t pair, size_t asked, struct facts *f)
 {
-    struct facts f = {{0, 0}, 0, false, false, 0, 0, 0, 0, false, 0, 0, false};
-    struct facts none = f;
+    *f = (struct facts){.count = 0};
+    f->verdict = judge(file, size, pair, asked, f);
+    if (f->verdict.refusal == 0 && f->found)
+        f->shared = has_start_twice(file, f);
+}
+
+static INLINE struct facts inspect(const uint8_t *file, size_t size, uint32_t usage, uint32_t number, size_t asked)
+{
+    struct facts f = {.count = 0};
     uint64_t pair = pair_of(usage, number);
 
     f.verdict = head(file, size);
     if (f.verdict.refusal != 0)
         return f;
-    if (index_whole(file, size) && side_by_side(file, size, pair, asked, &f))
-        return f;
-    f = none;
-    f.verdict = judge(file, size, pair, asked, &f);
-    if (f.verdict.refusal == 0 && f.found)
-        f.shared = has_start_twice(file, &f);
+    if (!index_whole(file, size) || !side_by_side(file, size, pair, asked, &f))
+        inspect_any(file, size, pair, asked, &f);
     return f;
 }
 

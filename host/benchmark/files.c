@@ -99,6 +99,31 @@ struct sample make_pair(const char *name, size_t first, size_t second)
     return s;
 }
 
+static const struct {
+    const char *name;
+    size_t count, size;
+    bool in_order;
+} samples[SAMPLES] = {
+    {"16 in 1 MB", 16, 65500, true},
+    {"256 in 4 MB", 256, 16300, true},
+    {"4,096 of 1 KB", 4096, 1024, true},
+    {"4 in 15 MB", 4, 3932000, true},
+    {"256 in 4 MB, reversed", 256, 16300, false},
+    {"4,096 of 1 KB, reversed", 4096, 1024, false},
+};
+
+struct sample sample(unsigned i)
+{
+    return make_sample(samples[i].name, samples[i].count, samples[i].size, samples[i].in_order);
+}
+
+struct sample sample_to_add(unsigned i)
+{
+    size_t count = samples[i].count == BLORB_MAX_ENTRIES ? BLORB_MAX_ENTRIES - 1 : samples[i].count;
+
+    return make_sample(samples[i].name, count, samples[i].size, samples[i].in_order);
+}
+
 void free_sample(struct sample *s)
 {
     free(s->file);

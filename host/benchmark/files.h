@@ -35,6 +35,12 @@ enum { EDITS = 10, MORE = 512, JOURNAL_ROOM = BLORB_MAX_SIZE };
 /* The resource number i of a sample with this many: an Exec, then pictures, sounds and data with rising numbers. */
 struct resource resource_of(size_t i, size_t count, size_t size);
 
+enum { SAMPLES = 6 };
+
+/* The files that are measured. A full index takes no add: for adds such a file has one resource less. */
+struct sample sample(unsigned i);
+struct sample sample_to_add(unsigned i);
+
 /* A file of `count` resources with `size` data bytes each. */
 struct sample make_sample(const char *name, size_t count, size_t size, bool in_order);
 /* A file of two resources with these data lengths. */
