@@ -17,7 +17,7 @@ static const double GOAL_PLAIN = 1.2, GOAL_FAST = 2.5, GOAL_MOVE = 0.9;
 static struct times edit_times, undo_times;
 static unsigned rows, over_plain, over_fast;
 
-/* A time with its unit, in one of a few turning buffers. */
+/* A time with its unit, in one of a few buffers by turns. */
 static const char *shown(double ns)
 {
     static char text[8][24];
@@ -69,7 +69,7 @@ static void table_of_calls(void)
         }
         edits_of(&s, edits);
         for (unsigned k = 0; k < EDITS; k++) {
-            time_edit(edits[k].kind == ADD ? &to_add : &s, &edits[k], 0, 0, &edit_times, &undo_times);
+            time_edit(edits[k].kind == ADD ? &to_add : &s, &edits[k], &edit_times, &undo_times);
             print_row(&s, "", edits[k].name, &edit_times);
             print_row(&s, "undo of ", edits[k].name, &undo_times);
         }
@@ -79,36 +79,46 @@ static void table_of_calls(void)
     printf("\nOf %u rows %u miss the goal against (a), %u that against (b).\n", rows, over_plain, over_fast);
 }
 
-static void print_move(const char *bytes, size_t by, const char *way, const struct times *t)
+/* `least` are the least times of the edit, with the part behind that moves; `bare` those of the same edit with nothing behind. */
+static void print_move(const char *bytes, size_t by, const char *way, const double *least, const double *bare)
 {
-    double speed = t->least[3] / t->least[0];
+    double memmove = least[3], own = memmove / (least[0] - bare[0]);
 
-    printf("| %-6s | %3zu %-5s | %9s | %9s | %5.2f | %5.2f | %-6s |\n", bytes, by, way, shown(t->least[0]), shown(t->least[3]),
-           speed, t->least[3] / t->least[1], speed < GOAL_MOVE ? "missed" : "");
+    printf("| %-6s | %3zu %-5s | %9s | %9s | %9s | %5.2f | %5.2f | %5.2f | %-6s |\n", bytes, by, way, shown(memmove), shown(least[0]),
+           shown(bare[0]), memmove / least[0], own, memmove / (least[1] - bare[1]), own < GOAL_MOVE ? "missed" : "");
+    fflush(stdout);
 }
 
-/* A first resource of 100 bytes grows, and the one behind it moves; memmove moves the same bytes by as many. */
+/* A first resource of 100 bytes grows by `by`, and what is behind it moves. */
+static void move_rows(const char *bytes, size_t size, size_t by)
+{
+    static struct times bare_edit, bare_undo;
+    struct sample s = make_pair(bytes, 100, size - 8), bare = make_pair(bytes, 100, 0);
+    struct edit e = {"a move", REPLACE, s.first};
+
+    e.what.size += by;
+    time_edit(&bare, &e, &bare_edit, &bare_undo);
+    time_move(&s, &e, size, by, &edit_times, &undo_times);
+    print_move(bytes, by, "right", edit_times.least, bare_edit.least);
+    print_move(bytes, by, "left", undo_times.least, bare_undo.least);
+    free_sample(&s);
+    free_sample(&bare);
+}
+
 static void table_of_moves(void)
 {
     static const struct {
         const char *name;
         size_t size;
-    } parts[] = {{"64 KB", 65536 - 8}, {"15 MB", 15 * 1048576 - 8}};
+    } parts[] = {{"64 KB", 65536}, {"65,000", 65000}, {"15 MB", 15 * 1048576}};
     static const size_t ways[] = {2, 12, 512};
 
-    printf("| %-6s | %-9s | %9s | %9s | %5s | %5s | %-6s |\n", "Bytes", "Moved by", "Archive", "memmove", "Speed", "of(a)",
-           "Goal");
-    puts("|---|---|--:|--:|--:|--:|---|");
-    for (unsigned i = 0; i < 2; i++)
-        for (unsigned k = 0; k < 3; k++) {
-            struct sample s = make_pair(parts[i].name, 100, parts[i].size);
-            struct edit e = {"a move", REPLACE, s.first};
-            e.what.size += ways[k];
-            time_edit(&s, &e, parts[i].size + 8, ways[k], &edit_times, &undo_times);
-            print_move(parts[i].name, ways[k], "right", &edit_times);
-            print_move(parts[i].name, ways[k], "left", &undo_times);
-            free_sample(&s);
-        }
+    printf("| %-6s | %-9s | %9s | %9s | %9s | %5s | %5s | %5s | %-6s |\n", "Bytes", "Moved by", "memmove", "Edit", "without",
+           "whole", "Speed", "(a)'s", "Goal");
+    puts("|---|---|--:|--:|--:|--:|--:|--:|---|");
+    for (unsigned i = 0; i < 3; i++)
+        for (unsigned k = 0; k < 3; k++)
+            move_rows(parts[i].name, parts[i].size, ways[k]);
 }
 
 static void table_by_entries(void)
@@ -131,19 +141,17 @@ static void table_by_bytes(void)
 {
     static const size_t megabytes[] = {1, 4, 15};
 
-    printf("| %-5s | %9s | %9s | %9s | %9s |\n", "Bytes", "Read", "Replace", "a MB", "a MB, (a)");
+    printf("| %-5s | %9s | %9s | %9s | %9s |\n", "Bytes", "Read", "Replace", "a MB", "(a) a MB");
     puts("|--:|--:|--:|--:|--:|");
     for (unsigned i = 0; i < 3; i++) {
         double n = (double)megabytes[i];
         struct sample s = make_sample("by bytes", 16, megabytes[i] * 65536 - 64, true);
-        struct edit edits[EDITS];
-        time_question(&s, READ, &edit_times);
-        const char *read = shown(edit_times.least[0]);
-        edits_of(&s, edits);
-        edits[0] = (struct edit){"replace, 512 more", REPLACE, s.first};
-        edits[0].what.size += MORE;
-        time_edit(&s, &edits[0], 0, 0, &edit_times, &undo_times);
-        printf("| %2zu MB | %9s | %9s | %9s | %9s |\n", megabytes[i], read, shown(edit_times.least[0]),
+        struct edit e = {"replace front, 512 more", REPLACE, s.first};
+        e.what.size += MORE;
+        time_question(&s, READ, &undo_times);
+        double read = undo_times.least[0];
+        time_edit(&s, &e, &edit_times, &undo_times);
+        printf("| %2zu MB | %9s | %9s | %9s | %9s |\n", megabytes[i], shown(read), shown(edit_times.least[0]),
                shown(edit_times.least[0] / n), shown(edit_times.least[1] / n));
         free_sample(&s);
     }

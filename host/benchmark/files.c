@@ -21,9 +21,12 @@ const uint8_t *payload(void)
     static uint8_t *bytes;
 
     if (bytes == NULL) {
+        size_t n = 4096;
         bytes = lent(BLORB_MAX_SIZE);
-        for (size_t i = 0; i < BLORB_MAX_SIZE; i++)
+        for (size_t i = 0; i < n; i++)
             bytes[i] = (uint8_t)(i * 7 + i / 251);
+        for (; n < BLORB_MAX_SIZE; n *= 2)
+            memcpy(bytes + n, bytes, n);
     }
     return bytes;
 }

@@ -6,8 +6,8 @@
 #include <string.h>
 #include <time.h>
 
-enum { FEWEST_ROUNDS = 5 };
-static const double ROW_TIME = 0.25e9; /* ns for a row, once it has the fewest rounds */
+enum { FEWEST_ROUNDS = 9 };
+static const double ROW_TIME = 0.4e9; /* ns for a row, once it has the fewest rounds */
 static const double BATCH_TIME = 10e3; /* ns: calls that only read are timed together up to this */
 
 const char *const question_names[QUESTIONS] = {"read", "lookup first", "lookup last", "lookup missing"};
@@ -128,7 +128,7 @@ static void time_pair(const struct library *l, const struct sample *s, const str
     *undo = t2 - t1 - clock_cost;
 }
 
-static void time_moves(const struct sample *s, size_t moved, size_t by, double *there, double *back)
+static void time_memmove(const struct sample *s, size_t moved, size_t by, double *there, double *back)
 {
     uint8_t *from = s->file + s->length - moved;
     double t0 = now();
@@ -141,7 +141,7 @@ static void time_moves(const struct sample *s, size_t moved, size_t by, double *
     *back = t2 - t1 - clock_cost;
 }
 
-void time_edit(const struct sample *s, const struct edit *e, size_t moved, size_t by, struct times *edit, struct times *undo)
+void time_move(const struct sample *s, const struct edit *e, size_t moved, size_t by, struct times *edit, struct times *undo)
 {
     unsigned compared = moved == 0 ? LIBRARIES : COMPARED, rounds = 0;
     double begun = now(), ignored;
@@ -154,8 +154,13 @@ void time_edit(const struct sample *s, const struct edit *e, size_t moved, size_
             if (k < LIBRARIES)
                 time_pair(&libraries[k], s, e, there, back);
             else
-                time_moves(s, moved, by, there, back);
+                time_memmove(s, moved, by, there, back);
         }
     sum_up(edit, rounds, compared);
     sum_up(undo, rounds, compared);
+}
+
+void time_edit(const struct sample *s, const struct edit *e, struct times *edit, struct times *undo)
+{
+    time_move(s, e, 0, 0, edit, undo);
 }

@@ -4,7 +4,7 @@
 
 #include "files.h"
 
-enum { MOST_ROUNDS = 2000, COMPARED = 4 }; /* the three libraries, and memmove where a move is measured */
+enum { MOST_ROUNDS = 4000, COMPARED = 4 }; /* the three libraries, and memmove where a move is measured */
 
 /* Nanoseconds for one call: of each compared, by rounds, and the least and the median of them. */
 struct times {
@@ -27,8 +27,10 @@ void time_clock(void);
 
 void time_question(const struct sample *s, enum question q, struct times *t);
 
-/* An edit and its undo, which leaves the file as it was; both are timed each by itself. `moved` is 0, or the number of bytes at the
-   file's end that are also moved by `by` with memmove, there and back. */
-void time_edit(const struct sample *s, const struct edit *e, size_t moved, size_t by, struct times *edit, struct times *undo);
+/* An edit and its undo, which leaves the file as it was; both are timed each by itself. */
+void time_edit(const struct sample *s, const struct edit *e, struct times *edit, struct times *undo);
+
+/* The same, and by turns with them memmove of the `moved` bytes at the file's end by `by`, there and back. */
+void time_move(const struct sample *s, const struct edit *e, size_t moved, size_t by, struct times *edit, struct times *undo);
 
 #endif
