@@ -84,8 +84,9 @@ static void print_move(const char *bytes, size_t by, const char *way, const doub
 {
     double memmove = least[3], own = memmove / (least[0] - bare[0]);
 
-    printf("| %-6s | %3zu %-5s | %9s | %9s | %9s | %5.2f | %5.2f | %5.2f | %-6s |\n", bytes, by, way, shown(memmove), shown(least[0]),
-           shown(bare[0]), memmove / least[0], own, memmove / (least[1] - bare[1]), own < GOAL_MOVE ? "missed" : "");
+    printf("| %-6s | %3zu %-5s | %9s | %9s | %9s | %5.2f | %5.2f | %5.2f | %-6s |\n", bytes, by, way, shown(memmove),
+           shown(least[0]), shown(bare[0]), memmove / least[0], own, memmove / (least[1] - bare[1]),
+           own < GOAL_MOVE ? "missed" : "");
     fflush(stdout);
 }
 

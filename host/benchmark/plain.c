@@ -1,7 +1,8 @@
 /*
- * The same checks and edits as the library's, with the same algorithms, as straightforward C: one walk over the chunks; each entry's
- * chunk sought by walking on from the last one found, or from the index where it lies before; earlier pairs looked at only for
- * an entry whose number is not above all before it of its usage; no scratch but eight numbers; edits in place.
+ * The same checks and edits as the library's, with the same algorithms, as straightforward C: one walk over the chunks, along the
+ * index as far as that tells the next one; each entry's chunk sought by walking on from the last one found, or from the index where
+ * it lies before; earlier pairs looked at only for an entry whose number is not above all before it of its usage; no scratch but
+ * eight numbers; edits in place.
  */
 #include "calls.h"
 #include "format.h"
@@ -9,7 +10,6 @@
 #define CALL(name) plain_##name
 
 struct reading {
-    struct verdict verdict;
     size_t count;
     bool ordinary; /* no chunk behind the index is an 'RIdx', a 'RelN' or an 'Fspc' */
 };
@@ -19,20 +19,42 @@ static size_t skip(const uint8_t *file, size_t at)
     return at + chunk_size(get32(file + at + 4));
 }
 
+/*
+ * The walk as long as each next chunk begins where the next entry of the index says: the processor can then read on along the index
+ * instead of waiting for each length. Gives back where it ends.
+ */
+static size_t walk_along(const uint8_t *file, size_t size, size_t at, bool *ordinary)
+{
+    for (size_t p = entry_at(1) + 8; p + 4 <= size && at < size; p += 12) {
+        size_t guess = get32(file + p), next;
+        if (chunk_whole(file, size, at, &next).refusal != 0)
+            return at;
+        if (special(get32(file + at)))
+            *ordinary = false;
+        if (next != guess)
+            return next;
+        at = guess;
+    }
+    return at;
+}
+
 /* Refusals 6 and 7. */
 static struct verdict walk(const uint8_t *file, size_t size, bool *ordinary)
 {
-    size_t at = 12;
+    size_t at, next;
 
     *ordinary = true;
-    while (at < size) {
-        size_t next;
-        struct verdict v = chunk_whole(file, size, at, &next);
+    if (size == 12)
+        return (struct verdict){0, 0};
+    struct verdict v = chunk_whole(file, size, 12, &at);
+    if (v.refusal != 0)
+        return v;
+    for (at = walk_along(file, size, at, ordinary); at < size; at = next) {
+        v = chunk_whole(file, size, at, &next);
         if (v.refusal != 0)
             return v;
-        if (at != 12 && special(get32(file + at)))
+        if (special(get32(file + at)))
             *ordinary = false;
-        at = next;
     }
     return (struct verdict){0, 0};
 }
