@@ -1,0 +1,59 @@
+/* The benchmark's files, and edits as data. */
+#ifndef FILES_H
+#define FILES_H
+
+#include "calls.h"
+
+#include <stdbool.h>
+
+/* A resource by its pair, with its type and data length. */
+struct resource {
+    const char *usage, *type;
+    uint32_t number;
+    size_t size;
+};
+
+/* A file in a buffer with room for its edits; `first` and `last` by file position. */
+struct sample {
+    const char *name;
+    bool in_order;
+    size_t count, length, room;
+    uint8_t *file;
+    struct resource first, last;
+};
+
+enum kind { ADD, REPLACE, REMOVE };
+
+struct edit {
+    const char *name;
+    enum kind kind;
+    struct resource what; /* of an add or a replacement: what is put in */
+};
+
+enum { EDITS = 10, MORE = 512, JOURNAL_ROOM = BLORB_MAX_SIZE };
+
+/* The resource number i of a sample with this many: an Exec, then pictures, sounds and data with rising numbers. */
+struct resource resource_of(size_t i, size_t count, size_t size);
+
+enum { SAMPLES = 6 };
+
+/* The files that are measured. A full index takes no add: for adds such a file has one resource less. */
+struct sample sample(unsigned i);
+struct sample sample_to_add(unsigned i);
+
+/* A file of `count` resources with `size` data bytes each. */
+struct sample make_sample(const char *name, size_t count, size_t size, bool in_order);
+/* A file of two resources with these data lengths. */
+struct sample make_pair(const char *name, size_t first, size_t second);
+void free_sample(struct sample *s);
+
+/* The edits that are measured on a sample. */
+void edits_of(const struct sample *s, struct edit edits[EDITS]);
+
+/* The bytes that every add and replacement takes its data from. */
+const uint8_t *payload(void);
+
+blorb_edit_answer carry_out(const struct library *l, uint8_t *file, size_t room, size_t length, uint8_t *journal,
+                            size_t journal_room, size_t used, const struct edit *e);
+
+#endif
