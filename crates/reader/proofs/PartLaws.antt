@@ -12,7 +12,7 @@ use lib.Dec.{eqb, ltb}
 use borrow.Author.Tests.{eq-eqb, ne-eqb, eqb-true, eqb-false, lt-ltb, le-ltb}
 use Rattle.blorb.specs.Bytes.{rd32}
 use Rattle.blorb.specs.Format.{Chunk, Entry, Ref, refOf, size, chunkIn, entryIn, entriesIn, isStart, placeOf}
-use Rattle.blorb.specs.Verdict.{accept, refuse, _then_, noChunk}
+use Rattle.blorb.specs.Verdict.{Verdict, accept, refuse, _then_, noChunk}
 use Rattle.blorb.specs.Rules.{plainRules, plainVerdict, typeIn}
 use Rattle.blorb.specs.Tags.{RelN, Fspc}
 use Rattle.blorb.specs.Model.{base, model}
@@ -27,7 +27,7 @@ use Rattle.reader.specs.Walk.{chunkAt, skipAt, chunksFrom, walkFrom}
 use Rattle.reader.specs.Plain.{ordinaryType, allPlain}
 use Rattle.reader.specs.Entries.{startAt, place, entriesFrom, earlier, pairPlace, startAgain}
 use Rattle.reader.specs.Optional.{oneRule, rulesFrom, optionalFault}
-use Rattle.reader.specs.Passed.{Judges, Passed, modelAt, Fronts, pickFront, frontFrom}
+use Rattle.reader.specs.Passed.{Judges, JudgesEntries, Passed, modelAt, Fronts, pickFront, frontFrom}
 use Rattle.reader.specs.Inspecting.{pieceOf, targetBy, targetOf, frontBy, frontOf, factsOf, inspectionOf}
 use Rattle.reader.specs.declared.Piece.{Piece}
 use Rattle.reader.specs.declared.Target.{Target}
@@ -39,7 +39,7 @@ use Rattle.reader.specs.declared.Inspection.the-variants as inspection
 use Rattle.reader.specs.declared.Judgement.{Judgement}
 use Rattle.reader.specs.declared.Judgement.the-variants as judgement
 use Rattle.reader.specs.declared.Reading.the-variants.{Accepted, Refused}
-use Rattle.reader.specs.Reading.{readOf}
+use Rattle.reader.specs.Reading.{readBy, readOf}
 use Rattle.reader.proofs.AskLaws.{Good}
 use Rattle.reader.proofs.ChunkLaws.{fine, begun, Begun, chunks-end, start-ge, ordinary-not}
 use Rattle.reader.proofs.Laws.{length-entriesIn, entry-getD, body-word}
@@ -284,6 +284,17 @@ facts-are f count u n x t r b et er eb =
 
 -- the verdict of a judgement, and the inspection by it
 module _ (f : List ℕ) where
+  -- what is left once refusals 1 to 16 are ruled out
+  pub entries-no : (r : Judgement) (k p : ℕ) → JudgesEntries r f → r ≡ judgement.Refused k p → Refused k p ≡ readOf f
+  entries-no r k p j e = rw e at j
+
+  pub entries-good : (r : Judgement) (n : ℕ) (plain : Bool) → JudgesEntries r f → r ≡ judgement.Good n plain → JudgesEntries (judgement.Good n plain) f
+  entries-good r n plain j e = rw e at j
+
+  -- 17 to 19 decide
+  pub rest-is : (n : ℕ) (v : Verdict) → readBy (optionalFault f n) (length f) n ≡ readOf f → optionalFault f n ≡ v → readBy v (length f) n ≡ readOf f
+  rest-is n v q e = ap (λ (x : Verdict). readBy x (length f) n) (sym e) ∙ q
+
   pub judged-good : (r : Judgement) (n : ℕ) (plain : Bool) → Judges r f → r ≡ judgement.Good n plain
       → (readOf f ≡ Accepted (length f) n) × (plain ≡ true → allPlain (chunksFrom f (place n)) ≡ true)
   judged-good r n plain j e = let q : Judges (judgement.Good n plain) f = rw e at j in (sym (q .0), q .1)

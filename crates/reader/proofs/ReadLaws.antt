@@ -134,3 +134,10 @@ module _ (f : List ℕ) where
                   let n : count ≡ length (indexOf f) = sym (ap length index-of ∙ length-entriesIn count (drop 24 f)) in
                   let v : plainVerdict f ≡ accept = v6 ∙ e in
                   rw v (ap (Accepted (length f)) n)
+
+              pub read-rest : readBy (optionalFault f count) (length f) count ≡ readOf f
+              read-rest = go (optionalFault f count) refl
+                where
+                  go : (v : Verdict) → optionalFault f count ≡ v → readBy v (length f) count ≡ readOf f
+                  go accept e = read-8 e
+                  go (refuse k p) e = read-7 k p e

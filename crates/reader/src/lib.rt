@@ -16,7 +16,7 @@ ghost use Rattle.blorb.specs.Rules.{plainVerdict};
 ghost use Rattle.blorb.specs.Model.{model};
 ghost use Rattle.reader.specs.Reading.{readOf, entryOf, lookupOf, partOf};
 ghost use Rattle.reader.specs.Inspecting.{inspectionOf};
-ghost use Rattle.reader.specs.Passed.{Judges};
+ghost use Rattle.reader.specs.Passed.{Judges, JudgesEntries};
 
 pub enum Reading {
     Accepted { length: usize, count: usize },
@@ -79,9 +79,9 @@ enum Judgement {
     Refused { number: u64, place: usize },
 }
 
-// The whole table, 1 to 19.
-fn judge_file(file: &[u8]) -> Judgement
-    ensures { λ r. ⌜ Judges r (now (file .entry)) ⌝ }
+// Refusals 1 to 16; `Good` where only 17 to 19 are left to judge.
+fn judge_entries(file: &[u8]) -> Judgement
+    ensures { λ r. ⌜ JudgesEntries r (now (file .entry)) ⌝ }
 {
     if let Check::Refused { number, place } = chunks::head(file) {
         return Judgement::Refused { number, place };
@@ -108,15 +108,27 @@ fn judge_file(file: &[u8]) -> Judgement
     if let Check::Refused { number, place } = entries::entries(file, count) {
         return Judgement::Refused { number, place };
     }
-    if walked.plain {
-        return Judgement::Good { count, plain: true };
-    }
-    if let Check::Refused { number, place } = optional::optional(file, count) {
-        return Judgement::Refused { number, place };
-    }
     Judgement::Good {
         count,
-        plain: false,
+        plain: walked.plain,
+    }
+}
+
+// The whole table, 1 to 19.
+fn judge_file(file: &[u8]) -> Judgement
+    ensures { λ r. ⌜ Judges r (now (file .entry)) ⌝ }
+{
+    match judge_entries(file) {
+        Judgement::Refused { number, place } => Judgement::Refused { number, place },
+        Judgement::Good { count, plain } => {
+            if plain {
+                return Judgement::Good { count, plain };
+            }
+            if let Check::Refused { number, place } = optional::optional(file, count) {
+                return Judgement::Refused { number, place };
+            }
+            Judgement::Good { count, plain }
+        }
     }
 }
 
