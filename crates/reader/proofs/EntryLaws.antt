@@ -255,10 +255,10 @@ below-next f tops j k r b q l hn ht i h = go (eqb (slotOf (usageAt f (place i)))
     go false e true g = let p : i ≡ j = eqb-true _ _ g in absurd (eqb-false x k e (ap (λ (z : ℕ). slotOf (usageAt f (place z))) p ∙ sym q))
     go false e false g = let p : i ≡ j → ⊥ = eqb-false _ _ g in rw (getD-set-other tops k x r 0 (eqb-false x k e)) (b i (omega arith))
 
--- no entry before the first rival has the pair
-module _ (f : List ℕ) (base j top n : ℕ) (t : Topped f j top) (e : n ≡ numberAt f (place j)) where
-  pub rival-none : top ≤ n → (j ≤ j) × (pairIn (usageAt f (place j)) (numberAt f (place j)) (earlier f base j) ≡ false)
-  rival-none h = (omega arith, fresh f base j top t (omega arith) j (omega arith))
-
-  pub rival-all : (0 ≤ j) × (pairIn (usageAt f (place j)) (numberAt f (place j)) (earlier f base 0) ≡ false)
-  rival-all = (omega arith, pair-none f base j)
+-- tops that are above the number of entry j already
+pub below-same : (f tops : List ℕ) (j k : ℕ) → Below f tops j → k ≡ slotOf (usageAt f (place j)) → numberAt f (place j) < getD tops k 0 → Below f tops (j + 1)
+below-same f tops j k b q l i h = go (eqb i j) refl
+  where
+    go : (d : Bool) → eqb i j ≡ d → numberAt f (place i) < getD tops (slotOf (usageAt f (place i))) 0
+    go true g = rw (eqb-true i j g, ← q) l
+    go false g = let p : i ≡ j → ⊥ = eqb-false _ _ g in b i (omega arith)

@@ -104,34 +104,11 @@ fn same_pair(s: &[u8], i: usize, j: usize) -> bool
     pair_key(s, 24 + 12 * i) == pair_key(s, 24 + 12 * j)
 }
 
-// A number above `n`, and not below `top`.
-fn above(top: u64, n: u64) -> u64
-    requires { ⌜ n < 2 ^ 32 ⌝ }
-    ensures { λ r. ⌜ (n < r) × (top ≤ r) ⌝ }
-{
-    if n < top {
-        return top;
-    }
-    n + 1
-}
-
 // The place of a usage among the eight tops.
 fn slot(code: u64) -> usize
     ensures { λ r. ⌜ (r ≡ slotOf code) × (r < 8) ⌝ }
 {
     (code / 16777216 % 8) as usize
-}
-
-// The first entry that could have the pair of entry `j`: none before it where its number is not below `top`,
-// which is above all earlier numbers of its usage.
-fn first_rival(s: &[u8], base: usize, j: usize, top: u64) -> usize
-    requires { ⌜ (place j + 12 ≤ length (now s)) × Topped (now s) j top ⌝ }
-    ensures { λ r. ⌜ (r ≤ j) × (pairIn (usageAt (now (s .entry)) (place j)) (numberAt (now (s .entry)) (place j)) (earlier (now (s .entry)) base r) ≡ false) ⌝ }
-{
-    if top <= blorb::be32_at(s, 24 + 12 * j + 4) {
-        return j;
-    }
-    0
 }
 
 // Rule 5: the chunk at `at` has a type that the usage allows.
@@ -211,8 +188,13 @@ pub(crate) fn entries(s: &[u8], count: usize) -> Check
             }
         }
         let k = slot(blorb::be32_at(s, p));
-        let top = tops[k];
-        let mut i = first_rival(s, base, j, top);
+        let number = blorb::be32_at(s, p + 4);
+        if tops[k] <= number {
+            tops[k] = number + 1;
+            j += 1;
+            continue 'entries;
+        }
+        let mut i: usize = 0;
         while i < j {
             if same_pair(s, i, j) {
                 answer = Check::Refused {
@@ -223,7 +205,6 @@ pub(crate) fn entries(s: &[u8], count: usize) -> Check
             }
             i += 1;
         }
-        tops[k] = above(top, blorb::be32_at(s, p + 4));
         j += 1;
     }
     answer
