@@ -132,11 +132,13 @@ pub(crate) fn begins_behind(s: &[u8], base: usize, from: usize, start: usize) ->
     chunks::begins(s, base, start)
 }
 
-// Refusals 12 to 15 of the entry at `p`.
+// Refusals 12 to 15 of the entry at `p`. The start is looked for first: the usage's test then leads straight to the one of its types.
 fn judge(s: &[u8], base: usize, from: usize, p: usize) -> Judged
     requires { ⌜ (p + 12 ≤ length (now s)) × (walkFrom (now s) base ≡ accept) × (walkFrom (now s) from ≡ accept) × Reached (now s) base from ⌝ }
     ensures { λ r. ⌜ r ≡ judgedBy (entryFault (now (s .entry)) base p) (startAt (now (s .entry)) p) ⌝ }
 {
+    let start = blorb::be32_at(s, p + 8) as usize;
+    let begun = begins_behind(s, base, from, start);
     let code = blorb::be32_at(s, p);
     let Known::Is(usage) = Usage::of_code(code) else {
         return Judged::Fault {
@@ -144,8 +146,7 @@ fn judge(s: &[u8], base: usize, from: usize, p: usize) -> Judged
             place: p,
         };
     };
-    let start = blorb::be32_at(s, p + 8) as usize;
-    if !begins_behind(s, base, from, start) {
+    if !begun {
         return Judged::Fault {
             number: 13,
             place: p + 8,

@@ -133,8 +133,7 @@ entries-again c =
     let h : top ≤ c .before .be32-at2 .result = c .if1 .taken in
     let x : pairIn (usageAt s p) (numberAt s p) (earlier s base (o .j)) ≡ false = fresh s base (o .j) top (topped s (o .tops) (o .j) k (o .inv .6) q) (omega arith) (o .j) (omega arith) in
     let z : k < 8 = c .before .before .slot .ensures .1 in
-    let t : length (o .tops) ≡ 8 = o .inv .2 in
-    (
+    let t : length (o .tops) ≡ 8 = o .inv .2 in (
       omega arith,
       o .inv .1,
       simp length-set t,
@@ -191,8 +190,7 @@ entries-again-2 c =
     let l = c .before .loop in
     let i : l .i ≡ o .j = omega (arith, l .inv .0, c .loop-test .left) in
     let x : pairIn (usageAt s p) (numberAt s p) (earlier s base (o .j)) ≡ false = ap (λ (z : ℕ). pairIn (usageAt s p) (numberAt s p) (earlier s base z)) (sym i) ∙ l .inv .2 in
-    let h : c .before .before .before .be32-at2 .result < getD (o .tops) k 0 = c .before .before .if1 .left in
-    (
+    let h : c .before .before .before .be32-at2 .result < getD (o .tops) k 0 = c .before .before .if1 .left in (
       omega arith,
       l .inv .1,
       o .inv .2,
