@@ -366,6 +366,15 @@ along-next f from at n t p o h e q k w a =
       ordinary = λ z. let b = plain-next f at t p h q z in sym (b .1) ∙ a .ordinary (b .0);
     })
 
+-- by one ordinary chunk
+pub along-on : (f : List ℕ) (from at n t : ℕ) (p : Bool) → at < length f → chunkFault at (drop at f) ≡ accept → t ≡ rd32 (drop at f) → ordinaryType t ≡ true → n ≡ skipAt f at
+    → Along f from at p → Along f from n p
+along-on f from at n t p h e q k w a = rw (and-true p) at (along-next f from at n t p true h e q (sym k) w a)
+  where
+    and-true : (b : Bool) → b && true ≡ b
+    and-true true = refl
+    and-true false = refl
+
 not-or : (a b : Bool) → not (a || b) ≡ true → (a ≡ false) × (b ≡ false)
 not-or true b e = let z : _≡_ {A = ℕ} 0 1 = cc in absurd (omega arith)
 not-or false true e = let z : _≡_ {A = ℕ} 0 1 = cc in absurd (omega arith)

@@ -109,49 +109,43 @@ fn ordinary(t: u64) -> bool
     !((t == RIDX) | ((t == 0x52656c4e) | (t == 0x46737063)))
 }
 
-// How far a walk came, and whether all chunks before that are ordinary.
-struct Ahead {
-    at: usize,
-    plain: bool,
-}
-
-// The walk from `from` on, as long as each next chunk begins where the next entry of the index says. That tells nothing more, but lets the
-// processor read on along the index instead of waiting for each length.
-fn walk_along(s: &[u8], from: usize) -> Ahead
-    ensures { λ r. ⌜ Along (now (s .entry)) from (r .at) (r .plain) ⌝ }
+// The walk from `from` on over ordinary chunks, as long as each next one begins where the next entry of the index says; how far it came.
+// That tells nothing more, but lets the processor read on along the index instead of waiting for each length.
+fn walk_along(s: &[u8], from: usize) -> usize
+    ensures { λ r. ⌜ Along (now (s .entry)) from r true ⌝ }
 {
     let mut at = from;
-    let mut plain = true;
     let mut p: usize = 44;
     while p + 4 <= s.len() {
         let guess = blorb::be32_at(s, p) as usize;
         if s.len() <= at {
-            return Ahead { at, plain };
+            return at;
         }
         if let Check::Refused {
             number: _,
             place: _,
         } = chunk(s, at) {
-            return Ahead { at, plain };
+            return at;
         }
-        plain = plain & ordinary(blorb::be32_at(s, at));
+        if !ordinary(blorb::be32_at(s, at)) {
+            return at;
+        }
         let next = skip(s, at);
         if next != guess {
-            return Ahead { at: next, plain };
+            return next;
         }
         at = guess;
         p += 12;
     }
-    Ahead { at, plain }
+    at
 }
 
 // Refusals 6 and 7: the walk over the chunks from `from` on.
 fn walk_rest(s: &[u8], from: usize) -> Walked
     ensures { λ r. ⌜ (verdictOf (r .check) ≡ walkFrom (now (s .entry)) from) × (r .plain ≡ true → allPlain (chunksFrom (now (s .entry)) from) ≡ true) ⌝ }
 {
-    let ahead = walk_along(s, from);
-    let mut at = ahead.at;
-    let mut plain = ahead.plain;
+    let mut at = walk_along(s, from);
+    let mut plain = true;
     while at < s.len() {
         match chunk(s, at) {
             Check::Good => {
