@@ -85,10 +85,10 @@ loop-less c = omega (arith, c .before .before .before .before .before .before .b
 -- src/chunks.rt:119:5
 loop-again : tie.Need-loop-again Inv-loop μ-loop
 loop-again c = (
-    rw (← c .if3 .left)
-    (along-on _ _ _ _ _ _ (c .before .before .before .before .before .before .before .before .if1 .left) (sym (c .before .before .before .before .before .before .before .chunk .ensures) ∙ ap verdictOf (c .before .before .before .before .before .enum-told2 .given .1)) (c .before .before .before .before .be32-at2 .ensures .0) (sym (c .before .before .before .ordinary .ensures) ∙ not-false (c .before .before .before .ordinary .result) (c .before .before .if2 .left)) (c .before .skip .ensures) (c .before .before .before .before .before .before .before .before .before .before .before .loop .inv .0)),
-    omega (arith, c .before .before .before .before .before .before .before .before .before .before .loop-test .taken),
-    )
+  rw (← c .if3 .left)
+      (along-on _ _ _ _ _ _ (c .before .before .before .before .before .before .before .before .if1 .left) (sym (c .before .before .before .before .before .before .before .chunk .ensures) ∙ ap verdictOf (c .before .before .before .before .before .enum-told2 .given .1)) (c .before .before .before .before .be32-at2 .ensures .0) (sym (c .before .before .before .ordinary .ensures) ∙ not-false (c .before .before .before .ordinary .result) (c .before .before .if2 .left)) (c .before .skip .ensures) (c .before .before .before .before .before .before .before .before .before .before .before .loop .inv .0)),
+  omega (arith, c .before .before .before .before .before .before .before .before .before .before .loop-test .taken),
+)
 
 -- src/chunks.rt:114:1
 returns-5 : tie.Need-returns-5 Inv-loop μ-loop
