@@ -12,6 +12,9 @@ pub record Chunk : Type 0 where
   pub type : ℕ
   pub body : List ℕ
 
+abbrev pub chunkOf : ℕ → List ℕ → Chunk
+chunkOf t d = record { type = t; body = d }
+
 -- rule 3: "12 bytes an entry: usage, number, start"; as it stands in the file
 pub record Entry : Type 0 where
   pub usage : ℕ

@@ -16,7 +16,7 @@ use Rattle.edits.proofs.Starts.{moved}
 use Rattle.edits.specs.Run.{noted, written}
 use Rattle.edits.proofs.RunLaws.{length-written}
 use Rattle.edits.proofs.Noted.{noted-over}
-use Rattle.editor.specs.Shift.{moved as slid}
+use Rattle.editor.specs.Shift.{slid}
 use Rattle.editor.specs.Moves.{startsMoved}
 use Rattle.editor.specs.Post.{closed, resized}
 use Rattle.editor.proofs.Writes.{left-behind, slid-left, slid-right, starts-moved}

@@ -28,12 +28,12 @@ use Rattle.editor.specs.declared.undoing.Undoing.{Undoing}
 use Rattle.editor.specs.declared.undoing.Undoing.the-variants.{Not}
 use Rattle.editor.specs.LastRecord.{numbersOf, lastOf}
 use Rattle.reader.specs.Inspecting.{factsOf, inspectionOf}
-use Rattle.editor.specs.UndoPlan.{goOf, undoingOf, undoPlan, fitting, fittingPlan, roomyBy, roomy, numbersIn, Asked, Begins, addedPlan, replacedPlan, removedPlan, unlistedPlan}
+use Rattle.editor.specs.UndoPlan.{goOf, undoingOf, undoPlan, fitting, fittingPlan, roomyBy, roomy, numbersIn, UndoReady, ChunkInside, addedPlan, replacedPlan, removedPlan, unlistedPlan}
 use Rattle.editor.proofs.LastRead.{Ends, good-ends, last-bad}
 use Rattle.editor.proofs.UndoFits.{fits-added, fits-replaced, fits-removed, fits-unlisted, begins-there}
 
 -- a well-formed record, by its kind
-module _ (b : List ℕ) (l : ℕ) (j : List ℕ) (u : ℕ) (r : Record) (t : Facts) (a : Asked b l j u r t) where
+module _ (b : List ℕ) (l : ℕ) (j : List ℕ) (u : ℕ) (r : Record) (t : Facts) (a : UndoReady b l j u r t) where
   abbrev rec : Rec
   rec = lastRec (take u j)
 
@@ -79,9 +79,9 @@ module _ (b : List ℕ) (l : ℕ) (j : List ℕ) (u : ℕ) (r : Record) (t : Fac
   asked-unlisted x h e =
       e ∙ (λ i. unlistedPlan (facts-are i) (take l b) (numbers i)) ∙ fits-unlisted (take l b) (take u j) (a .stood) (a .bytes) (kind-is 4 h)
 
-  pub asked-begins : (length (take l b) ≤ 16777216) × Begins (t .begins) (take l b) (r .start - 12)
+  pub asked-begins : (length (take l b) ≤ 16777216) × ChunkInside (t .begins) (take l b) (r .start - 12)
   asked-begins =
-      (omega (arith, file-is, a .short), subst (λ (z : Facts × Record). Begins (z .0 .begins) (take l b) (z .1 .start - 12)) (λ i. (sym facts-are i, sym numbers i)) (begins-there (take l b) (take u j) (a .stood) (a .bytes)))
+      (omega (arith, file-is, a .short), subst (λ (z : Facts × Record). ChunkInside (z .0 .begins) (take l b) (z .1 .start - 12)) (λ i. (sym facts-are i, sym numbers i)) (begins-there (take l b) (take u j) (a .stood) (a .bytes)))
 
 -- the last record's numbers tell whether it is well formed
 good-numbers : (w : Last) (r : Record) → r ≡ numbersIn w → (r .kind ≡ 0 → ⊥) → w ≡ Good r
@@ -184,7 +184,7 @@ module _ (b : List ℕ) (l : ℕ) (j : List ℕ) (u : ℕ) where
               ∙ planned accept (check fit 21 0 then check (leb (length (undoneFile (take l b) (take u j))) (length b)) 24 0) (read-fine .0)
               (accepts accept behind refl ∙ behind-fit n (good-ends j u r hu good .formed))
 
-          pub asked : All Byte b → All Byte j → x ≡ r .usage → y ≡ r .number → z ≡ r .start - 12 → Asked b l j u r t
+          pub asked : All Byte b → All Byte j → x ≡ r .usage → y ≡ r .number → z ≡ r .start - 12 → UndoReady b l j u r t
           unfolding plainVerdict
           asked bb bj ex ey ez =
               let fine : verdict plainRules (take l b) ≡ accept = read-fine .0 in

@@ -7,11 +7,10 @@ use lib.ListN.{length, take, drop}
 use lib.Dec.{eqb, leb, ltb}
 use Rattle.blorb.specs.Bytes.{rd32}
 use Rattle.blorb.specs.Tags.{RIdx}
-use Rattle.blorb.specs.Format.{size, chunkIn}
-use Rattle.blorb.specs.Usages.{chunkOf}
+use Rattle.blorb.specs.Format.{size, chunkIn, chunkOf}
 use Rattle.blorb.specs.Verdict.{Verdict, accept, refuse, verdict, knownUsage}
 use Rattle.blorb.specs.Tags.{Pict, Exec, Rect}
-use Rattle.blorb.specs.Rules.{plain, plainRules}
+use Rattle.blorb.specs.Rules.{plainAllows, plainRules}
 use Rattle.blorb.specs.Model.{Model, model}
 use Rattle.blorb.specs.Queries.{refAt, chunkAt, start}
 use Rattle.blorb.specs.All.{All}
@@ -77,7 +76,7 @@ numbersIn (Good r) = r
 numbersIn Bad = record { kind = 0; usage = 0; number = 0; place = 0; start = 0; sort = 0; length = 0 }
 
 -- the well-formed last record r of the first u journal bytes, and what the reader tells of the accepted file in the first l bytes
-pub record Asked (b : List ℕ) (l : ℕ) (j : List ℕ) (u : ℕ) (r : Record) (t : Facts) : Type 0 where
+pub record UndoReady (b : List ℕ) (l : ℕ) (j : List ℕ) (u : ℕ) (r : Record) (t : Facts) : Type 0 where
   pub inside : l ≤ length b
   pub within : u ≤ length j
   pub short : l ≤ 16777216
@@ -115,7 +114,7 @@ abbrev pub fitsReplaced : Piece → Record → Bool
 fitsReplaced p r = eqb (p .place) (r .place) && (eqb (p .start) (r .start) && not (p .shared))
 
 abbrev pub oldFine : Record → List ℕ → Front → Bool
-oldFine r d f = not (eqb (r .sort) RIdx) && (plain (r .usage) (chunkOf (r .sort) d) && not (frontIs f (r .usage) (r .number) && eqb (r .sort) Rect))
+oldFine r d f = not (eqb (r .sort) RIdx) && (plainAllows (r .usage) (chunkOf (r .sort) d) && not (frontIs f (r .usage) (r .number) && eqb (r .sort) Rect))
 
 abbrev pub replacedPlan : Facts → ℕ → Record → List ℕ → Undoing
 replacedPlan t l r d =
@@ -129,19 +128,19 @@ fitsRemoved t l r = leb (r .place) (t .count) && (t .begins || eqb (r .start - 1
 abbrev pub removedFine : Facts → ℕ → Record → List ℕ → Bool
 removedFine t l r d =
     leb (l + 12 + sizeOf (r .length)) 16777216
-    && (not (eqb (r .sort) RIdx) && (ltb (t .count) 4096 && entryFine (r .usage) (r .number) (plain (r .usage) (chunkOf (r .sort) d)) (t .target)))
+    && (not (eqb (r .sort) RIdx) && (ltb (t .count) 4096 && entryFine (r .usage) (r .number) (plainAllows (r .usage) (chunkOf (r .sort) d)) (t .target)))
 
 abbrev pub removedPlan : Facts → ℕ → Record → List ℕ → Undoing
 removedPlan t l r d =
     fitting (fitsRemoved t l r && removedFine t l r d) (Go (t .count) (r .start - 12) 0 (l + 12 + sizeOf (r .length)) r)
 
 -- kind 4: the same, but a chunk begins there; it is read in the file s
-abbrev pub Begins : Bool → List ℕ → ℕ → Type 0
-Begins true s at = at + (8 + rd32 (drop (at + 4) s)) ≤ length s
-Begins false s at = Unit {0}
+abbrev pub ChunkInside : Bool → List ℕ → ℕ → Type 0
+ChunkInside true s at = at + (8 + rd32 (drop (at + 4) s)) ≤ length s
+ChunkInside false s at = Unit {0}
 
 abbrev pub unlistedPlan : Facts → List ℕ → Record → Undoing
 unlistedPlan t s r =
     fitting ((leb (r .place) (t .count) && t .begins) && (leb (length s + 12) 16777216 && (ltb (t .count) 4096
-    && entryFine (r .usage) (r .number) (plain (r .usage) (chunkIn (drop (r .start - 12) s))) (t .target))))
+    && entryFine (r .usage) (r .number) (plainAllows (r .usage) (chunkIn (drop (r .start - 12) s))) (t .target))))
     (Go (t .count) (r .start - 12) 0 (length s + 12) r)

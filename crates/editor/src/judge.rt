@@ -133,7 +133,7 @@ pub(crate) fn remove_fault(
 }
 
 // A frontispiece with number `q` loses its picture: it becomes a 'Rect'.
-pub(crate) fn spoils(usage: u32, number: u32, q: u32, kind: u32) -> bool
+pub(crate) fn makes_rect(usage: u32, number: u32, q: u32, kind: u32) -> bool
     ensures { λ r. ⌜ r ≡ ((eqb usage Pict && eqb number q) && eqb kind Rect) ⌝ }
 {
     if is_picture(usage, number, q) {
@@ -188,7 +188,7 @@ pub(crate) fn replace_fault(
             start: at,
             number: q,
         } => {
-            if spoils(usage, number, q, kind) {
+            if makes_rect(usage, number, q, kind) {
                 let p = behind_start(at, piece.start, old, new as u32);
                 return refused(119, p as usize + 8);
             }

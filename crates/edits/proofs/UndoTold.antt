@@ -11,7 +11,7 @@ use Rattle.blorb.specs.Bytes.{rd32}
 use Rattle.blorb.specs.Tags.{RIdx}
 use Rattle.blorb.specs.Verdict.{verdict}
 use Rattle.blorb.specs.Tags.{Rect}
-use Rattle.blorb.specs.Rules.{plain, plainRules}
+use Rattle.blorb.specs.Rules.{plainAllows, plainRules}
 use Rattle.blorb.specs.Model.{Model, model, file}
 use Rattle.blorb.specs.Queries.{find, refAt, chunkAt}
 use Rattle.blorb.specs.All.{All}
@@ -46,7 +46,7 @@ length2 r m L i = L - sizeOf (length (chunkAt m (refAt m i .chunk) .body)) + siz
 abbrev pub accepted2 : Rec → Model → ℕ → ℕ → Bool
 accepted2 r m L i =
     leb (length2 r m L i) 16777216
-    && (not (eqb (r .type) RIdx) && (plain (r .usage) (oldChunk r) && not (isFront (m .chunks) (r .usage) (r .number) && eqb (r .type) Rect)))
+    && (not (eqb (r .type) RIdx) && (plainAllows (r .usage) (oldChunk r) && not (isFront (m .chunks) (r .usage) (r .number) && eqb (r .type) Rect)))
 
 abbrev pub accepted3 : Rec → Model → ℕ → Bool
 accepted3 r m L =
@@ -98,7 +98,7 @@ module _ (f j : List ℕ) (st : Stood f) (bytes : All Byte j) where
           let i : at ≡ r .place = found-at r m (st .judged) (p .inside) (p .usage-is) (p .number-is) in
           undo2-accepted r m (st .sound) (st .judged) fit (last-small j bytes .2)
           ∙ (λ z. leb (same-length z - size-is (chunkAt m (refAt m (r .place) .chunk)) z + size-is (oldChunk r) z) 16777216
-          && (not (eqb (r .type) RIdx) && (plain (r .usage) (oldChunk r) && not (isFront (m .chunks) (r .usage) (r .number) && eqb (r .type) Rect))))
+          && (not (eqb (r .type) RIdx) && (plainAllows (r .usage) (oldChunk r) && not (isFront (m .chunks) (r .usage) (r .number) && eqb (r .type) Rect))))
           ∙ ap (accepted2 r m (length f)) (sym i)
 
   pub test-3 : lastRec j .kind ≡ 3 → (fits (lastRec j) (model f) && accepted (verdict plainRules (undoneFile f j)))

@@ -13,11 +13,11 @@ use Rattle.reader.specs.declared.chunks.Check.{Check}
 use Rattle.reader.specs.declared.chunks.Check.the-variants.{Good, Refused}
 
 -- the chunk at offset at, and the offset behind it
-abbrev pub chunkAt : List ℕ → ℕ → Chunk
-chunkAt f at = chunkIn (drop at f)
+abbrev pub chunkFrom : List ℕ → ℕ → Chunk
+chunkFrom f at = chunkIn (drop at f)
 
 abbrev pub nextAt : List ℕ → ℕ → ℕ
-nextAt f at = at + size (chunkAt f at)
+nextAt f at = at + size (chunkFrom f at)
 
 -- where the code finds the next chunk
 abbrev pub skipAt : List ℕ → ℕ → ℕ

@@ -12,7 +12,7 @@ ghost use Rattle.blorb.specs.Verdict.{accept, pairIn, indexFault};
 ghost use Rattle.blorb.specs.Format.{isStart, entriesIn};
 ghost use Rattle.blorb.specs.Usages.{codeOf};
 ghost use Rattle.blorb.specs.declared.Usage.the-variants.{Exec};
-ghost use Rattle.reader.specs.Walk.{chunkAt, chunksFrom, walkFrom, verdictOf, Reached};
+ghost use Rattle.reader.specs.Walk.{chunkFrom, chunksFrom, walkFrom, verdictOf, Reached};
 ghost use Rattle.reader.specs.Entries.{startAt, place, typedAt, entryFault, judgedBy, samePair, earlier, usageAt, numberAt, Topped, slotOf, entriesFrom, pairPlace};
 ghost use Rattle.reader.specs.Reading.{hitIn};
 
@@ -30,7 +30,7 @@ pub enum Hit {
 // Refusals 10 and 11: the index's length and count.
 pub(crate) fn shape(s: &[u8]) -> Check
     requires { ⌜ (12 < length (now s)) × (walkFrom (now s) 12 ≡ accept) ⌝ }
-    ensures { λ r. ⌜ verdictOf r ≡ indexFault (chunkAt (now (s .entry)) 12 .body) ⌝ }
+    ensures { λ r. ⌜ verdictOf r ≡ indexFault (chunkFrom (now (s .entry)) 12 .body) ⌝ }
 {
     let m = blorb::be32_at(s, 16);
     if m < 4 {
@@ -124,7 +124,7 @@ fn slot(code: u64) -> usize
 
 // The first entry that could have the pair of entry `j`: none before it where its number is not below `top`,
 // which is above all earlier numbers of its usage.
-fn first_rival(s: &[u8], base: usize, j: usize, top: u64) -> usize
+fn compare_from(s: &[u8], base: usize, j: usize, top: u64) -> usize
     requires { ⌜ (place j + 12 ≤ length (now s)) × Topped (now s) j top ⌝ }
     ensures { λ r. ⌜ (r ≤ j) × (pairIn (usageAt (now (s .entry)) (place j)) (numberAt (now (s .entry)) (place j)) (earlier (now (s .entry)) base r) ≡ false) ⌝ }
 {
@@ -212,7 +212,7 @@ pub(crate) fn entries(s: &[u8], count: usize) -> Check
         }
         let k = slot(blorb::be32_at(s, p));
         let top = tops[k];
-        let mut i = first_rival(s, base, j, top);
+        let mut i = compare_from(s, base, j, top);
         while i < j {
             if same_pair(s, i, j) {
                 answer = Check::Refused {

@@ -3,7 +3,7 @@ use native.Mathlib.Omega.{arith}
 use Prim.Native.Nat.{_+_, _-_, _≤_}
 use mathlib.Core.Path.{refl, sym, ap, _∙_}
 use lib.ListN.{length}
-use Rattle.reader.specs.Plain.{Along}
+use Rattle.reader.specs.Ordinary.{Along}
 use Rattle.reader.specs.Walk.{verdictOf}
 use Rattle.reader.proofs.ChunkLaws.{chunk-good-header, along-next}
 use Rattle.reader.proofs.chunks.walk_along.Statement.{statement}
@@ -12,14 +12,14 @@ use Rattle.reader.proofs.chunks.walk_along.Reads as reads
 use Rattle.reader.proofs.chunks.walk_along.Lts as lts
 use Rattle.blorb.proofs.be32_at.Reads as be32-at-reads
 use Rattle.reader.proofs.chunks.chunk.Reads as chunk-reads
-use Rattle.reader.proofs.chunks.ordinary.Reads as ordinary-reads
+use Rattle.reader.proofs.chunks.is_ordinary.Reads as is-ordinary-reads
 use Rattle.reader.proofs.chunks.skip.Reads as skip-reads
 
 abbrev Inv-loop : tie.InvT-loop
-Inv-loop s from at₀ plain₀ p₀ at plain p = Along s from at plain × (p ≤ length s + 44)
+Inv-loop s from at₀ ordinary₀ p₀ at ordinary p = Along s from at ordinary × (p ≤ length s + 44)
 
 abbrev μ-loop : tie.MeasureT-loop
-μ-loop s from at₀ plain₀ p₀ at plain p = length s + 44 - p
+μ-loop s from at₀ ordinary₀ p₀ at ordinary p = length s + 44 - p
 
 -- src/chunks.rt:126:5
 loop-holds : tie.Need-loop-holds Inv-loop μ-loop
@@ -57,8 +57,8 @@ be32-at-requires-2 : tie.Need-be32-at-requires-2 Inv-loop μ-loop
 be32-at-requires-2 c κs = omega (arith, chunk-good-header _ _ (c .before .before .before .if1 .left) (sym (c .before .before .chunk .ensures) ∙ ap verdictOf (c .enum-told2 .given .1)))
 
 -- src/chunks.rt:137:25
-ordinary-requires : tie.Need-ordinary-requires Inv-loop μ-loop
-ordinary-requires c κs = search needs
+is-ordinary-requires : tie.Need-is-ordinary-requires Inv-loop μ-loop
+is-ordinary-requires c κs = search needs
 
 -- src/chunks.rt:138:13
 skip-requires : tie.Need-skip-requires Inv-loop μ-loop
@@ -66,7 +66,7 @@ skip-requires c κs = chunk-good-header _ _ (c .before .before .before .before .
 
 -- src/chunks.rt:140:13
 returns-3 : tie.Need-returns-3 Inv-loop μ-loop
-returns-3 c = along-next _ _ _ _ _ _ _ (c .before .before .before .before .before .before .before .if1 .left) (sym (c .before .before .before .before .before .before .chunk .ensures) ∙ ap verdictOf (c .before .before .before .before .enum-told2 .given .1)) (c .before .before .before .be32-at2 .ensures .0) (c .before .before .ordinary .ensures) (c .before .skip .ensures) (c .before .before .before .before .before .before .before .before .before .before .loop .inv .0)
+returns-3 c = along-next _ _ _ _ _ _ _ (c .before .before .before .before .before .before .before .if1 .left) (sym (c .before .before .before .before .before .before .chunk .ensures) ∙ ap verdictOf (c .before .before .before .before .enum-told2 .given .1)) (c .before .before .before .be32-at2 .ensures .0) (c .before .before .is-ordinary .ensures) (c .before .skip .ensures) (c .before .before .before .before .before .before .before .before .before .before .loop .inv .0)
 
 -- src/chunks.rt:143:9
 add-p : tie.Need-add-p Inv-loop μ-loop
@@ -80,7 +80,7 @@ loop-less c = omega (arith, c .before .before .before .before .before .before .b
 loop-again : tie.Need-loop-again Inv-loop μ-loop
 loop-again c = (
   rw (← c .if2 .left)
-      (along-next _ _ _ _ _ _ _ (c .before .before .before .before .before .before .before .if1 .left) (sym (c .before .before .before .before .before .before .chunk .ensures) ∙ ap verdictOf (c .before .before .before .before .enum-told2 .given .1)) (c .before .before .before .be32-at2 .ensures .0) (c .before .before .ordinary .ensures) (c .before .skip .ensures) (c .before .before .before .before .before .before .before .before .before .before .loop .inv .0)),
+      (along-next _ _ _ _ _ _ _ (c .before .before .before .before .before .before .before .if1 .left) (sym (c .before .before .before .before .before .before .chunk .ensures) ∙ ap verdictOf (c .before .before .before .before .enum-told2 .given .1)) (c .before .before .before .be32-at2 .ensures .0) (c .before .before .is-ordinary .ensures) (c .before .skip .ensures) (c .before .before .before .before .before .before .before .before .before .before .loop .inv .0)),
   omega (arith, c .before .before .before .before .before .before .before .before .before .loop-test .taken),
 )
 
@@ -103,7 +103,7 @@ walk-along-spec =
     returns-2
     enum-told-2
     be32-at-requires-2
-    ordinary-requires
+    is-ordinary-requires
     skip-requires
     returns-3
     add-p

@@ -17,7 +17,7 @@ use Rattle.reader.proofs.entries.entries.Reads as reads
 use Rattle.reader.proofs.entries.entries.Lts as lts
 use Rattle.blorb.proofs.be32_at.Reads as be32-at-reads
 use Rattle.reader.proofs.entries.above.Reads as above-reads
-use Rattle.reader.proofs.entries.first_rival.Reads as first-rival-reads
+use Rattle.reader.proofs.entries.compare_from.Reads as compare-from-reads
 use Rattle.reader.proofs.entries.judge.Reads as judge-reads
 use Rattle.reader.proofs.entries.same_pair.Reads as same-pair-reads
 use Rattle.reader.proofs.entries.slot.Reads as slot-reads
@@ -90,15 +90,15 @@ array-read-top : tie.Need-array-read-top Inv-loop μ-loop Inv-entries μ-entries
 array-read-top c = search needs
 
 -- src/entries.rt:203:13
-first-rival-requires : tie.Need-first-rival-requires Inv-loop μ-loop Inv-entries μ-entries
-first-rival-requires c κs =
+compare-from-requires : tie.Need-compare-from-requires Inv-loop μ-loop Inv-entries μ-entries
+compare-from-requires c κs =
     let a = c .before .before .before .before .before .before .before .before .before .args in
     let o = c .before .before .before .before .before .before .before .entries in
     (omega arith, topped (now (a .s)) (o .tops) (o .j) (c .slot .result) (o .inv .6) (c .slot .ensures .0 ∙ ap slotOf (c .before .be32-at .ensures .0)))
 
 -- src/entries.rt:204:9
 loop-holds : tie.Need-loop-holds Inv-loop μ-loop Inv-entries μ-entries
-loop-holds c = (c .first-rival .ensures .0, c .before .before .before .before .before .before .before .before .entries .inv .1, c .first-rival .ensures .1)
+loop-holds c = (c .compare-from .ensures .0, c .before .before .before .before .before .before .before .before .entries .inv .1, c .compare-from .ensures .1)
 
 -- src/entries.rt:205:16
 same-pair-requires : tie.Need-same-pair-requires Inv-loop μ-loop Inv-entries μ-entries
@@ -218,7 +218,7 @@ entries-spec =
     slot-requires
     mul-top
     array-read-top
-    first-rival-requires
+    compare-from-requires
     loop-holds
     same-pair-requires
     add-i

@@ -1,10 +1,10 @@
 use native.Mathlib.Omega.{arith}
 use Rattle.reader.proofs.EntryLaws.{rival-none, rival-all}
 use borrow.Author.Needs.{needs}
-use Rattle.reader.proofs.entries.first_rival.Statement.{statement}
-use Rattle.reader.proofs.entries.first_rival.Tie as tie
-use Rattle.reader.proofs.entries.first_rival.Reads as reads
-use Rattle.reader.proofs.entries.first_rival.Lts as lts
+use Rattle.reader.proofs.entries.compare_from.Statement.{statement}
+use Rattle.reader.proofs.entries.compare_from.Tie as tie
+use Rattle.reader.proofs.entries.compare_from.Reads as reads
+use Rattle.reader.proofs.entries.compare_from.Lts as lts
 use Rattle.blorb.proofs.be32_at.Reads as be32-at-reads
 
 -- src/entries.rt:119:38
@@ -31,6 +31,6 @@ returns c = rival-none _ _ _ _ _ (c .before .before .before .pre .1) (c .before 
 returns-2 : tie.Need-returns-2
 returns-2 c = rival-all _ _ _ _ _ (c .before .before .before .pre .1) (c .before .be32-at .ensures .0)
 
-pub first-rival-spec : {M : Type 1} → statement M
-first-rival-spec =
+pub compare-from-spec : {M : Type 1} → statement M
+compare-from-spec =
     tie.close (tie.spec mul-be32-at add-be32-at add-be32-at-2 be32-at-requires returns returns-2)
