@@ -31,7 +31,7 @@ pub record Ref : Type 0 where
 unfoldable pub sized : ℕ → ℕ
 sized m = 8 + (m + m % 2)
 
--- the same as the code computes it
+-- the same number, for contracts: it unfolds by itself
 abbrev pub sizeOf : ℕ → ℕ
 sizeOf n = 8 + (n + n % 2)
 
@@ -56,7 +56,7 @@ total (c ∷ cs) = size c + total cs
 unfoldable pub fileBytes : List Chunk → List ℕ
 fileBytes cs = be32 FORM ++ (be32 (4 + total cs) ++ (be32 IFRS ++ chunksBytes cs))
 
--- reading: the chunk that s begins with, and all chunks in s (k bounds their number). It never fails: what is wrong is the verdict's business.
+-- reading: the chunk that s begins with, and all chunks in s (k bounds their number). It never fails: what is wrong is told by the verdict.
 unfoldable pub chunkIn : List ℕ → Chunk
 chunkIn s = record { type = rd32 s; body = take (rd32 (drop 4 s)) (drop 8 s) }
 

@@ -132,7 +132,7 @@ pub(crate) fn remove_fault(
     }
 }
 
-// A frontispiece with number `q` loses its picture: it becomes a 'Rect'.
+// The picture of a frontispiece with number `q` becomes a 'Rect'.
 pub(crate) fn makes_rect(usage: u32, number: u32, q: u32, kind: u32) -> bool
     ensures { λ r. ⌜ r ≡ ((eqb usage Pict && eqb number q) && eqb kind Rect) ⌝ }
 {

@@ -137,7 +137,7 @@ fn copy_blocks(buf: &mut [u8], at: usize, d: &[u8])
     copy_rest(buf, at + i, d, i);
 }
 
-// The data at `at`, by pages: a library's copy takes these at its full speed.
+// The data at `at`, by pages: the compiler turns each into one copy of the C library.
 pub(crate) fn copy_pages(buf: &mut [u8], at: usize, d: &[u8])
     requires { ⌜ at + length (now d) ≤ length (now buf) ⌝ }
     ensures { λ _. ⌜ now (buf .exit) ≡ laid (now (buf .entry)) at (now (d .entry)) (length (now (d .entry))) ⌝ }

@@ -80,7 +80,7 @@ index-is f h =
     = entryOf-refOf (place count) (chunksFrom f (place count)) (entriesIn count (drop 24 f)) (starts f count (g .passed)) in
     rw (g .model, refs-count f count) (g .index ∙ sym e)
 
--- entry i of an accepted file is given, with one of the four usages: 12 is no answer of its
+-- entry i of an accepted file is given, with one of the four usages, so 12 is never the answer
 pub entry-given : (f : List ℕ) (i : ℕ) → plainVerdict f ≡ accept → i < length (indexOf f)
     → (x : Usage) × (askedOf f i ≡ Given (record { usage = x; number = getD (indexOf f) i noEntry .number; start = getD (indexOf f) i noEntry .start }))
 unfolding entriesFrom earlier

@@ -1,4 +1,4 @@
--- Positions in a file: what stands from an offset on. The loops of the reader know only where they stand.
+-- Positions in a file: what stands from an offset on. The loops of the reader keep offsets only.
 use Prim.Native.Nat.{ℕ, zero, suc, _+_, _*_, _%_, _≤_, _<_}
 use mathlib.Core.Path.{_≡_}
 use mathlib.Core.List.{List, [], _∷_}

@@ -97,7 +97,7 @@ pub(crate) fn skip(s: &[u8], at: usize) -> usize
     at + (8 + (m + m % 2))
 }
 
-// The answer of the walk; `ordinary` is true only where no chunk walked is an index, a 'RelN' or an 'Fspc'.
+// The answer of the walk; `ordinary` is true only where no chunk walked behind the first is an index, a 'RelN' or an 'Fspc'.
 pub struct Walked {
     pub check: Check,
     pub ordinary: bool,
@@ -191,7 +191,7 @@ pub(crate) fn walk(s: &[u8]) -> Walked
     }
 }
 
-// Refusal 8: the first chunk is the index.
+// Refusal 8, unless the first chunk is the index.
 pub(crate) fn first(s: &[u8]) -> Check
     requires { ⌜ walkFrom (now s) 12 ≡ accept ⌝ }
     ensures { λ r. ⌜ verdictOf r ≡ firstFault (now (s .entry)) ⌝ }
@@ -211,7 +211,7 @@ pub(crate) fn first(s: &[u8]) -> Check
     Check::Good
 }
 
-// Refusal 9: no chunk from `from` on is an index.
+// Refusal 9, unless no chunk from `from` on is an index.
 pub(crate) fn second(s: &[u8], from: usize) -> Check
     requires { ⌜ walkFrom (now s) from ≡ accept ⌝ }
     ensures { λ r. ⌜ verdictOf r ≡ secondIndex from (chunksFrom (now (s .entry)) from) ⌝ }
