@@ -9,7 +9,7 @@ use lib.ListN.{length, take, drop, length-append, length-map, length-drop, take-
 use lib.Seq.{length-take-le, drop-append-le, drop-drop}
 use lib.Dec.{leb}
 use Rattle.blorb.specs.Bytes.{be32}
-use Rattle.blorb.specs.Format.{Chunk, Entry, size, entryBytes, entriesBytes, chunkBytes, chunksBytes, total, placeOf}
+use Rattle.blorb.specs.Format.{Chunk, Entry, size, entryBytes, entriesBytes, chunkBytes, chunksBytes, total, placeOf, chunkOf}
 use Rattle.blorb.specs.Rules.{plainRules}
 use Rattle.blorb.specs.Model.{Model, base, startOf, file, model}
 use Rattle.blorb.specs.Queries.{start}
@@ -20,7 +20,7 @@ use Rattle.blorb.proofs.Accept.{accept-back}
 use Rattle.blorb.proofs.Codec.{EntryOk, length-entriesBytes, length-chunksBytes, length-chunkBytes}
 use Rattle.blorb.proofs.ModelLaws.{entries, entries-ok, total-take}
 use Rattle.blorb.proofs.Parts.{heading, file-parts, length-heading, chunks-append}
-use Rattle.edits.specs.Edit.{with-at, givenChunk}
+use Rattle.edits.specs.Edit.{with-at}
 use Rattle.edits.specs.Journal.{Rec, oldChunk, oldPlace, undo3, undo4, fits3, fits4}
 use Rattle.edits.specs.Run.{noted, written}
 use Rattle.edits.proofs.Noted.{noted-over}
@@ -31,7 +31,7 @@ use Rattle.editor.specs.Shift.{slid}
 use Rattle.editor.specs.Moves.{startsMoved, relocated}
 use Rattle.editor.specs.declared.moves.Move.{Move}
 use Rattle.editor.specs.Post.{Stands, Insertable, goneRec}
-use Rattle.editor.proofs.Writes.{file-length, entries-append, entries-cons, chunks-cons, length-entry, entry-bytes, size-given, slid-right, starts-moved, written-longer}
+use Rattle.editor.proofs.Writes.{file-length, entries-append, entries-cons, chunks-cons, length-entry, entry-bytes, size-of, slid-right, starts-moved, written-longer}
 
 -- starts at or behind s: behind s - 1
 pub relocated-risen : (m : Move) (s a : ℕ) → 1 ≤ s → m .limit ≡ s - 1 → m .grow ≡ 12 + a → m .fall ≡ 0 → m .plus ≡ 12 → m .minus ≡ 0 → relocated m ≡ risen s a
@@ -185,9 +185,8 @@ module _ (b : List ℕ) (l k i at u n : ℕ) (stands : Stands b l k) (bytes : Al
 
   pub insert-written : (t : ℕ) (d : List ℕ) → l + (20 + (length d + length d % 2)) ≤ length b
       → noted (noted (noted (slid (slid (startsMoved (risen at (8 + (length d + length d % 2))) k 24 b) (at + (12 + (8 + (length d + length d % 2)))) at (l - at)) (24 + 12 * i + 12) (24 + 12 * i) (at - (24 + 12 * i)))
-      (24 + 12 * i) (be32 u ++ (be32 n ++ be32 (at + 12)))) (at + 12) (chunkBytes (givenChunk t d))) 0 (heading (k + 1) (l - (24 + 12 * k) + (8 + (length d + length d % 2))))
+      (24 + 12 * i) (be32 u ++ (be32 n ++ be32 (at + 12)))) (at + 12) (chunkBytes (chunkOf t d))) 0 (heading (k + 1) (l - (24 + 12 * k) + (8 + (length d + length d % 2))))
       ≡ written b l (file (undo3 (goneRec 3 u n i at t d) (model (take l b))))
-  unfolding givenChunk
   insert-written t d room =
       let r : Rec = goneRec 3 u n i at t d in
       let c : Chunk = oldChunk r in
@@ -207,7 +206,7 @@ module _ (b : List ℕ) (l k i at u n : ℕ) (stands : Stands b l k) (bytes : Al
       let lr : length (drop l b) ≡ length b - l = length-drop l b in
       let ea : 24 + 12 * N + length c1 ≡ at = sym (es ∙ start-bytes m kc) in
       let el : at + length c2 ≡ l = omega (arith, file-length m, lm) in
-      let sc : size c ≡ sz = size-given t d ∙ omega arith in
+      let sc : size c ≡ sz = size-of t d ∙ omega arith in
       let x : Entry = record { usage = u; number = n; start = at + 12 } in
       let k1 : k + 1 ≡ suc N = omega arith in
       let t1 : l - (24 + 12 * k) + sz ≡ total (m .chunks) + size c = omega (arith, file-length m, lm) in

@@ -11,8 +11,7 @@ use Rattle.blorb.proofs.ByteLaws.{length-be32}
 use Rattle.edits.specs.Run.{noted}
 use Rattle.edits.proofs.Noted.{noted-next}
 use Rattle.blorb.specs.Tags.{FORM, IFRS, RIdx}
-use Rattle.blorb.specs.Format.{chunkBytes}
-use Rattle.edits.specs.Edit.{givenChunk}
+use Rattle.blorb.specs.Format.{chunkBytes, chunkOf}
 use Rattle.blorb.proofs.Parts.{heading}
 use Rattle.edits.specs.Journal.{recBytes, recBody}
 use Rattle.blorb.specs.Little.{little}
@@ -83,8 +82,8 @@ heading-written b n t h =
     (ap (noted b 0) (simp append-assoc))
 
 pub chunk-written : (b : List ℕ) (at t : ℕ) (d : List ℕ) → at + (8 + (length d + length d % 2)) ≤ length b
-    → noted (noted (noted (noted b at (be32 t)) (at + 4) (be32 (length d))) (at + 8) d) (at + 8 + length d) (replicate (length d % 2) 0) ≡ noted b at (chunkBytes (givenChunk t d))
-unfolding chunkBytes givenChunk
+    → noted (noted (noted (noted b at (be32 t)) (at + 4) (be32 (length d))) (at + 8) d) (at + 8 + length d) (replicate (length d % 2) 0) ≡ noted b at (chunkBytes (chunkOf t d))
+unfolding chunkBytes
 chunk-written b at t d h =
     rw (
       noted-next b at (at + 4) (be32 t) (be32 (length d)) (simp length-be32) (simp length-be32 (omega arith)),

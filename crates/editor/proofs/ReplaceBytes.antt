@@ -8,12 +8,12 @@ use native.Mathlib.Nat.{add-zero, sub-zero}
 use lib.ListN.{length, take, drop, set, length-append, length-map}
 use lib.Seq.{length-take-le}
 use lib.Dec.{ltb}
-use Rattle.blorb.specs.Format.{Chunk, Entry, size, entriesBytes, chunkBytes, chunksBytes, total}
+use Rattle.blorb.specs.Format.{Chunk, Entry, size, entriesBytes, chunkBytes, chunksBytes, total, chunkOf}
 use Rattle.blorb.specs.Verdict.{noChunk}
 use Rattle.blorb.specs.Rules.{plainRules}
 use Rattle.blorb.specs.Model.{Model, base, startOf, file, model}
 use Rattle.blorb.specs.Queries.{noRef, refAt, chunkAt}
-use Rattle.edits.specs.Edit.{replaced, givenChunk}
+use Rattle.edits.specs.Edit.{replaced}
 use Rattle.blorb.specs.Queries.{start}
 use Rattle.blorb.specs.All.{All}
 use Rattle.blorb.proofs.AllLaws.{all-getD}
@@ -61,13 +61,13 @@ unfolding replaced
 chunks-replaced m k c h = chunks-set (m .chunks) k c h
 
 pub replace-written : (b : List ℕ) (l k i st old new t : ℕ) (d : List ℕ) → Stands b l k → All Byte (take l b) → Replaceable b l k i st old
-    → new ≡ size (givenChunk t d) → l + (new - old) ≤ length b
-    → noted (noted (startsMoved (behind st old new) k 24 (resized b st l old new)) 0 (heading k (l - (24 + 12 * k) - old + new))) st (chunkBytes (givenChunk t d))
-    ≡ written b l (file (replaced (model (take l b)) (refAt (model (take l b)) i .chunk) (givenChunk t d)))
+    → new ≡ size (chunkOf t d) → l + (new - old) ≤ length b
+    → noted (noted (startsMoved (behind st old new) k 24 (resized b st l old new)) 0 (heading k (l - (24 + 12 * k) - old + new))) st (chunkBytes (chunkOf t d))
+    ≡ written b l (file (replaced (model (take l b)) (refAt (model (take l b)) i .chunk) (chunkOf t d)))
 replace-written b l k i st old new t d stands bytes rp en room =
     let m : Model = model (take l b) in
     let kc : ℕ = refAt m i .chunk in
-    let c : Chunk = givenChunk t d in
+    let c : Chunk = chunkOf t d in
     let n : ℕ = length (m .refs) in
     let g = accept-back plainRules (take l b) bytes (stands .fine) in
     let ek : k ≡ n = stands .entries in

@@ -8,7 +8,7 @@ use lib.ListN.{length, take, drop}
 use lib.Seq.{length-take-le}
 use lib.Dec.{leb}
 use borrow.Author.Tests.{leb-true}
-use Rattle.blorb.specs.Format.{size, placeOf}
+use Rattle.blorb.specs.Format.{size, placeOf, chunkOf}
 use Rattle.blorb.specs.Verdict.{Verdict, accept, refuse, _then_, verdict}
 use Rattle.blorb.specs.Rules.{plainRules}
 use Rattle.blorb.specs.Model.{Model, base, startOf, model, file}
@@ -20,7 +20,7 @@ use Rattle.blorb.specs.Bytes.{Byte}
 use Rattle.blorb.proofs.Checks.{then-accept, check-accept}
 use Rattle.blorb.proofs.Accept.{accept-short}
 use Rattle.blorb.proofs.ModelLaws.{length-file}
-use Rattle.edits.specs.Edit.{with-at, removed, replaced, givenChunk}
+use Rattle.edits.specs.Edit.{with-at, removed, replaced}
 use Rattle.edits.specs.Journal.{Rec, lastRec, wellFormed, fits, fits3, fits4, undo2, undo3, undo4, oldChunk}
 use Rattle.edits.specs.Run.{accepted, undoneFile, undoFault}
 use Rattle.edits.proofs.BoolLaws.{and-parts}
@@ -149,8 +149,7 @@ module _ (b : List ℕ) (l : ℕ) (j : List ℕ) (u k a s t : ℕ) (r : Record) 
       let e : u - 4 - (u - 4 - r .length) ≡ r .length = omega (arith, w .ends .room) in
       ap (λ (z : ℕ). take z (drop (u - 4 - r .length) j)) e ∙ sym (w .ends .lies)
 
-  old-is : givenChunk (r .sort) (take (u - 4 - (u - 4 - r .length)) (drop (u - 4 - r .length) j)) ≡ oldChunk (lastRec (take u j))
-  unfolding givenChunk
+  old-is : chunkOf (r .sort) (take (u - 4 - (u - 4 - r .length)) (drop (u - 4 - r .length) j)) ≡ oldChunk (lastRec (take u j))
   old-is = λ i. record { type = sym (w .ends .numbers) i .sort; body = body-is i }
 
   file-is : length (take l b) ≡ l
@@ -217,7 +216,7 @@ module _ (b : List ℕ) (l : ℕ) (j : List ℕ) (u k a s t : ℕ) (r : Record) 
         ),
       )
 
-  pub written-replaced : r .kind ≡ 2 → file (replaced (model (take l b)) (refAt (model (take l b)) (r .place) .chunk) (givenChunk (r .sort) d)) ≡ undoneFile (take l b) (take u j)
+  pub written-replaced : r .kind ≡ 2 → file (replaced (model (take l b)) (refAt (model (take l b)) (r .place) .chunk) (chunkOf (r .sort) d)) ≡ undoneFile (take l b) (take u j)
   unfolding undoneFile undo2
   written-replaced h =
       (λ i. file (replaced m (refAt m (sym place-is i) .chunk) (old-is i))) ∙ sym (ap file (kind-2 rec m (kind-is 2 h) .1))

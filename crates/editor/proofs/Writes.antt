@@ -10,7 +10,7 @@ use lib.Seq.{take-at, drop-at, drop-drop, drop-append-add, drop-append-le, lengt
 use lib.Dec.{ltb}
 use Rattle.blorb.specs.Bytes.{be32, rd32}
 use Rattle.blorb.proofs.ByteLaws.{length-be32, rd32-be32}
-use Rattle.blorb.specs.Format.{Chunk, Entry, size, sized, entryBytes, entriesBytes, chunkBytes, chunksBytes, total}
+use Rattle.blorb.specs.Format.{Chunk, chunkOf, Entry, size, sized, entryBytes, entriesBytes, chunkBytes, chunksBytes, total}
 use Rattle.blorb.specs.Model.{Model, base, file}
 use Rattle.edits.specs.Edit.{givenChunk}
 use Rattle.blorb.proofs.ModelLaws.{length-file}
@@ -28,9 +28,13 @@ pub file-length : (m : Model) → length (file m) ≡ 24 + 12 * length (m .refs)
 unfolding base
 file-length m = length-file m
 
+pub size-of : (t : ℕ) (d : List ℕ) → size (chunkOf t d) ≡ 8 + length d + length d % 2
+unfolding size sized
+size-of t d = omega arith
+
 pub size-given : (t : ℕ) (d : List ℕ) → size (givenChunk t d) ≡ 8 + length d + length d % 2
-unfolding size sized givenChunk
-size-given t d = omega arith
+unfolding givenChunk
+size-given t d = size-of t d
 
 pub entries-append : (a b : List Entry) → entriesBytes (a ++ b) ≡ entriesBytes a ++ entriesBytes b
 unfolding entriesBytes

@@ -5,8 +5,7 @@ ghost use mathlib.Core.List.{[], _∷_, _++_};
 ghost use lib.ListN.{length, replicate};
 ghost use Rattle.blorb.specs.Bytes.{be32};
 ghost use Rattle.edits.specs.Run.{noted};
-ghost use Rattle.blorb.specs.Format.{chunkBytes};
-ghost use Rattle.edits.specs.Edit.{givenChunk};
+ghost use Rattle.blorb.specs.Format.{chunkBytes, chunkOf};
 ghost use Rattle.blorb.proofs.Parts.{heading};
 ghost use Rattle.edits.specs.Journal.{recBytes};
 ghost use Rattle.editor.specs.Moves.{low4, turned, relocated, startsMoved, recordOf};
@@ -139,7 +138,7 @@ pub(crate) fn put_heading(buf: &mut [u8], n: u64, t: u64)
 // A chunk at `at`: type, length, data and, where the length is odd, a zero byte.
 pub(crate) fn put_chunk(buf: &mut [u8], at: usize, kind: u64, d: &[u8])
     requires { ⌜ at + (8 + (length (now d) + length (now d) % 2)) ≤ length (now buf) ⌝ }
-    ensures { λ _. ⌜ now (buf .exit) ≡ noted (now (buf .entry)) at (chunkBytes (givenChunk kind (now (d .entry)))) ⌝ }
+    ensures { λ _. ⌜ now (buf .exit) ≡ noted (now (buf .entry)) at (chunkBytes (chunkOf kind (now (d .entry)))) ⌝ }
 {
     let m = d.len();
     put32(buf, at, kind);

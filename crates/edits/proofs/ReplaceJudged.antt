@@ -9,7 +9,7 @@ use lib.ListN.{length, set}
 use lib.Dec.{eqb, leb}
 use borrow.Author.Tests.{le-leb}
 use Rattle.blorb.specs.Tags.{RIdx}
-use Rattle.blorb.specs.Format.{Chunk, size}
+use Rattle.blorb.specs.Format.{Chunk, size, chunkOf}
 use Rattle.blorb.specs.Verdict.{Verdict, accept, _then_, check, noChunk, secondIndex, verdict}
 use Rattle.blorb.specs.Tags.{Pict, Rect, Fspc}
 use Rattle.blorb.specs.Rules.{plainAllows, typeIn, optional, plainRules}
@@ -49,14 +49,14 @@ module _ (m : Model) (u n t : ℕ) (d : List ℕ) (s : Sound m) (ok : modelFault
   abbrev own : ℕ
   own = refAt m (find u n (m .refs)) .chunk
 
-  front-replaced : plainAllows u (givenChunk t d) ≡ true
-      → accepted (optional (base (length (m .refs))) (m .refs) (set (m .chunks) own (givenChunk t d))) ≡ not (isFront (m .chunks) u n && eqb t Rect)
-  unfolding shared givenChunk
+  front-replaced : plainAllows u (chunkOf t d) ≡ true
+      → accepted (optional (base (length (m .refs))) (m .refs) (set (m .chunks) own (chunkOf t d))) ≡ not (isFront (m .chunks) u n && eqb t Rect)
+  unfolding shared
   front-replaced pl =
       let p = model-parts m ok in
       let there = chunk-in m place s h in
-      ap accepted (optional-replaced plainRules (base (length (m .refs))) (base (length (m .refs))) (m .chunks) (m .refs) u n (givenChunk t d) (p .entries-fine) (p .seven) h alone there
-      (chunk-plain (m .chunks) [] 24 (m .refs) place (p .entries-fine) h) (plain-plain u (givenChunk t d) pl))
+      ap accepted (optional-replaced plainRules (base (length (m .refs))) (base (length (m .refs))) (m .chunks) (m .refs) u n (chunkOf t d) (p .entries-fine) (p .seven) h alone there
+      (chunk-plain (m .chunks) [] 24 (m .refs) place (p .entries-fine) h) (plain-plain u (chunkOf t d) pl))
       ∙ accepted-front (typeIn Fspc (m .chunks)) (not ((eqb u Pict && eqb n (frontNumber (m .chunks))) && eqb t Rect)) _
       ∙ turn (typeIn Fspc (m .chunks)) (eqb u Pict && eqb n (frontNumber (m .chunks))) (eqb t Rect)
     where
@@ -66,30 +66,30 @@ module _ (m : Model) (u n t : ℕ) (d : List ℕ) (s : Sound m) (ok : modelFault
       turn true false c = refl
       turn false b c = refl
 
-  pub replaced-length : length (file (replaced m own (givenChunk t d))) ≡ length (file m) - size (chunkAt m own) + size (givenChunk t d)
+  pub replaced-length : length (file (replaced m own (chunkOf t d))) ≡ length (file m) - size (chunkAt m own) + size (chunkOf t d)
   replaced-length =
       let there = chunk-in m place s h in
-      omega (arith, length-replaced m own (givenChunk t d) there, size-getD (m .chunks) own noChunk there, length-file m)
+      omega (arith, length-replaced m own (chunkOf t d) there, size-getD (m .chunks) own noChunk there, length-file m)
 
-  pub replaced-accepted : u < W → n < W → t < W → accepted (verdict plainRules (file (replaced m own (givenChunk t d))))
-      ≡ (leb (length (file m) - size (chunkAt m own) + size (givenChunk t d)) 16777216 && (not (eqb t RIdx) && (plainAllows u (givenChunk t d) && not (isFront (m .chunks) u n && eqb t Rect))))
-  unfolding edited
+  pub replaced-accepted : u < W → n < W → t < W → accepted (verdict plainRules (file (replaced m own (chunkOf t d))))
+      ≡ (leb (length (file m) - size (chunkAt m own) + size (chunkOf t d)) 16777216 && (not (eqb t RIdx) && (plainAllows u (chunkOf t d) && not (isFront (m .chunks) u n && eqb t Rect))))
+  unfolding edited givenChunk
   replaced-accepted hu hn ht =
       let p = model-parts m ok in
       let there = chunk-in m place s h in
-      let x : Model = replaced m own (givenChunk t d) in
+      let x : Model = replaced m own (chunkOf t d) in
       let sd : Sound x = edit-sound m (replace u n t d) s (hu, hn, ht) (h, alone) in
       let a : accepted (secondIndex (base (length (x .refs))) (x .chunks)) ≡ not (eqb t RIdx)
-      = (unfold replaced givenChunk in second-set (base (length (m .refs))) (base (length (m .refs))) (m .chunks) own (givenChunk t d) there (p .no-second)) in
+      = (unfold replaced in second-set (base (length (m .refs))) (base (length (m .refs))) (m .chunks) own (chunkOf t d) there (p .no-second)) in
       let few : length (x .refs) ≤ 4096 = (unfold replaced in p .few) in
-      let b : accepted (refsFault plainRules (x .chunks) [] 24 (x .refs)) ≡ plainAllows u (givenChunk t d)
+      let b : accepted (refsFault plainRules (x .chunks) [] 24 (x .refs)) ≡ plainAllows u (chunkOf t d)
       = (unfold replaced shared in
-      ap accepted (refs-replaced plainRules (m .chunks) own (givenChunk t d) there [] 24 (m .refs) place h refl alone (p .entries-fine))
-      ∙ accepted-check (plainAllows (refAt m place .usage) (givenChunk t d)) 14 (24 + 12 * place)
-      ∙ ap (λ (z : ℕ). plainAllows z (givenChunk t d)) (find-pair u n (m .refs) h .0)) in
-      let q : plainAllows u (givenChunk t d) ≡ true → accepted (optional (base (length (x .refs))) (x .refs) (x .chunks)) ≡ not (isFront (m .chunks) u n && eqb t Rect)
+      ap accepted (refs-replaced plainRules (m .chunks) own (chunkOf t d) there [] 24 (m .refs) place h refl alone (p .entries-fine))
+      ∙ accepted-check (plainAllows (refAt m place .usage) (chunkOf t d)) 14 (24 + 12 * place)
+      ∙ ap (λ (z : ℕ). plainAllows z (chunkOf t d)) (find-pair u n (m .refs) h .0)) in
+      let q : plainAllows u (chunkOf t d) ≡ true → accepted (optional (base (length (x .refs))) (x .refs) (x .chunks)) ≡ not (isFront (m .chunks) u n && eqb t Rect)
       = λ pl. (unfold replaced in front-replaced pl) in
       accepted-file x sd
       ∙ rw (replaced-length, a, le-leb (length (x .refs)) 4096 few, b)
-      (ap (λ (z : Bool). leb (length (file m) - size (chunkAt m own) + size (givenChunk t d)) 16777216 && (not (eqb t RIdx) && z))
-      (and-where (plainAllows u (givenChunk t d)) (accepted (optional (base (length (x .refs))) (x .refs) (x .chunks))) (not (isFront (m .chunks) u n && eqb t Rect)) q))
+      (ap (λ (z : Bool). leb (length (file m) - size (chunkAt m own) + size (chunkOf t d)) 16777216 && (not (eqb t RIdx) && z))
+      (and-where (plainAllows u (chunkOf t d)) (accepted (optional (base (length (x .refs))) (x .refs) (x .chunks))) (not (isFront (m .chunks) u n && eqb t Rect)) q))

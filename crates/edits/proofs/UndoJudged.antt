@@ -23,7 +23,7 @@ use Rattle.blorb.proofs.Accept.{accept-back}
 use Rattle.blorb.proofs.Checks.{then-accept}
 use Rattle.blorb.proofs.ModelLaws.{length-file, size-getD}
 use Rattle.blorb.proofs.VerdictLaws.{verdict-file, modelFault}
-use Rattle.edits.specs.Edit.{replace, edited, lower, replaced, removed, removedBoth, givenChunk}
+use Rattle.edits.specs.Edit.{lower, replaced, removed, removedBoth}
 use Rattle.edits.specs.Journal.{Rec, hasPair, fits, fits1, fits2, fits3, fits4, undone, undo1, undo2, undo3, undo4, oldChunk, oldRef, oldPlace}
 use Rattle.edits.specs.Run.{accepted}
 use Rattle.edits.proofs.Lengths.{length-replaced}
@@ -135,12 +135,6 @@ found-at r m ok h u n =
     (rw (eq-eqb (refAt m (r .place) .usage) (r .usage) u, eq-eqb (refAt m (r .place) .number) (r .number) n))
 
 module _ (r : Rec) (m : Model) (s : Sound m) (ok : modelFault plainRules m ≡ accept) (fit : fits2 r m ≡ true) where
-  pub undo2-replaced : undo2 r m ≡ edited m (replace (r .usage) (r .number) (r .type) (r .body))
-  unfolding undo2 edited givenChunk
-  undo2-replaced =
-      let f = fits2-facts r m fit in
-      ap (λ (i : ℕ). replaced m (refAt m i .chunk) (oldChunk r)) (sym (found-at r m ok (f .inside) (f .usage-is) (f .number-is)))
-
   pub undo2-length : length (file (undo2 r m)) ≡ length (file m) - size (chunkAt m (refAt m (r .place) .chunk)) + size (oldChunk r)
   unfolding undo2
   undo2-length =
@@ -152,7 +146,7 @@ module _ (r : Rec) (m : Model) (s : Sound m) (ok : modelFault plainRules m ≡ a
   pub undo2-accepted : r .type < W → accepted (verdict plainRules (file (undo2 r m)))
       ≡ (leb (length (file m) - size (chunkAt m (refAt m (r .place) .chunk)) + size (oldChunk r)) 16777216
       && (not (eqb (r .type) RIdx) && (plainAllows (r .usage) (oldChunk r) && not (isFront (m .chunks) (r .usage) (r .number) && eqb (r .type) Rect))))
-  unfolding undo2 givenChunk
+  unfolding undo2
   undo2-accepted ht =
       let f = fits2-facts r m fit in
       let e : find (r .usage) (r .number) (m .refs) ≡ r .place = found-at r m ok (f .inside) (f .usage-is) (f .number-is) in

@@ -7,10 +7,9 @@ use Rattle.blorb.specs.Bytes.{Byte}
 use Rattle.blorb.proofs.Accept.{bytes-all}
 use Rattle.blorb.specs.All.{All}
 use Rattle.blorb.proofs.AllLaws.{all-take}
-use Rattle.blorb.specs.Format.{size}
-use Rattle.edits.specs.Edit.{givenChunk}
+use Rattle.blorb.specs.Format.{size, chunkOf}
 use Rattle.editor.specs.declared.moves.Move.{Move}
-use Rattle.editor.proofs.Writes.{size-given}
+use Rattle.editor.proofs.Writes.{size-of}
 use Rattle.editor.proofs.ReplaceBytes.{relocated-behind, replace-written}
 use borrow.Author.Needs.{needs}
 use Rattle.editor.proofs.rewrite.replace_bytes.Statement.{statement}
@@ -91,7 +90,7 @@ returns c =
     let bytes : All Byte b = bytes-all b (λ i. omega (arith, c .before .before .before .before .before .before .before .before .before .before .before .before .before .before .before .before .before .slice-known .given i)) in
     let new : ℕ = 8 + (length (now (a .d)) + length (now (a .d)) % 2) in
     let mv : Move = record { limit = a .start; grow = 8 + (length (now (a .d)) + length (now (a .d)) % 2); fall = a .old; plus = 0; minus = 0 } in
-    let en : 8 + (length (now (a .d)) + length (now (a .d)) % 2) ≡ size (givenChunk (a .kind) (now (a .d))) = sym (size-given (a .kind) (now (a .d)) ∙ omega arith) in
+    let en : 8 + (length (now (a .d)) + length (now (a .d)) % 2) ≡ size (chunkOf (a .kind) (now (a .d))) = sym (size-of (a .kind) (now (a .d)) ∙ omega arith) in
     let room : a .len + (new - a .old) ≤ length b = omega arith in
     rw (c .before .before .put-chunk .ensures, c .before .before .before .before .before .before .put-heading .ensures, c .before .before .before .before .before .before .before .before .before .before .move-starts .ensures, c .before .before .before .before .before .before .before .before .before .before .before .before .before .before .resize .ensures, relocated-behind mv (a .start) (a .old) new refl refl refl refl refl)
     (replace-written b (a .len) (a .count) (a .i) (a .start) (a .old) new (a .kind) (now (a .d)) (p .0) (all-take Byte (a .len) b bytes) (p .1 .0) en room)
