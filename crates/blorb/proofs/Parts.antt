@@ -9,16 +9,12 @@ use lib.Seq.{drop-at}
 use Rattle.blorb.specs.Bytes.{be32}
 use Rattle.blorb.proofs.ByteLaws.{length-be32}
 use Rattle.blorb.specs.Tags.{FORM, IFRS, RIdx}
-use Rattle.blorb.specs.Format.{Chunk, Entry, size, sized, total, chunkBytes, chunksBytes, fileBytes, entriesBytes, indexChunk}
+use Rattle.blorb.specs.Format.{Chunk, Entry, heading, size, sized, total, chunkBytes, chunksBytes, fileBytes, entriesBytes, indexChunk}
 use Rattle.blorb.specs.Verdict.{noChunk}
 use Rattle.blorb.specs.Model.{Model, base, file}
 use Rattle.blorb.specs.Queries.{without}
 use Rattle.blorb.proofs.Codec.{length-entriesBytes}
 use Rattle.blorb.proofs.ModelLaws.{entries, size-index}
-
--- the 24 bytes before the entries, of a file with n entries and chunks of t bytes behind the index
-unfoldable pub heading : ℕ → ℕ → List ℕ
-heading n t = be32 FORM ++ (be32 (16 + 12 * n + t) ++ (be32 IFRS ++ (be32 RIdx ++ (be32 (4 + 12 * n) ++ be32 n))))
 
 no-pad : (n : ℕ) → replicate {A = ℕ} ((4 + 12 * n) % 2) 0 ≡ []
 no-pad n = rw e

@@ -88,6 +88,10 @@ entriesBytes (e ∷ es) = entryBytes e ++ entriesBytes es
 unfoldable pub indexChunk : List Entry → Chunk
 indexChunk es = record { type = RIdx; body = be32 (length es) ++ entriesBytes es }
 
+-- the 24 bytes before the entries, of a file with n entries and chunks of t bytes behind the index
+unfoldable pub heading : ℕ → ℕ → List ℕ
+heading n t = be32 FORM ++ (be32 (16 + 12 * n + t) ++ (be32 IFRS ++ (be32 RIdx ++ (be32 (4 + 12 * n) ++ be32 n))))
+
 -- the entries in an index chunk
 unfoldable pub entriesOf : Chunk → List Entry
 entriesOf c = entriesIn (rd32 (c .body)) (drop 4 (c .body))

@@ -6,7 +6,7 @@ use native.Mathlib.Omega.{arith}
 use lib.ListN.{length, getD, take, drop, length-append, length-map}
 use lib.Seq.{drop-at, drop-drop}
 use Rattle.blorb.specs.Bytes.{be32, rd32}
-use Rattle.blorb.specs.Format.{Chunk, entriesBytes, chunkBytes, chunksBytes, total, size}
+use Rattle.blorb.specs.Format.{Chunk, entriesBytes, chunkBytes, chunksBytes, total, size, heading}
 use Rattle.blorb.specs.Verdict.{noChunk}
 use Rattle.blorb.specs.Model.{Model, base, startOf, file}
 use Rattle.blorb.specs.Queries.{chunkAt}
@@ -17,7 +17,7 @@ use Rattle.blorb.proofs.Sound.{W, ChunkOk, Sound}
 use Rattle.blorb.proofs.Places.{body-size}
 use Rattle.blorb.proofs.Codec.{length-entriesBytes, length-chunksBytes, first-type, first-length, first-body}
 use Rattle.blorb.proofs.ModelLaws.{entries, size-getD}
-use Rattle.blorb.proofs.Parts.{heading, file-parts, length-heading}
+use Rattle.blorb.proofs.Parts.{file-parts, length-heading}
 use Rattle.editor.proofs.Writes.{file-length}
 use Rattle.editor.proofs.RemoveBytes.{chunks-around}
 

@@ -12,7 +12,7 @@ use lib.Seq.{drop-drop, drop-append-add, length-take-le}
 use Rattle.blorb.specs.Format.{Entry, entriesBytes}
 use Rattle.blorb.specs.All.{All}
 use Rattle.blorb.proofs.Codec.{EntryOk}
-use Rattle.edits.proofs.Starts.{moved}
+use Rattle.edits.specs.Starts.{moved}
 use Rattle.edits.specs.Run.{noted, written}
 use Rattle.edits.proofs.RunLaws.{length-written}
 use Rattle.edits.proofs.Noted.{noted-over}

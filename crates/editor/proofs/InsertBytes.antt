@@ -9,7 +9,7 @@ use lib.ListN.{length, take, drop, length-append, length-map, length-drop, take-
 use lib.Seq.{length-take-le, drop-append-le, drop-drop}
 use lib.Dec.{leb}
 use Rattle.blorb.specs.Bytes.{be32}
-use Rattle.blorb.specs.Format.{Chunk, Entry, size, entryBytes, entriesBytes, chunkBytes, chunksBytes, total, placeOf, chunkOf}
+use Rattle.blorb.specs.Format.{Chunk, Entry, size, entryBytes, entriesBytes, chunkBytes, chunksBytes, total, placeOf, chunkOf, heading}
 use Rattle.blorb.specs.Rules.{plainRules}
 use Rattle.blorb.specs.Model.{Model, base, startOf, file, model}
 use Rattle.blorb.specs.Queries.{start}
@@ -19,13 +19,13 @@ use Rattle.blorb.specs.Bytes.{Byte}
 use Rattle.blorb.proofs.Accept.{accept-back}
 use Rattle.blorb.proofs.Codec.{EntryOk, length-entriesBytes, length-chunksBytes, length-chunkBytes}
 use Rattle.blorb.proofs.ModelLaws.{entries, entries-ok, total-take}
-use Rattle.blorb.proofs.Parts.{heading, file-parts, length-heading, chunks-append}
+use Rattle.blorb.proofs.Parts.{file-parts, length-heading, chunks-append}
 use Rattle.edits.specs.Edit.{with-at}
 use Rattle.edits.specs.Journal.{Rec, oldChunk, oldPlace, undo3, undo4, fits3, fits4}
 use Rattle.edits.specs.Run.{noted, written}
 use Rattle.edits.proofs.Noted.{noted-over}
 use Rattle.edits.proofs.Lengths.{total-append}
-use Rattle.edits.proofs.Starts.{moved}
+use Rattle.edits.specs.Starts.{moved}
 use Rattle.edits.proofs.InsertStarts.{risen, length-with, starts-inserted, starts-relisted, fit3, fit4}
 use Rattle.editor.specs.Shift.{slid}
 use Rattle.editor.specs.Moves.{startsMoved, relocated}

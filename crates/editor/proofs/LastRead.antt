@@ -9,9 +9,9 @@ use lib.Dec.{eqb}
 use borrow.Author.Tests.{eq-eqb, ne-eqb}
 use Rattle.blorb.specs.Bytes.{rd32}
 use Rattle.blorb.specs.Format.{chunkOf}
-use Rattle.edits.specs.Journal.{Rec, lastRec, wellFormed, oldChunk}
+use Rattle.edits.specs.Journal.{Rec, lastRec, wellFormed, oldChunk, kindRule}
 use Rattle.edits.specs.Run.{State, afterUndo}
-use Rattle.edits.proofs.LastLaws.{kindRule, numbers-part, formed-part, WellFormed, well-formed-part}
+use Rattle.edits.proofs.LastLaws.{numbers-part, formed-part, WellFormed, well-formed-part}
 use Rattle.editor.specs.declared.journal.Record.{Record}
 use Rattle.editor.specs.declared.journal.Last.{Last}
 use Rattle.editor.specs.declared.journal.Last.the-variants.{Good, Bad}

@@ -8,7 +8,7 @@ use native.Mathlib.Nat.{add-zero}
 use lib.ListN.{length, getD, take, drop, replicate, length-append, length-map, length-drop, length-replicate, take-append-drop}
 use lib.Seq.{length-take-le, split-at}
 use lib.Dec.{ltb}
-use Rattle.blorb.specs.Format.{Ref, Chunk, Entry, size, entryBytes, entriesBytes, chunkBytes, chunksBytes, total}
+use Rattle.blorb.specs.Format.{Ref, Chunk, Entry, size, entryBytes, entriesBytes, chunkBytes, chunksBytes, total, heading}
 use Rattle.blorb.specs.Verdict.{noChunk}
 use Rattle.blorb.specs.Rules.{plainRules}
 use Rattle.blorb.specs.Model.{Model, base, startOf, entryOf, file, model}
@@ -23,8 +23,9 @@ use Rattle.blorb.proofs.Accept.{accept-back}
 use Rattle.blorb.proofs.Codec.{EntryOk, length-entriesBytes, length-chunksBytes, length-chunkBytes}
 use Rattle.blorb.proofs.ModelLaws.{entries, entries-ok}
 use Rattle.edits.proofs.UndoLaws.{length-without, length-remaining}
-use Rattle.edits.proofs.Starts.{moved, fallen, starts-removed, map-without}
-use Rattle.blorb.proofs.Parts.{heading, file-parts, length-heading, chunks-append}
+use Rattle.edits.specs.Starts.{moved, fallen}
+use Rattle.edits.proofs.Starts.{starts-removed, starts-unlisted, map-without}
+use Rattle.blorb.proofs.Parts.{file-parts, length-heading, chunks-append}
 use Rattle.edits.proofs.Lengths.{total-less}
 use Rattle.edits.specs.Run.{noted, written}
 use Rattle.edits.proofs.Noted.{noted-over}
@@ -153,23 +154,14 @@ module _ (b : List ℕ) (L : ℕ) (m : Model) (i st sz t′ : ℕ) (c1 cx c2 : L
       ∙ sym (written-shorter b L (12 + sz) (F′ ++ ((A ++ B) ++ (c1 ++ c2))) lf)
       ∙ ap (λ (z : List ℕ). written b L (F′ ++ (z ++ (c1 ++ c2)))) AB
 
--- a shared chunk stays: every start falls by 12
-pub starts-unlisted : (m : Model) (i s : ℕ) → i < length (m .refs) → entries (removedEntry m i) ≡ map (moved (fallen s 0)) (without i (entries m))
-unfolding removedEntry entryOf startOf base
-starts-unlisted m i s h =
-    rw (← map-without (entryOf (base (length (m .refs))) (m .chunks)) i (m .refs), ← length-without i (m .refs) h)
-    (all (without i (m .refs)))
+-- a fall by 12 and the size of no chunk
+fall-none : (s : ℕ) (es : List Entry) → map (moved (λ t. t - 12)) es ≡ map (moved (fallen s 0)) es
+fall-none s [] = refl
+fall-none s (e ∷ es) = λ i. record { usage = e .usage; number = e .number; start = same (ltb s (e .start)) (e .start) i } ∷ fall-none s es i
   where
-    n : ℕ
-    n = length (without i (m .refs))
-
-    both : (x : Bool) (j : ℕ) → 24 + 12 * n + total (take j (m .chunks)) ≡ cond x (24 + 12 * suc n + total (take j (m .chunks)) - (12 + 0)) (24 + 12 * suc n + total (take j (m .chunks)) - 12)
-    both true j = omega arith
-    both false j = omega arith
-
-    all : (rs : List Ref) → map (entryOf (base n) (m .chunks)) rs ≡ map (moved (fallen s 0)) (map (entryOf (base (suc n)) (m .chunks)) rs)
-    all [] = refl
-    all (r ∷ rs) = λ z. record { usage = r .usage; number = r .number; start = both (ltb s (24 + 12 * suc n + total (take (r .chunk) (m .chunks)))) (r .chunk) z } ∷ all rs z
+    same : (x : Bool) (t : ℕ) → t - 12 ≡ cond x (t - (12 + 0)) (t - 12)
+    same true t = omega arith
+    same false t = refl
 
 -- the file after a removal, in parts
 module _ (m : Model) (i : ℕ) (s : Sound m) (h : i < length (m .refs)) where
@@ -195,7 +187,7 @@ module _ (m : Model) (i : ℕ) (s : Sound m) (h : i < length (m .refs)) where
       let t1 : total (removedEntry m i .chunks) ≡ total (m .chunks) - 0 = (unfold removedEntry in omega arith) in
       let c1 : chunksBytes (removedEntry m i .chunks) ≡ chunksBytes (take k (m .chunks)) ++ chunksBytes (drop k (m .chunks))
       = (unfold removedEntry in ap chunksBytes (sym (take-append-drop k (m .chunks))) ∙ chunks-append (take k (m .chunks)) (drop k (m .chunks))) in
-      file-parts (removedEntry m i) ∙ (λ z. heading (n1 z) (t1 z) ++ (entriesBytes (starts-unlisted m i (start m k) h z) ++ c1 z))
+      file-parts (removedEntry m i) ∙ (λ z. heading (n1 z) (t1 z) ++ (entriesBytes ((starts-unlisted m i h ∙ fall-none (start m k) (without i (entries m))) z) ++ c1 z))
 
   start-is : start m k ≡ 24 + 12 * length (m .refs) + length (chunksBytes (take k (m .chunks)))
   unfolding start startOf base

@@ -26,7 +26,8 @@ use Rattle.edits.proofs.UndoLaws.{or-false, length-without, length-remaining}
 use Rattle.blorb.proofs.VerdictLaws.{refsFault, modelFault, verdict-file}
 use Rattle.edits.proofs.RemoveVerdict.{same-chunk, refs-removed, refs-without}
 use Rattle.edits.proofs.FitLaws.{edit-sound, find-pair}
-use Rattle.edits.proofs.Starts.{fallen, fell}
+use Rattle.edits.specs.Starts.{fallen}
+use Rattle.edits.proofs.Starts.{fell}
 use Rattle.edits.specs.Run.{hundred, editedFile}
 use Rattle.editor.specs.Post.{goneSize, Listed}
 use Rattle.reader.specs.declared.Front.{Front}

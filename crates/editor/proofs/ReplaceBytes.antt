@@ -8,7 +8,7 @@ use native.Mathlib.Nat.{add-zero, sub-zero}
 use lib.ListN.{length, take, drop, set, length-append, length-map}
 use lib.Seq.{length-take-le}
 use lib.Dec.{ltb}
-use Rattle.blorb.specs.Format.{Chunk, Entry, size, entriesBytes, chunkBytes, chunksBytes, total, chunkOf}
+use Rattle.blorb.specs.Format.{Chunk, Entry, size, entriesBytes, chunkBytes, chunksBytes, total, chunkOf, heading}
 use Rattle.blorb.specs.Verdict.{noChunk}
 use Rattle.blorb.specs.Rules.{plainRules}
 use Rattle.blorb.specs.Model.{Model, base, startOf, file, model}
@@ -22,8 +22,9 @@ use Rattle.blorb.specs.Bytes.{Byte}
 use Rattle.blorb.proofs.Accept.{accept-back}
 use Rattle.blorb.proofs.Codec.{length-entriesBytes, length-chunksBytes, length-chunkBytes}
 use Rattle.blorb.proofs.ModelLaws.{entries, entries-ok, size-getD}
-use Rattle.edits.proofs.Starts.{moved, behind, starts-replaced}
-use Rattle.blorb.proofs.Parts.{heading, file-parts, length-heading, chunks-set}
+use Rattle.edits.specs.Starts.{moved, behind}
+use Rattle.edits.proofs.Starts.{starts-replaced}
+use Rattle.blorb.proofs.Parts.{file-parts, length-heading, chunks-set}
 use Rattle.edits.proofs.Lengths.{total-put}
 use Rattle.edits.specs.Run.{noted, written}
 use Rattle.editor.specs.Moves.{startsMoved, relocated}

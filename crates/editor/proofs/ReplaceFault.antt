@@ -26,7 +26,8 @@ use Rattle.edits.proofs.AddVerdict.{second-any, then-end}
 use Rattle.blorb.proofs.VerdictLaws.{refsFault, modelFault, verdict-file}
 use Rattle.edits.proofs.ReplaceVerdict.{refs-replaced}
 use Rattle.edits.proofs.FitLaws.{edit-sound, find-pair}
-use Rattle.edits.proofs.Starts.{behind, shifted}
+use Rattle.edits.specs.Starts.{behind}
+use Rattle.edits.proofs.Starts.{shifted}
 use Rattle.edits.proofs.Lengths.{length-replaced}
 use Rattle.blorb.proofs.ModelLaws.{size-getD}
 use Rattle.editor.proofs.Writes.{file-length, size-given}

@@ -9,7 +9,7 @@ use Rattle.edits.specs.Run.{State, CallOk, step, run, answers}
 use Rattle.edits.specs.Demand3.{Begins}
 use Rattle.edits.proofs.Demand3.{demand3}
 use Rattle.editor.specs.Called.{Called}
-use Rattle.editor.specs.Runs.{Turn, callOf, toldBy, stateAfter, Ran, endOf, AsLedger}
+use Rattle.editor.specs.Runs.{Turn, callOf, answerOf, stateAfter, Ran, endOf, AsLedger}
 
 stateAfter-is : (s : State) (t : Turn) → Called s (t .call) (t .answer) (t .buffer) (t .journal) → stateAfter t ≡ step plainRules s (t .call)
 stateAfter-is s t c = λ i. record { buffer = c .file i; L = c .len i; journal = c .journal i; U = c .used i }
@@ -19,12 +19,12 @@ unfolding run
 ran-end s [] h = refl
 ran-end s (t ∷ ts) h = ran-end (stateAfter t) ts (h .1) ∙ ap (λ (x : State). run plainRules x (map callOf ts)) (stateAfter-is s t (h .0))
 
-ran-answers : (s : State) (ts : List Turn) → Ran s ts → map toldBy ts ≡ answers plainRules s (map callOf ts)
+ran-answers : (s : State) (ts : List Turn) → Ran s ts → map answerOf ts ≡ answers plainRules s (map callOf ts)
 unfolding answers
 ran-answers s [] h = refl
 ran-answers s (t ∷ ts) h =
     let c = h .0 in
-    let r : map toldBy ts ≡ answers plainRules (step plainRules s (t .call)) (map callOf ts)
+    let r : map answerOf ts ≡ answers plainRules (step plainRules s (t .call)) (map callOf ts)
     = ran-answers (stateAfter t) ts (h .1) ∙ ap (λ (x : State). answers plainRules x (map callOf ts)) (stateAfter-is s t c) in
     λ i. record { result = c .outcome i; L = c .len i; U = c .used i } ∷ r i
 

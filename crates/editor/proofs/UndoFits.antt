@@ -26,7 +26,7 @@ use Rattle.edits.specs.Run.{accepted, undoneFile}
 use Rattle.edits.proofs.BoolLaws.{and-parts, and-where}
 use Rattle.edits.proofs.JudgedLaws.{isFront}
 use Rattle.edits.proofs.InsertJudged.{entryTests, entry-new, entry-twice}
-use Rattle.edits.proofs.UndoJudged.{Stood, fits1-facts, fits2-facts, found-at, kind-1, kind-2, kind-4}
+use Rattle.edits.proofs.UndoJudged.{AcceptedFile, fits1-facts, fits2-facts, found-at, kind-1, kind-2, kind-4}
 use Rattle.edits.proofs.FitFacts.{size-is, told3, told4}
 use Rattle.blorb.specs.Format.{sizeOf}
 use Rattle.edits.proofs.UndoTold.{accepted2, accepted4, test-1, test-2, test-3, test-4, after-1, after-2, after-3, after-4}
@@ -95,7 +95,7 @@ chunk-ends m k s there small =
     omega (arith, e, size-pos (chunkAt m k))
 
 -- f: an accepted file; j: the journal bytes in use
-module _ (f j : List ℕ) (st : Stood f) (bytes : All Byte j) where
+module _ (f j : List ℕ) (st : AcceptedFile f) (bytes : All Byte j) where
   abbrev m : Model
   m = model f
 

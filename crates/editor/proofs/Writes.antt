@@ -16,7 +16,7 @@ use Rattle.edits.specs.Edit.{givenChunk}
 use Rattle.blorb.proofs.ModelLaws.{length-file}
 use Rattle.blorb.specs.All.{All}
 use Rattle.blorb.proofs.Codec.{EntryOk}
-use Rattle.edits.proofs.Starts.{moved}
+use Rattle.edits.specs.Starts.{moved}
 use Rattle.edits.specs.Run.{noted, written}
 use Rattle.edits.proofs.Noted.{noted-after, noted-over}
 use Rattle.editor.specs.Shift.{slid}

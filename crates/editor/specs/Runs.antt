@@ -22,8 +22,8 @@ abbrev pub callOf : Turn → Call
 callOf t = t .call
 
 -- the answer as the ledger gives one: success or refusal, and L and U
-abbrev pub toldBy : Turn → edits.Answer
-toldBy t = record { result = verdictOf (t .answer .outcome); L = t .answer .len; U = t .answer .used }
+abbrev pub answerOf : Turn → edits.Answer
+answerOf t = record { result = verdictOf (t .answer .outcome); L = t .answer .len; U = t .answer .used }
 
 -- what the next call is lent and given: "Every call is lent the same two whole buffers and given the L and U last handed back."
 abbrev pub stateAfter : Turn → State
@@ -42,7 +42,7 @@ endOf s (t ∷ ts) = endOf (stateAfter t) ts
 -- demand 3 for a run of calls from state s: every answer and the state after it are the ledger's, which is told the starting file, both
 -- buffers' lengths and the calls
 pub record AsLedger (s : State) (ts : List Turn) : Type 0 where
-  pub answers-are : map toldBy ts ≡ ledgerAnswers plainRules (take (s .L) (s .buffer)) (length (s .buffer)) (length (s .journal)) [] (map callOf ts)
+  pub answers-are : map answerOf ts ≡ ledgerAnswers plainRules (take (s .L) (s .buffer)) (length (s .buffer)) (length (s .journal)) [] (map callOf ts)
   pub L-is : endOf s ts .L ≡ length (ledgerFile (take (s .L) (s .buffer)) (listAfter plainRules s (map callOf ts)))
   pub U-is : endOf s ts .U ≡ ledgerUsed (take (s .L) (s .buffer)) (listAfter plainRules s (map callOf ts))
   pub file-is : take (endOf s ts .L) (endOf s ts .buffer) ≡ ledgerFile (take (s .L) (s .buffer)) (listAfter plainRules s (map callOf ts))

@@ -16,7 +16,7 @@ ghost use Rattle.blorb.specs.Tags.{Exec, Pict, Rect};
 ghost use Rattle.blorb.specs.Model.{model};
 ghost use Rattle.edits.specs.Edit.{add, replace, remove};
 ghost use Rattle.edits.specs.Run.{hundred, editedFile};
-ghost use Rattle.edits.proofs.Starts.{fallen, behind};
+ghost use Rattle.edits.specs.Starts.{behind, fallen};
 ghost use Rattle.reader.specs.Inspecting.{targetOf, frontOf};
 ghost use Rattle.editor.specs.Called.{verdictOf};
 ghost use Rattle.editor.specs.Post.{Stands, Listed, Own};

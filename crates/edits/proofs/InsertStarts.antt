@@ -17,7 +17,8 @@ use Rattle.edits.specs.Edit.{with-at, raise}
 use Rattle.edits.specs.Journal.{Rec, oldChunk, oldPlace, oldRef, undo3, undo4, fits3, fits4}
 use Rattle.blorb.proofs.Places.{size-pos, startOf-placeOf, placeOf-startOf}
 use Rattle.blorb.proofs.ModelLaws.{entries}
-use Rattle.edits.proofs.Starts.{moved, total-more, total-mono}
+use Rattle.edits.specs.Starts.{moved}
+use Rattle.edits.proofs.Starts.{total-more, total-mono}
 
 -- one element more
 module _ {A : Type 0} where

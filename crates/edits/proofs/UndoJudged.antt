@@ -216,14 +216,14 @@ unfolding fits undone
 kind-4 r m h = (rw h, rw h)
 
 -- an accepted file's model is as the laws above want it
-pub record Stood (f : List ℕ) : Type 0 where
+pub record AcceptedFile (f : List ℕ) : Type 0 where
   pub sound : Sound (model f)
   pub judged : modelFault plainRules (model f) ≡ accept
   pub whole : file (model f) ≡ f
   pub short : length (file (model f)) ≤ 16777216
 
-pub accepted-stood : (f : List ℕ) → All Byte f → verdict plainRules f ≡ accept → Stood f
-accepted-stood f bytes fine =
+pub accepted-facts : (f : List ℕ) → All Byte f → verdict plainRules f ≡ accept → AcceptedFile f
+accepted-facts f bytes fine =
     let g = accept-back plainRules f bytes fine in
     let old = sym (verdict-file plainRules (model f) (g .1)) ∙ ap (verdict plainRules) (g .0) ∙ fine in
     record { sound = g .1; judged = then-accept _ _ old .1; whole = g .0; short = omega (arith, ap length (g .0), g .2) }

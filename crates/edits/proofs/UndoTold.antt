@@ -24,7 +24,7 @@ use Rattle.edits.specs.Run.{accepted, undoneFile}
 use Rattle.edits.proofs.BoolLaws.{and-where}
 use Rattle.edits.proofs.JudgedLaws.{isFront}
 use Rattle.edits.proofs.InsertJudged.{entryTests}
-use Rattle.edits.proofs.UndoJudged.{Stood, kind-1, kind-2, kind-3, kind-4, fits2-facts, found-at, undo1-length, undo1-accepted, undo2-length, undo2-accepted, undo3-length, undo3-accepted, undo4-length, undo4-accepted}
+use Rattle.edits.proofs.UndoJudged.{AcceptedFile, kind-1, kind-2, kind-3, kind-4, fits2-facts, found-at, undo1-length, undo1-accepted, undo2-length, undo2-accepted, undo3-length, undo3-accepted, undo4-length, undo4-accepted}
 use Rattle.edits.proofs.FitFacts.{size-is, told1, told2, told3, told4, fits1-told, fits2-told, fits3-told, fits4-told}
 
 -- a record read from bytes has numbers of 32 bits
@@ -56,7 +56,7 @@ accepted3 r m L =
 abbrev pub accepted4 : Rec → Model → ℕ → Bool
 accepted4 r m L = leb (L + 12) 16777216 && (leb (suc (length (m .refs))) 4096 && entryTests (r .usage) (r .number) (chunkAt m (oldPlace r m)) (m .refs))
 
-module _ (f j : List ℕ) (st : Stood f) (bytes : All Byte j) where
+module _ (f j : List ℕ) (st : AcceptedFile f) (bytes : All Byte j) where
   abbrev m : Model
   m = model f
 

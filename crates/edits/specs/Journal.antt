@@ -79,7 +79,11 @@ wellFormed j =
     && eqb (25 + rd32 (drop 21 (lastBody j))) (trailer j)
     && leb 1 (lastRec j .kind) && leb (lastRec j .kind) 4 && zeros (lastRec j)
 
--- the record fits this file
+-- "the kind is 1 to 4 and the fields named zero are zero", kind by kind, as the code asks it of kind, start, type and m (proofs/LastLaws, kind-rule)
+abbrev pub kindRule : ℕ → ℕ → ℕ → ℕ → Bool
+kindRule k s t m = cond (eqb k 1) (eqb s 0 && (eqb t 0 && eqb m 0)) (cond (eqb k 4) (eqb t 0 && eqb m 0) (eqb k 2 || eqb k 3))
+
+-- the entry has the record's pair
 abbrev pub hasPair : Rec → Ref → Bool
 hasPair r e = eqb (e .usage) (r .usage) && eqb (e .number) (r .number)
 
@@ -109,6 +113,7 @@ fits4 r m = leb (r .place) (length (m .refs)) && isStart (r .start - 12) (base (
 abbrev pub byKind {ℓ} : {A : Type ℓ} → ℕ → A → A → A → A → A
 byKind k a b c d = cond (eqb k 1) a (cond (eqb k 2) b (cond (eqb k 3) c d))
 
+-- the record fits this file
 unfoldable pub fits : Rec → Model → Bool
 fits r m = byKind (r .kind) (fits1 r m) (fits2 r m) (fits3 r m) (fits4 r m)
 
