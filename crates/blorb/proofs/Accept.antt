@@ -17,7 +17,7 @@ use Rattle.blorb.specs.Verdict.{Rules, Verdict, accept, refuse, _then_, 
 use Rattle.blorb.specs.Model.{Model, base, startOf, entryOf, file, model, modelOf}
 use Rattle.blorb.specs.All.{All}
 use Rattle.blorb.proofs.AllLaws.{all-take, all-drop, all-imp}
-use Rattle.blorb.proofs.Sound.{W, ChunkOk, RefOk, Sound}
+use Rattle.blorb.specs.Sound.{W, ChunkOk, RefOk, Sound}
 use Rattle.blorb.proofs.Places.{size-pos, startOf-placeOf}
 use Rattle.blorb.proofs.Checks.{then-accept, check-accept, and-both}
 use Rattle.blorb.proofs.Codec.{length-chunksBytes}

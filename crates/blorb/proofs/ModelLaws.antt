@@ -12,7 +12,7 @@ use Rattle.blorb.specs.Tags.{RIdx}
 use Rattle.blorb.specs.Model.{Model, base, startOf, entryOf, file, model, modelOf}
 use Rattle.blorb.specs.All.{All}
 use Rattle.blorb.proofs.AllLaws.{all-map}
-use Rattle.blorb.proofs.Sound.{W, ChunkOk, RefOk, Sound}
+use Rattle.blorb.specs.Sound.{W, ChunkOk, RefOk, Sound}
 use Rattle.blorb.proofs.Places.{size-pos, placeOf-startOf}
 use Rattle.blorb.proofs.Codec.{EntryOk, length-fileBytes, length-entriesBytes, chunksOf-fileBytes, entriesOf-indexChunk}
 

@@ -16,7 +16,7 @@ use Rattle.blorb.specs.Tags.{tag, FORM, IFRS, RIdx}
 use Rattle.blorb.specs.Verdict.{Rules, Verdict, accept, refuse, _then_, check, headFault, chunkFault, walkFault, secondIndex, indexFault, refFault, entriesFault, restFault, layoutFault, verdict, knownUsage, pairIn, noChunk}
 use Rattle.blorb.specs.Model.{Model, base, startOf, entryOf, file, model, modelOf}
 use Rattle.blorb.specs.All.{All}
-use Rattle.blorb.proofs.Sound.{W, ChunkOk, RefOk, Sound}
+use Rattle.blorb.specs.Sound.{W, ChunkOk, RefOk, Sound}
 use Rattle.blorb.proofs.Places.{size-pos, body-size, isStart-startOf}
 use Rattle.blorb.proofs.Codec.{length-chunkBytes, length-chunksBytes, length-fileBytes, length-entriesBytes, first-length, first-rest, drop-header, entriesOf-indexChunk, EntryOk}
 use Rattle.blorb.proofs.Checks.{pass, accepts, holds-last}

@@ -17,7 +17,7 @@ use Rattle.blorb.specs.Model.{Model, base, file, model}
 use Rattle.edits.specs.Edit.{add, added, edited, givenChunk}
 use Rattle.blorb.specs.Queries.{find}
 use Rattle.blorb.specs.All.{All}
-use Rattle.blorb.proofs.Sound.{W, Sound}
+use Rattle.blorb.specs.Sound.{W, Sound}
 use Rattle.blorb.specs.Bytes.{Byte}
 use Rattle.blorb.proofs.Checks.{then-accept}
 use Rattle.blorb.proofs.Accept.{accept-back}

@@ -13,7 +13,7 @@ use Rattle.blorb.specs.Queries.{chunkAt}
 use Rattle.blorb.specs.Queries.{start}
 use Rattle.blorb.specs.All.{All}
 use Rattle.blorb.proofs.AllLaws.{all-getD}
-use Rattle.blorb.proofs.Sound.{W, ChunkOk, Sound}
+use Rattle.blorb.specs.Sound.{W, ChunkOk, Sound}
 use Rattle.blorb.proofs.Places.{body-size}
 use Rattle.blorb.proofs.Codec.{length-entriesBytes, length-chunksBytes, first-type, first-length, first-body}
 use Rattle.blorb.proofs.ModelLaws.{entries, size-getD}

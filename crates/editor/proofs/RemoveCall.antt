@@ -19,7 +19,7 @@ use Rattle.edits.specs.Journal.{recOf, recBytes, Rec, removal}
 use Rattle.edits.proofs.JournalLaws.{length-recBytes}
 use Rattle.blorb.specs.All.{All}
 use Rattle.blorb.proofs.AllLaws.{all-getD}
-use Rattle.blorb.proofs.Sound.{RefOk, Sound}
+use Rattle.blorb.specs.Sound.{RefOk, Sound}
 use Rattle.blorb.proofs.VerdictLaws.{modelFault, verdict-file}
 use Rattle.edits.proofs.FitLaws.{find-pair}
 use Rattle.blorb.specs.Bytes.{Byte}

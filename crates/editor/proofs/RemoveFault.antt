@@ -17,7 +17,7 @@ use Rattle.edits.specs.Edit.{remove, edited, lower, removed, removedBoth, remov
 use Rattle.blorb.specs.Queries.{find, noRef, refAt, chunkAt, without, uses, shared, start, frontPlace, frontNumber}
 use Rattle.blorb.specs.All.{All}
 use Rattle.blorb.proofs.AllLaws.{all-getD}
-use Rattle.blorb.proofs.Sound.{W, RefOk, Sound}
+use Rattle.blorb.specs.Sound.{W, RefOk, Sound}
 use Rattle.blorb.specs.Bytes.{Byte}
 use Rattle.blorb.proofs.Checks.{then-accept, check-accept, pass, accepts}
 use Rattle.blorb.proofs.Accept.{accept-back}

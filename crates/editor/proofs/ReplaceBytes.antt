@@ -17,7 +17,7 @@ use Rattle.edits.specs.Edit.{replaced}
 use Rattle.blorb.specs.Queries.{start}
 use Rattle.blorb.specs.All.{All}
 use Rattle.blorb.proofs.AllLaws.{all-getD}
-use Rattle.blorb.proofs.Sound.{W, RefOk}
+use Rattle.blorb.specs.Sound.{W, RefOk}
 use Rattle.blorb.specs.Bytes.{Byte}
 use Rattle.blorb.proofs.Accept.{accept-back}
 use Rattle.blorb.proofs.Codec.{length-entriesBytes, length-chunksBytes, length-chunkBytes}

@@ -18,7 +18,7 @@ use Rattle.edits.specs.Edit.{replace, edited, replaced, givenChunk}
 use Rattle.blorb.specs.Queries.{find, noRef, refAt, chunkAt, shared, start, frontPlace, frontNumber}
 use Rattle.blorb.specs.All.{All}
 use Rattle.blorb.proofs.AllLaws.{all-getD}
-use Rattle.blorb.proofs.Sound.{W, RefOk, Sound}
+use Rattle.blorb.specs.Sound.{W, RefOk, Sound}
 use Rattle.blorb.specs.Bytes.{Byte}
 use Rattle.blorb.proofs.Checks.{then-accept, check-accept, pass}
 use Rattle.blorb.proofs.Accept.{accept-back}

@@ -15,7 +15,7 @@ use Rattle.blorb.specs.Model.{Model, base, startOf, model, file}
 use Rattle.blorb.specs.Queries.{refAt, chunkAt, start, shared}
 use Rattle.blorb.specs.All.{All}
 use Rattle.blorb.proofs.AllLaws.{all-take}
-use Rattle.blorb.proofs.Sound.{W}
+use Rattle.blorb.specs.Sound.{W}
 use Rattle.blorb.specs.Bytes.{Byte}
 use Rattle.blorb.proofs.Checks.{then-accept, check-accept}
 use Rattle.blorb.proofs.Accept.{accept-short}

@@ -17,7 +17,7 @@ use Rattle.blorb.specs.Rules.{plainAllows, typeIn, plainRules}
 use Rattle.blorb.specs.Model.{Model, base, model, file}
 use Rattle.blorb.specs.Queries.{find, refAt, chunkAt, start, frontNumber}
 use Rattle.blorb.specs.All.{All}
-use Rattle.blorb.proofs.Sound.{W, Sound}
+use Rattle.blorb.specs.Sound.{W, Sound}
 use Rattle.blorb.proofs.Places.{size-pos, startOf-placeOf}
 use Rattle.blorb.proofs.Codec.{length-chunkBytes}
 use Rattle.blorb.specs.Bytes.{Byte}

@@ -18,7 +18,7 @@ use Rattle.blorb.specs.Model.{Model, base, file, model}
 use Rattle.edits.specs.Edit.{Edit, add, added, edited, givenChunk}
 use Rattle.blorb.specs.Queries.{find}
 use Rattle.blorb.specs.All.{All}
-use Rattle.blorb.proofs.Sound.{W, RefOk, Sound}
+use Rattle.blorb.specs.Sound.{W, RefOk, Sound}
 use Rattle.edits.specs.Run.{ArgsOk}
 use Rattle.blorb.specs.Bytes.{Byte}
 use Rattle.blorb.proofs.Accept.{accept-back}

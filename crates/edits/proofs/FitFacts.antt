@@ -15,7 +15,7 @@ use Rattle.blorb.specs.Verdict.{accept, noChunk}
 use Rattle.blorb.specs.Rules.{plainRules}
 use Rattle.blorb.specs.Model.{Model, base, startOf, file}
 use Rattle.blorb.specs.Queries.{find, refAt, chunkAt, shared, start}
-use Rattle.blorb.proofs.Sound.{Sound}
+use Rattle.blorb.specs.Sound.{Sound}
 use Rattle.blorb.proofs.Places.{size-pos, placeOf-startOf, startOf-placeOf}
 use Rattle.blorb.proofs.ModelLaws.{length-file, total-take}
 use Rattle.blorb.proofs.VerdictLaws.{modelFault}

@@ -18,7 +18,7 @@ use Rattle.edits.specs.Journal.{Rec, removal, recOf, oldChunk, oldRef, o
 use Rattle.blorb.specs.Queries.{start}
 use Rattle.blorb.specs.All.{All}
 use Rattle.blorb.proofs.AllLaws.{all-getD, all-append, all-take, all-drop, all-set, all-map, all-imp}
-use Rattle.blorb.proofs.Sound.{W, RefOk, ChunkOk, Sound}
+use Rattle.blorb.specs.Sound.{W, RefOk, ChunkOk, Sound}
 use Rattle.edits.specs.Run.{ArgsOk}
 use Rattle.edits.proofs.Applies.{Applies}
 use Rattle.blorb.proofs.Places.{placeOf-startOf, isStart-startOf}

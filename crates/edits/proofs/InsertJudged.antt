@@ -17,7 +17,7 @@ use Rattle.blorb.specs.Model.{Model, base, file}
 use Rattle.blorb.specs.Queries.{find, frontNumber}
 use Rattle.blorb.specs.All.{All}
 use Rattle.blorb.proofs.AllLaws.{all-append, all-take, all-drop, all-map}
-use Rattle.blorb.proofs.Sound.{W, RefOk, ChunkOk, Sound}
+use Rattle.blorb.specs.Sound.{W, RefOk, ChunkOk, Sound}
 use Rattle.blorb.proofs.Checks.{then-accept, check-accept, pass}
 use Rattle.blorb.proofs.ModelLaws.{length-file}
 use Rattle.blorb.proofs.VerdictLaws.{refsFault, modelFault}

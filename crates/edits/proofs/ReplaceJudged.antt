@@ -15,7 +15,7 @@ use Rattle.blorb.specs.Tags.{Pict, Rect, Fspc}
 use Rattle.blorb.specs.Rules.{plainAllows, typeIn, optional, plainRules}
 use Rattle.blorb.specs.Model.{Model, base, file}
 use Rattle.blorb.specs.Queries.{find, refAt, chunkAt, shared, frontNumber}
-use Rattle.blorb.proofs.Sound.{W, Sound}
+use Rattle.blorb.specs.Sound.{W, Sound}
 use Rattle.blorb.proofs.Checks.{then-accept, check-accept, pass}
 use Rattle.blorb.proofs.ModelLaws.{length-file, size-getD}
 use Rattle.blorb.proofs.VerdictLaws.{refsFault, modelFault}

@@ -16,7 +16,7 @@ use Rattle.blorb.specs.Verdict.{Rules, Verdict, accept, refuse, _then_, check, 
 use Rattle.blorb.specs.Tags.{Pict, Snd, Data, Exec, Rect, RelN, Fspc}
 use Rattle.blorb.specs.Rules.{plainAllows, oneOf, picture, typeIn, single, chunkRule, chunkRules, optional, plainRules}
 use Rattle.blorb.specs.All.{All}
-use Rattle.blorb.proofs.Sound.{RefOk, Sound}
+use Rattle.blorb.specs.Sound.{RefOk, Sound}
 use Rattle.blorb.proofs.Checks.{then-accept, check-accept, pass, accepts, holds-last}
 use Rattle.edits.proofs.AddVerdict.{then-assoc, then-end}
 

@@ -17,7 +17,7 @@ use Rattle.edits.specs.Journal.{Rec, recOf, recBytes, removal, lastRec, 
 use Rattle.blorb.specs.Queries.{start}
 use Rattle.blorb.specs.All.{All}
 use Rattle.blorb.proofs.AllLaws.{all-getD}
-use Rattle.blorb.proofs.Sound.{W, RefOk, ChunkOk, Sound}
+use Rattle.blorb.specs.Sound.{W, RefOk, ChunkOk, Sound}
 use Rattle.edits.specs.Run.{ArgsOk}
 use Rattle.edits.proofs.Applies.{Applies}
 use Rattle.edits.proofs.FitLaws.{edit-back, edit-sound}

@@ -17,7 +17,7 @@ use Rattle.edits.specs.Edit.{lower, added, replaced, removedBoth, remove
 use Rattle.edits.specs.Starts.{moved, behind, fallen}
 use Rattle.blorb.specs.Queries.{start}
 use Rattle.blorb.specs.All.{All}
-use Rattle.blorb.proofs.Sound.{RefOk, ChunkOk, Sound}
+use Rattle.blorb.specs.Sound.{RefOk, ChunkOk, Sound}
 use Rattle.blorb.proofs.Places.{size-pos}
 use Rattle.edits.proofs.UndoLaws.{length-without, length-remaining, or-false}
 use Rattle.blorb.proofs.ModelLaws.{entries}

@@ -16,7 +16,7 @@ use Rattle.blorb.specs.Model.{Model, base, model, file}
 use Rattle.blorb.specs.Queries.{find, noRef, refAt, chunkAt, without, shared, start}
 use Rattle.blorb.specs.All.{All}
 use Rattle.blorb.proofs.AllLaws.{all-getD, all-take}
-use Rattle.blorb.proofs.Sound.{W, RefOk, Sound}
+use Rattle.blorb.specs.Sound.{W, RefOk, Sound}
 use Rattle.blorb.proofs.Places.{startOf-placeOf}
 use Rattle.blorb.specs.Bytes.{Byte}
 use Rattle.blorb.proofs.Accept.{accept-back}

@@ -16,7 +16,7 @@ use Rattle.blorb.specs.Queries.{find, refAt, start}
 use Rattle.blorb.specs.Lookup.{missing, here, lookup}
 use Rattle.blorb.specs.declared.Usage.{Usage}
 use Rattle.blorb.specs.All.{All}
-use Rattle.blorb.proofs.Sound.{Sound}
+use Rattle.blorb.specs.Sound.{Sound}
 use Rattle.blorb.specs.Bytes.{Byte}
 use Rattle.blorb.proofs.Accept.{accept-back, entryOf-refOf}
 use Rattle.blorb.proofs.ModelLaws.{entries}
