@@ -11,9 +11,7 @@ use Rattle.blorb.proofs.ByteLaws.{length-be32}
 use Rattle.edits.specs.Run.{noted}
 use Rattle.edits.proofs.Noted.{noted-next}
 use Rattle.blorb.specs.Tags.{FORM, IFRS, RIdx}
-use Rattle.blorb.specs.Format.{chunkBytes}
-use Rattle.edits.specs.Edit.{given}
-use Rattle.blorb.proofs.Parts.{front}
+use Rattle.blorb.specs.Format.{chunkBytes, chunkOf, heading}
 use Rattle.edits.specs.Journal.{recBytes, recBody}
 use Rattle.blorb.specs.Little.{little}
 use Rattle.editor.specs.Moves.{low4, turned, startsMoved}
@@ -74,17 +72,17 @@ words b at x y z h =
       append-assoc (be32 x) (be32 y) (be32 z),
     )
 
-pub front-written : (b : List ℕ) (n t : ℕ) → 24 ≤ length b
-    → noted (noted b 0 (be32 FORM ++ (be32 (16 + 12 * n + t) ++ be32 IFRS))) 12 (be32 RIdx ++ (be32 (4 + 12 * n) ++ be32 n)) ≡ noted b 0 (front n t)
-unfolding front
-front-written b n t h =
+pub heading-written : (b : List ℕ) (n t : ℕ) → 24 ≤ length b
+    → noted (noted b 0 (be32 FORM ++ (be32 (16 + 12 * n + t) ++ be32 IFRS))) 12 (be32 RIdx ++ (be32 (4 + 12 * n) ++ be32 n)) ≡ noted b 0 (heading n t)
+unfolding heading
+heading-written b n t h =
     rw (noted-next b 0 12 (be32 FORM ++ (be32 (16 + 12 * n + t) ++ be32 IFRS)) (be32 RIdx ++ (be32 (4 + 12 * n) ++ be32 n))
     (simp (length-append, length-be32)) (simp (length-append, length-be32) (omega arith)))
     (ap (noted b 0) (simp append-assoc))
 
 pub chunk-written : (b : List ℕ) (at t : ℕ) (d : List ℕ) → at + (8 + (length d + length d % 2)) ≤ length b
-    → noted (noted (noted (noted b at (be32 t)) (at + 4) (be32 (length d))) (at + 8) d) (at + 8 + length d) (replicate (length d % 2) 0) ≡ noted b at (chunkBytes (given t d))
-unfolding chunkBytes given
+    → noted (noted (noted (noted b at (be32 t)) (at + 4) (be32 (length d))) (at + 8) d) (at + 8 + length d) (replicate (length d % 2) 0) ≡ noted b at (chunkBytes (chunkOf t d))
+unfolding chunkBytes
 chunk-written b at t d h =
     rw (
       noted-next b at (at + 4) (be32 t) (be32 (length d)) (simp length-be32) (simp length-be32 (omega arith)),

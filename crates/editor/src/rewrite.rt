@@ -5,8 +5,9 @@ ghost use mathlib.Core.Path.{_≡_};
 ghost use Prim.Native.Nat.{_+_, _-_, _*_, _%_, _≤_, _<_};
 ghost use mathlib.Core.List.{[]};
 ghost use lib.ListN.{length, take};
+ghost use Rattle.blorb.specs.Format.{chunkOf};
 ghost use Rattle.blorb.specs.Model.{model, file};
-ghost use Rattle.edits.specs.Edit.{add, removed, replaced, given};
+ghost use Rattle.edits.specs.Edit.{add, removed, replaced};
 ghost use Rattle.blorb.specs.Queries.{refAt};
 ghost use Rattle.edits.specs.Run.{written, editedFile};
 ghost use Rattle.editor.specs.Post.{Stands, closed, resized, Removable, Replaceable, Insertable, goneRec};
@@ -64,7 +65,7 @@ pub(crate) fn remove_bytes(
     shift::shift_left(buf, 36 + 12 * i, start, 12);
     shift::shift_left(buf, start + size, len, 12 + size);
     moves::clear(buf, len - (12 + size), 12 + size);
-    moves::put_front(
+    moves::put_heading(
         buf,
         count as u64 - 1,
         (len - size - (24 + 12 * count)) as u64,
@@ -96,7 +97,7 @@ pub(crate) fn replace_bytes(
 )
     requires { ⌜ Stands (now buf) len count × (Replaceable (now buf) len count i start old × ((len - old + (8 + (length (now d) + length (now d) % 2)) ≤ length (now buf)) ×
         (len - old + (8 + (length (now d) + length (now d) % 2)) ≤ 16777216))) ⌝ }
-    ensures { λ _. ⌜ now (buf .exit) ≡ written (now (buf .entry)) len (file (replaced (model (take len (now (buf .entry)))) (refAt (model (take len (now (buf .entry)))) i .chunk) (given kind (now (d .entry))))) ⌝ }
+    ensures { λ _. ⌜ now (buf .exit) ≡ written (now (buf .entry)) len (file (replaced (model (take len (now (buf .entry)))) (refAt (model (take len (now (buf .entry)))) i .chunk) (chunkOf kind (now (d .entry))))) ⌝ }
 {
     let m = d.len();
     let new = 8 + (m + m % 2);
@@ -113,7 +114,7 @@ pub(crate) fn replace_bytes(
             minus: 0,
         },
     );
-    moves::put_front(
+    moves::put_heading(
         buf,
         count as u64,
         (len - (24 + 12 * count) - old + new) as u64,
@@ -121,7 +122,7 @@ pub(crate) fn replace_bytes(
     moves::put_chunk(buf, start, kind as u64, d);
 }
 
-// The file with a removed entry back at `place` in the index, and its chunk back at `at`.
+// The file with an entry put in at `place` in the index, and its chunk at `at`.
 pub(crate) fn insert_bytes(
     buf: &mut [u8],
     len: usize,
@@ -157,7 +158,7 @@ pub(crate) fn insert_bytes(
     moves::put_words(buf, entry, usage as u64, number as u64, at as u64 + 12);
     moves::put_chunk(buf, at + 12, kind as u64, d);
     let rest = len - (24 + 12 * count) + size;
-    moves::put_front(buf, count as u64 + 1, rest as u64);
+    moves::put_heading(buf, count as u64 + 1, rest as u64);
 }
 
 // The file with a removed entry back at `place` in the index. Its chunk stands, at `at` in the present file.
@@ -188,5 +189,5 @@ pub(crate) fn insert_entry(
     );
     shift::shift_right(buf, entry, len, 12);
     moves::put_words(buf, entry, usage as u64, number as u64, at as u64 + 12);
-    moves::put_front(buf, count as u64 + 1, (len - (24 + 12 * count)) as u64);
+    moves::put_heading(buf, count as u64 + 1, (len - (24 + 12 * count)) as u64);
 }

@@ -12,7 +12,7 @@ ghost use Rattle.blorb.specs.Verdict.{accept, pairIn, indexFault};
 ghost use Rattle.blorb.specs.Format.{isStart, entriesIn};
 ghost use Rattle.blorb.specs.Usages.{codeOf};
 ghost use Rattle.blorb.specs.declared.Usage.the-variants.{Exec};
-ghost use Rattle.reader.specs.Walk.{chunkAt, chunksFrom, walkFrom, verdictOf, Reached};
+ghost use Rattle.reader.specs.Walk.{chunkFrom, chunksFrom, walkFrom, verdictOf, Reached};
 ghost use Rattle.reader.specs.Entries.{startAt, place, typedAt, entryFault, judgedBy, samePair, earlier, usageAt, numberAt, Topped, slotOf, entriesFrom, pairPlace};
 ghost use Rattle.reader.specs.Reading.{hitIn};
 
@@ -30,7 +30,7 @@ pub enum Hit {
 // Refusals 10 and 11: the index's length and count.
 pub(crate) fn shape(s: &[u8]) -> Check
     requires { ⌜ (12 < length (now s)) × (walkFrom (now s) 12 ≡ accept) ⌝ }
-    ensures { λ r. ⌜ verdictOf r ≡ indexFault (chunkAt (now (s .entry)) 12 .body) ⌝ }
+    ensures { λ r. ⌜ verdictOf r ≡ indexFault (chunkFrom (now (s .entry)) 12 .body) ⌝ }
 {
     let m = blorb::be32_at(s, 16);
     if m < 4 {

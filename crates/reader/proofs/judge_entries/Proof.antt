@@ -2,11 +2,11 @@ use denote.Ref.{now}
 use native.Mathlib.Omega.{arith}
 use mathlib.Core.Path.{sym, ap, _∙_}
 use Prim.Native.Nat.{ℕ}
-use Rattle.reader.specs.Plain.{allPlain}
+use Rattle.reader.specs.Ordinary.{allOrdinary}
 use Rattle.reader.specs.Walk.{verdictOf, chunksFrom}
 use Rattle.reader.proofs.ChunkLaws.{fine, walked}
 use Rattle.reader.proofs.Laws.{shaped}
-use Rattle.reader.proofs.ReadLaws.{first-long, is-shaped, is-judged, plain-behind, read-1, read-2, read-3, read-4, read-5, read-6, read-rest}
+use Rattle.reader.proofs.ReadLaws.{first-long, is-shaped, is-judged, ordinary-behind, read-1, read-2, read-3, read-4, read-5, read-6, read-rest}
 use borrow.Author.Needs.{needs}
 use borrow.Author.Needs.{needs}
 use Rattle.reader.proofs.judge_entries.Statement.{statement}
@@ -73,7 +73,7 @@ skip-requires c κs = fine _ 12 (first-long _ (sym (c .before .before .first .en
 
 -- src/lib.rt:97:47
 second-if-requires : tie.Need-second-if-requires
-second-if-requires c κs = (rw (c .skip .ensures) (walked _ 12 (first-long _ (sym (c .before .before .before .first .ensures) ∙ ap verdictOf (c .before .enum-told3 .given .1))) (sym (c .before .before .before .before .before .before .walk .ensures .0) ∙ ap verdictOf (c .before .before .before .before .enum-told2 .given .1))), λ e. ap (λ (x : ℕ). allPlain (chunksFrom (now (c .before .before .before .before .before .before .before .before .before .before .before .args .file)) x)) (c .skip .ensures) ∙ c .before .before .before .before .before .before .walk .ensures .1 e)
+second-if-requires c κs = (rw (c .skip .ensures) (walked _ 12 (first-long _ (sym (c .before .before .before .first .ensures) ∙ ap verdictOf (c .before .enum-told3 .given .1))) (sym (c .before .before .before .before .before .before .walk .ensures .0) ∙ ap verdictOf (c .before .before .before .before .enum-told2 .given .1))), λ e. ap (λ (x : ℕ). allOrdinary (chunksFrom (now (c .before .before .before .before .before .before .before .before .before .before .before .args .file)) x)) (c .skip .ensures) ∙ c .before .before .before .before .before .before .walk .ensures .1 e)
 
 -- src/lib.rt:97:29
 enum-known-number-3 : tie.Need-enum-known-number-3
@@ -122,7 +122,7 @@ enum-told-6 c = search needs
 
 -- src/lib.rt:83:1
 returns-7 : tie.Need-returns-7
-returns-7 c = (is-judged _ (sym (c .before .before .before .before .before .before .before .before .before .before .before .before .before .before .before .before .before .before .before .head .ensures) ∙ ap verdictOf (c .before .before .before .before .before .before .before .before .before .before .before .before .before .before .before .before .before .enum-told .given .1)) (sym (c .before .before .before .before .before .before .before .before .before .before .before .before .before .before .before .before .walk .ensures .0) ∙ ap verdictOf (c .before .before .before .before .before .before .before .before .before .before .before .before .before .before .enum-told2 .given .1)) (sym (c .before .before .before .before .before .before .before .before .before .before .before .before .before .first .ensures) ∙ ap verdictOf (c .before .before .before .before .before .before .before .before .before .before .before .enum-told3 .given .1)) _ (c .before .before .before .before .before .before .before .before .before .before .skip .ensures) (sym (c .before .before .before .before .before .before .before .before .before .second-if .ensures) ∙ ap verdictOf (c .before .before .before .before .before .before .before .enum-told4 .given .1)) (sym (c .before .before .before .before .before .before .shape .ensures) ∙ ap verdictOf (c .before .before .before .before .enum-told5 .given .1)) _ (c .before .before .before .be32-at .ensures .0) (sym (c .before .before .entries .ensures) ∙ ap verdictOf (c .enum-told6 .given .1)), read-rest _ (sym (c .before .before .before .before .before .before .before .before .before .before .before .before .before .before .before .before .before .before .before .head .ensures) ∙ ap verdictOf (c .before .before .before .before .before .before .before .before .before .before .before .before .before .before .before .before .before .enum-told .given .1)) (sym (c .before .before .before .before .before .before .before .before .before .before .before .before .before .before .before .before .walk .ensures .0) ∙ ap verdictOf (c .before .before .before .before .before .before .before .before .before .before .before .before .before .before .enum-told2 .given .1)) (sym (c .before .before .before .before .before .before .before .before .before .before .before .before .before .first .ensures) ∙ ap verdictOf (c .before .before .before .before .before .before .before .before .before .before .before .enum-told3 .given .1)) _ (c .before .before .before .before .before .before .before .before .before .before .skip .ensures) (sym (c .before .before .before .before .before .before .before .before .before .second-if .ensures) ∙ ap verdictOf (c .before .before .before .before .before .before .before .enum-told4 .given .1)) (sym (c .before .before .before .before .before .before .shape .ensures) ∙ ap verdictOf (c .before .before .before .before .enum-told5 .given .1)) _ (c .before .before .before .be32-at .ensures .0) (sym (c .before .before .entries .ensures) ∙ ap verdictOf (c .enum-told6 .given .1)), plain-behind _ (sym (c .before .before .before .before .before .before .before .before .before .before .before .before .before .before .before .before .before .before .before .head .ensures) ∙ ap verdictOf (c .before .before .before .before .before .before .before .before .before .before .before .before .before .before .before .before .before .enum-told .given .1)) (sym (c .before .before .before .before .before .before .before .before .before .before .before .before .before .before .before .before .walk .ensures .0) ∙ ap verdictOf (c .before .before .before .before .before .before .before .before .before .before .before .before .before .before .enum-told2 .given .1)) (sym (c .before .before .before .before .before .before .before .before .before .before .before .before .before .first .ensures) ∙ ap verdictOf (c .before .before .before .before .before .before .before .before .before .before .before .enum-told3 .given .1)) _ (c .before .before .before .before .before .before .before .before .before .before .skip .ensures) (sym (c .before .before .before .before .before .before .before .before .before .second-if .ensures) ∙ ap verdictOf (c .before .before .before .before .before .before .before .enum-told4 .given .1)) (sym (c .before .before .before .before .before .before .shape .ensures) ∙ ap verdictOf (c .before .before .before .before .enum-told5 .given .1)) _ (c .before .before .before .be32-at .ensures .0) _ (c .before .before .before .before .before .before .before .before .before .before .before .before .before .before .before .before .walk .ensures .1))
+returns-7 c = (is-judged _ (sym (c .before .before .before .before .before .before .before .before .before .before .before .before .before .before .before .before .before .before .before .head .ensures) ∙ ap verdictOf (c .before .before .before .before .before .before .before .before .before .before .before .before .before .before .before .before .before .enum-told .given .1)) (sym (c .before .before .before .before .before .before .before .before .before .before .before .before .before .before .before .before .walk .ensures .0) ∙ ap verdictOf (c .before .before .before .before .before .before .before .before .before .before .before .before .before .before .enum-told2 .given .1)) (sym (c .before .before .before .before .before .before .before .before .before .before .before .before .before .first .ensures) ∙ ap verdictOf (c .before .before .before .before .before .before .before .before .before .before .before .enum-told3 .given .1)) _ (c .before .before .before .before .before .before .before .before .before .before .skip .ensures) (sym (c .before .before .before .before .before .before .before .before .before .second-if .ensures) ∙ ap verdictOf (c .before .before .before .before .before .before .before .enum-told4 .given .1)) (sym (c .before .before .before .before .before .before .shape .ensures) ∙ ap verdictOf (c .before .before .before .before .enum-told5 .given .1)) _ (c .before .before .before .be32-at .ensures .0) (sym (c .before .before .entries .ensures) ∙ ap verdictOf (c .enum-told6 .given .1)), read-rest _ (sym (c .before .before .before .before .before .before .before .before .before .before .before .before .before .before .before .before .before .before .before .head .ensures) ∙ ap verdictOf (c .before .before .before .before .before .before .before .before .before .before .before .before .before .before .before .before .before .enum-told .given .1)) (sym (c .before .before .before .before .before .before .before .before .before .before .before .before .before .before .before .before .walk .ensures .0) ∙ ap verdictOf (c .before .before .before .before .before .before .before .before .before .before .before .before .before .before .enum-told2 .given .1)) (sym (c .before .before .before .before .before .before .before .before .before .before .before .before .before .first .ensures) ∙ ap verdictOf (c .before .before .before .before .before .before .before .before .before .before .before .enum-told3 .given .1)) _ (c .before .before .before .before .before .before .before .before .before .before .skip .ensures) (sym (c .before .before .before .before .before .before .before .before .before .second-if .ensures) ∙ ap verdictOf (c .before .before .before .before .before .before .before .enum-told4 .given .1)) (sym (c .before .before .before .before .before .before .shape .ensures) ∙ ap verdictOf (c .before .before .before .before .enum-told5 .given .1)) _ (c .before .before .before .be32-at .ensures .0) (sym (c .before .before .entries .ensures) ∙ ap verdictOf (c .enum-told6 .given .1)), ordinary-behind _ (sym (c .before .before .before .before .before .before .before .before .before .before .before .before .before .before .before .before .before .before .before .head .ensures) ∙ ap verdictOf (c .before .before .before .before .before .before .before .before .before .before .before .before .before .before .before .before .before .enum-told .given .1)) (sym (c .before .before .before .before .before .before .before .before .before .before .before .before .before .before .before .before .walk .ensures .0) ∙ ap verdictOf (c .before .before .before .before .before .before .before .before .before .before .before .before .before .before .enum-told2 .given .1)) (sym (c .before .before .before .before .before .before .before .before .before .before .before .before .before .first .ensures) ∙ ap verdictOf (c .before .before .before .before .before .before .before .before .before .before .before .enum-told3 .given .1)) _ (c .before .before .before .before .before .before .before .before .before .before .skip .ensures) (sym (c .before .before .before .before .before .before .before .before .before .second-if .ensures) ∙ ap verdictOf (c .before .before .before .before .before .before .before .enum-told4 .given .1)) (sym (c .before .before .before .before .before .before .shape .ensures) ∙ ap verdictOf (c .before .before .before .before .enum-told5 .given .1)) _ (c .before .before .before .be32-at .ensures .0) _ (c .before .before .before .before .before .before .before .before .before .before .before .before .before .before .before .before .walk .ensures .1))
 
 pub judge-entries-spec : {M : Type 1} → statement M
 judge-entries-spec =

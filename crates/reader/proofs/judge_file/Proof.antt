@@ -1,7 +1,7 @@
 use mathlib.Core.Path.{sym, ap, _∙_}
 use Rattle.blorb.specs.Verdict.{accept, refuse}
 use Rattle.reader.specs.Walk.{verdictOf}
-use Rattle.reader.proofs.Laws.{plain-optional}
+use Rattle.reader.proofs.Laws.{ordinary-optional}
 use Rattle.reader.proofs.PartLaws.{entries-no, entries-good, rest-is}
 use borrow.Author.Needs.{needs}
 use Rattle.reader.proofs.judge_file.Statement.{statement}
@@ -27,7 +27,7 @@ enum-known-count c = search needs
 returns : tie.Need-returns
 returns c =
     let g = entries-good _ _ _ _ (c .before .before .before .before .judge-entries .ensures) (c .before .before .count .given .1) in
-    (rest-is _ _ accept (g .1) (plain-optional _ _ (g .2 (c .if1 .taken))), g .2)
+    (rest-is _ _ accept (g .1) (ordinary-optional _ _ (g .2 (c .if1 .taken))), g .2)
 
 -- src/lib.rt:127:55
 optional-requires : tie.Need-optional-requires

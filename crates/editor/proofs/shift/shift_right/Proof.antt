@@ -4,7 +4,7 @@ use native.Mathlib.Omega.{arith}
 use borrow.Author.Needs.{needs}
 use lib.ListN.{length}
 use denote.Ref.{now}
-use Rattle.editor.specs.Shift.{moved}
+use Rattle.editor.specs.Shift.{slid}
 use Rattle.editor.proofs.ShiftLaws as laws
 use Rattle.editor.proofs.shift.shift_right.Statement.{statement}
 use Rattle.editor.proofs.shift.shift_right.Tie as tie
@@ -15,7 +15,7 @@ use Rattle.editor.proofs.shift.right_rest.Reads as right-rest-reads
 use Rattle.editor.proofs.shift.store.Reads as store-reads
 
 abbrev Inv-loop : tie.InvT-loop
-Inv-loop buf₀ at len k i₀ buf i = (at ≤ i) × (i ≤ len) × (length buf ≡ length buf₀) × (buf ≡ moved buf₀ (i + k) i (len - i))
+Inv-loop buf₀ at len k i₀ buf i = (at ≤ i) × (i ≤ len) × (length buf ≡ length buf₀) × (buf ≡ slid buf₀ (i + k) i (len - i))
 
 abbrev μ-loop : tie.MeasureT-loop
 μ-loop buf₀ at len k i₀ buf i = i
@@ -24,7 +24,7 @@ abbrev μ-loop : tie.MeasureT-loop
 loop-holds : tie.Need-loop-holds Inv-loop μ-loop
 loop-holds c =
     let a = c .before .args in
-    (search needs, search needs, refl, laws.moved-none (now (a .buf)) (a .len + a .k) (a .len) (a .len - a .len) (omega arith))
+    (search needs, search needs, refl, laws.slid-none (now (a .buf)) (a .len + a .k) (a .len) (a .len - a .len) (omega arith))
 
 -- src/lib.rt:78:19
 sub-loop : tie.Need-sub-loop Inv-loop μ-loop

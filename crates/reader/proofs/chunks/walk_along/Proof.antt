@@ -5,7 +5,7 @@ use Prim.Native.Nat.{_+_, _-_, _≤_}
 use mathlib.Core.Path.{refl, sym, ap, _∙_}
 use mathlib.Core.Bool.{true}
 use lib.ListN.{length}
-use Rattle.reader.specs.Plain.{Along}
+use Rattle.reader.specs.Ordinary.{Along}
 use Rattle.reader.specs.Walk.{verdictOf}
 use Rattle.reader.proofs.ChunkLaws.{chunk-good-header, along-on}
 use Rattle.reader.proofs.chunks.walk_along.Statement.{statement}
@@ -14,7 +14,7 @@ use Rattle.reader.proofs.chunks.walk_along.Reads as reads
 use Rattle.reader.proofs.chunks.walk_along.Lts as lts
 use Rattle.blorb.proofs.be32_at.Reads as be32-at-reads
 use Rattle.reader.proofs.chunks.chunk.Reads as chunk-reads
-use Rattle.reader.proofs.chunks.ordinary.Reads as ordinary-reads
+use Rattle.reader.proofs.chunks.is_ordinary.Reads as is-ordinary-reads
 use Rattle.reader.proofs.chunks.skip.Reads as skip-reads
 
 abbrev Inv-loop : tie.InvT-loop
@@ -59,8 +59,8 @@ be32-at-requires-2 : tie.Need-be32-at-requires-2 Inv-loop μ-loop
 be32-at-requires-2 c κs = omega (arith, chunk-good-header _ _ (c .before .before .before .if1 .left) (sym (c .before .before .chunk .ensures) ∙ ap verdictOf (c .enum-told2 .given .1)))
 
 -- src/chunks.rt:130:13
-ordinary-requires : tie.Need-ordinary-requires Inv-loop μ-loop
-ordinary-requires c κs = search needs
+is-ordinary-requires : tie.Need-is-ordinary-requires Inv-loop μ-loop
+is-ordinary-requires c κs = search needs
 
 -- src/chunks.rt:131:13
 returns-3 : tie.Need-returns-3 Inv-loop μ-loop
@@ -72,7 +72,7 @@ skip-requires c κs = chunk-good-header _ _ (c .before .before .before .before .
 
 -- src/chunks.rt:135:13
 returns-4 : tie.Need-returns-4 Inv-loop μ-loop
-returns-4 c = along-on _ _ _ _ _ _ (c .before .before .before .before .before .before .before .before .if1 .left) (sym (c .before .before .before .before .before .before .before .chunk .ensures) ∙ ap verdictOf (c .before .before .before .before .before .enum-told2 .given .1)) (c .before .before .before .before .be32-at2 .ensures .0) (sym (c .before .before .before .ordinary .ensures) ∙ not-false (c .before .before .before .ordinary .result) (c .before .before .if2 .left)) (c .before .skip .ensures) (c .before .before .before .before .before .before .before .before .before .before .before .loop .inv .0)
+returns-4 c = along-on _ _ _ _ _ _ (c .before .before .before .before .before .before .before .before .if1 .left) (sym (c .before .before .before .before .before .before .before .chunk .ensures) ∙ ap verdictOf (c .before .before .before .before .before .enum-told2 .given .1)) (c .before .before .before .before .be32-at2 .ensures .0) (sym (c .before .before .before .is-ordinary .ensures) ∙ not-false (c .before .before .before .is-ordinary .result) (c .before .before .if2 .left)) (c .before .skip .ensures) (c .before .before .before .before .before .before .before .before .before .before .before .loop .inv .0)
 
 -- src/chunks.rt:138:9
 add-p : tie.Need-add-p Inv-loop μ-loop
@@ -86,7 +86,7 @@ loop-less c = omega (arith, c .before .before .before .before .before .before .b
 loop-again : tie.Need-loop-again Inv-loop μ-loop
 loop-again c = (
   rw (← c .if3 .left)
-      (along-on _ _ _ _ _ _ (c .before .before .before .before .before .before .before .before .if1 .left) (sym (c .before .before .before .before .before .before .before .chunk .ensures) ∙ ap verdictOf (c .before .before .before .before .before .enum-told2 .given .1)) (c .before .before .before .before .be32-at2 .ensures .0) (sym (c .before .before .before .ordinary .ensures) ∙ not-false (c .before .before .before .ordinary .result) (c .before .before .if2 .left)) (c .before .skip .ensures) (c .before .before .before .before .before .before .before .before .before .before .before .loop .inv .0)),
+      (along-on _ _ _ _ _ _ (c .before .before .before .before .before .before .before .before .if1 .left) (sym (c .before .before .before .before .before .before .before .chunk .ensures) ∙ ap verdictOf (c .before .before .before .before .before .enum-told2 .given .1)) (c .before .before .before .before .be32-at2 .ensures .0) (sym (c .before .before .before .is-ordinary .ensures) ∙ not-false (c .before .before .before .is-ordinary .result) (c .before .before .if2 .left)) (c .before .skip .ensures) (c .before .before .before .before .before .before .before .before .before .before .before .loop .inv .0)),
   omega (arith, c .before .before .before .before .before .before .before .before .before .before .loop-test .taken),
 )
 
@@ -109,7 +109,7 @@ walk-along-spec =
     returns-2
     enum-told-2
     be32-at-requires-2
-    ordinary-requires
+    is-ordinary-requires
     returns-3
     skip-requires
     returns-4
