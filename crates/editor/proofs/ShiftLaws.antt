@@ -11,6 +11,10 @@ use Rattle.editor.specs.Shift.{moved}
 pub moved-none : (b : List ℕ) (dst src n : ℕ) → n ≡ 0 → b ≡ moved b dst src n
 moved-none b dst src n e = rw e (paste-zero b dst (drop src b))
 
+-- a part moved to where it stands
+pub moved-onto : (b : List ℕ) (at n : ℕ) → moved b at at n ≡ b
+moved-onto b at n = ap (λ (l : List ℕ). l ++ drop (at + n) b) (sym (take-add at n b)) ∙ take-append-drop (at + n) b
+
 module _ (b : List ℕ) (dst src n : ℕ) (hd : dst + n ≤ length b) (hs : src + n ≤ length b) where
   fits : n ≤ length (drop src b)
   fits = rw length-drop (omega arith)
