@@ -2,12 +2,13 @@
 use mathlib.Core.Path.{_≡_, refl, sym, ap, _∙_}
 use Prim.Native.Nat.{ℕ, suc, _+_, _*_, _-_, _≤_, _<_}
 use mathlib.Core.List.{List, [], _++_, map, append-assoc}
-use mathlib.Core.Bool.{cond}
+use mathlib.Core.Bool.{Bool, true, false, cond}
 use native.Mathlib.Omega.{arith}
 use native.Mathlib.Nat.{add-zero, sub-zero}
 use lib.ListN.{length, take, drop, set, length-append, length-map}
 use lib.Seq.{length-take-le}
 use lib.Dec.{ltb}
+use borrow.Author.Tests.{le-ltb}
 use Rattle.blorb.specs.Format.{Chunk, Entry, size, entriesBytes, chunkBytes, chunksBytes, total, chunkOf, heading}
 use Rattle.blorb.specs.Verdict.{noChunk}
 use Rattle.blorb.specs.Rules.{plainRules}
@@ -29,7 +30,10 @@ use Rattle.edits.proofs.Lengths.{total-put}
 use Rattle.edits.specs.Run.{noted, written}
 use Rattle.editor.specs.Moves.{startsMoved, relocated}
 use Rattle.editor.specs.declared.moves.Move.{Move}
-use Rattle.editor.specs.Post.{Stands, resized, Replaceable}
+use Rattle.editor.specs.Post.{Stands, closed, resized, Replaceable}
+use Rattle.edits.proofs.Noted.{noted-none}
+use Rattle.editor.proofs.ShiftLaws.{slid-onto}
+use Rattle.editor.proofs.MoveLaws.{starts-stay}
 use Rattle.editor.proofs.Content.{written-first, put-written, starts-written, Resized, resized-written}
 use Rattle.editor.proofs.Writes.{file-length}
 use Rattle.editor.proofs.RemoveBytes.{chunks-around}
@@ -40,6 +44,26 @@ relocated-behind m s a b p q r t w = λ i x. all x i
   where
     all : (x : ℕ) → cond (ltb (m .limit) x) (x + m .grow - m .fall) (x + m .plus - m .minus) ≡ behind s a b x
     all x = rw (p, q, r, t, w, add-zero x, sub-zero x)
+
+-- a part of the same size: no start moves, and no byte
+behind-stay : (s a x : ℕ) → behind s a a x ≡ x
+behind-stay s a x = go (ltb s x)
+  where
+    go : (t : Bool) → cond t (x + a - a) x ≡ x
+    go true = omega arith
+    go false = refl
+
+pub starts-kept : (b : List ℕ) (k st old new : ℕ) → old ≡ new → All Byte b → 24 + 12 * k ≤ length b → b ≡ startsMoved (behind st old new) k 24 b
+starts-kept b k st old new e bytes h =
+    sym (ap (λ (a : ℕ). startsMoved (behind st a new) k 24 b) e ∙ starts-stay (behind st new new) (behind-stay st new) k 24 b bytes h)
+
+pub resized-same : (b : List ℕ) (at len old new : ℕ) → old ≡ new → b ≡ resized b at len old new
+unfolding resized closed
+resized-same b at len old new e =
+    let z : new - new ≡ 0 = omega arith in
+    let n : at + new + 0 ≡ at + new = omega arith in
+    let m : at + new - 0 ≡ at + new = omega arith in
+    sym (ap (λ (a : ℕ). resized b at len a new) e ∙ rw (le-ltb new new (omega arith), z, n, m, slid-onto b (at + new) (len - (at + new))) (noted-none b (len - 0)))
 
 seam : (a b c d : List ℕ) → a ++ (b ++ (c ++ d)) ≡ (a ++ (b ++ c)) ++ d
 seam a b c d = simp append-assoc

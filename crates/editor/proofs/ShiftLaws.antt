@@ -1,4 +1,4 @@
--- Laws of `moved`: nothing moved, its length, its elements outside the part, and a turn of each loop.
+-- Laws of `slid`: nothing moved, its length, its elements outside the part, and a turn of each loop.
 use Prim.Native.Nat.{ℕ, zero, suc, _+_, _-_, _≤_, _<_}
 use mathlib.Core.Path.{_≡_, ap, sym, _∙_}
 use mathlib.Core.List.{List, [], _∷_, _++_, append-assoc}
@@ -10,6 +10,10 @@ use Rattle.editor.specs.Shift.{slid}
 
 pub slid-none : (b : List ℕ) (dst src n : ℕ) → n ≡ 0 → b ≡ slid b dst src n
 slid-none b dst src n e = rw e (paste-zero b dst (drop src b))
+
+-- a part moved to where it stands
+pub slid-onto : (b : List ℕ) (at n : ℕ) → slid b at at n ≡ b
+slid-onto b at n = ap (λ (l : List ℕ). l ++ drop (at + n) b) (sym (take-add at n b)) ∙ take-append-drop (at + n) b
 
 module _ (b : List ℕ) (dst src n : ℕ) (hd : dst + n ≤ length b) (hs : src + n ≤ length b) where
   fits : n ≤ length (drop src b)

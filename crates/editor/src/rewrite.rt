@@ -12,6 +12,8 @@ ghost use Rattle.blorb.specs.Queries.{refAt};
 ghost use Rattle.edits.specs.Run.{written, editedFile};
 ghost use Rattle.editor.specs.Post.{Stands, closed, resized, Removable, Replaceable, Insertable, goneRec};
 ghost use Rattle.edits.specs.Journal.{undo3, undo4};
+ghost use Rattle.edits.specs.Starts.{behind};
+ghost use Rattle.editor.specs.Moves.{startsMoved};
 
 // The file with the new entry and chunk, written over the present one, which is accepted and has `count` entries: both go in at their ends.
 pub(crate) fn add_bytes(
@@ -77,11 +79,36 @@ pub(crate) fn resize(buf: &mut [u8], at: usize, len: usize, old: usize, new: usi
     requires { ⌜ (at + old ≤ len) × ((len ≤ length (now buf)) × (len + (new - old) ≤ length (now buf))) ⌝ }
     ensures { λ _. ⌜ now (buf .exit) ≡ resized (now (buf .entry)) at len old new ⌝ }
 {
+    if old == new {
+        return;
+    }
     if old < new {
         shift::shift_right(buf, at + old, len, new - old);
         return;
     }
     close_gap(buf, at + new, len, old - new);
+}
+
+// The starts behind `start` move by what the part there grows or shrinks from `old` to `new` bytes.
+fn move_behind(buf: &mut [u8], count: usize, start: usize, old: usize, new: usize)
+    requires { ⌜ (24 + 12 * count ≤ length (now buf)) × ((start < 4294967296) × ((old < 4294967296) × (new < 4294967296))) ⌝ }
+    ensures { λ _. ⌜ now (buf .exit) ≡ startsMoved (behind start old new) count 24 (now (buf .entry)) ⌝ }
+{
+    if old == new {
+        return;
+    }
+    moves::move_starts(
+        buf,
+        24,
+        count,
+        moves::Move {
+            limit: start as u32,
+            grow: new as u32,
+            fall: old as u32,
+            plus: 0,
+            minus: 0,
+        },
+    );
 }
 
 // The file with another chunk in the place of entry `i`'s own, which has `old` bytes at `start`.
@@ -102,18 +129,7 @@ pub(crate) fn replace_bytes(
     let m = d.len();
     let new = 8 + (m + m % 2);
     resize(buf, start, len, old, new);
-    moves::move_starts(
-        buf,
-        24,
-        count,
-        moves::Move {
-            limit: start as u32,
-            grow: new as u32,
-            fall: old as u32,
-            plus: 0,
-            minus: 0,
-        },
-    );
+    move_behind(buf, count, start, old, new);
     moves::put_heading(
         buf,
         count as u64,

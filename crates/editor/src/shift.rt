@@ -95,8 +95,8 @@ fn copy_rest(buf: &mut [u8], at: usize, d: &[u8], from: usize)
     }
 }
 
-// The bytes from `at` up to `len` go `k` further right. All others stay.
-pub(crate) fn shift_right(buf: &mut [u8], at: usize, len: usize, k: usize)
+// The bytes from `at` up to `len` go `k` further right, by blocks.
+fn right_blocks(buf: &mut [u8], at: usize, len: usize, k: usize)
     requires { ⌜ (at ≤ len) × (len + k ≤ length (now buf)) ⌝ }
     ensures { λ _. ⌜ now (buf .exit) ≡ slid (now (buf .entry)) (at + k) at (len - at) ⌝ }
 {
@@ -109,8 +109,8 @@ pub(crate) fn shift_right(buf: &mut [u8], at: usize, len: usize, k: usize)
     right_rest(buf, at, i, k);
 }
 
-// The bytes from `at` up to `len` go `k` further left. All others stay.
-pub(crate) fn shift_left(buf: &mut [u8], at: usize, len: usize, k: usize)
+// The bytes from `at` up to `len` go `k` further left, by blocks.
+fn left_blocks(buf: &mut [u8], at: usize, len: usize, k: usize)
     requires { ⌜ (k ≤ at) × ((at ≤ len) × (len ≤ length (now buf))) ⌝ }
     ensures { λ _. ⌜ now (buf .exit) ≡ slid (now (buf .entry)) (at - k) at (len - at) ⌝ }
 {
@@ -121,6 +121,34 @@ pub(crate) fn shift_left(buf: &mut [u8], at: usize, len: usize, k: usize)
         i += 1024;
     }
     left_rest(buf, i, len, k);
+}
+
+// The bytes from `at` up to `len` go `k` further right, by pages. All others stay.
+pub(crate) fn shift_right(buf: &mut [u8], at: usize, len: usize, k: usize)
+    requires { ⌜ (at ≤ len) × (len + k ≤ length (now buf)) ⌝ }
+    ensures { λ _. ⌜ now (buf .exit) ≡ slid (now (buf .entry)) (at + k) at (len - at) ⌝ }
+{
+    let mut i = len;
+    while 4096 <= i - at {
+        i -= 4096;
+        let t = load_page(buf, i);
+        store_page(buf, i + k, t);
+    }
+    right_blocks(buf, at, i, k);
+}
+
+// The bytes from `at` up to `len` go `k` further left, by pages. All others stay.
+pub(crate) fn shift_left(buf: &mut [u8], at: usize, len: usize, k: usize)
+    requires { ⌜ (k ≤ at) × ((at ≤ len) × (len ≤ length (now buf))) ⌝ }
+    ensures { λ _. ⌜ now (buf .exit) ≡ slid (now (buf .entry)) (at - k) at (len - at) ⌝ }
+{
+    let mut i = at;
+    while 4096 <= len - i {
+        let t = load_page(buf, i);
+        store_page(buf, i - k, t);
+        i += 4096;
+    }
+    left_blocks(buf, i, len, k);
 }
 
 // The data at `at`, by blocks.
