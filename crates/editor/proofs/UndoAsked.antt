@@ -28,9 +28,16 @@ use Rattle.editor.specs.declared.undoing.Undoing.{Undoing}
 use Rattle.editor.specs.declared.undoing.Undoing.the-variants.{Not}
 use Rattle.editor.specs.LastRecord.{numbersOf, lastOf}
 use Rattle.reader.specs.Inspecting.{factsOf, inspectionOf}
-use Rattle.editor.specs.UndoPlan.{goOf, undoingOf, undoPlan, fitting, fittingPlan, roomyBy, roomy, numbersIn, UndoReady, ChunkInside, addedPlan, replacedPlan, removedPlan, unlistedPlan}
+use Rattle.editor.specs.UndoPlan.{goOf, undoingOf, undoPlan, fitting, fittingPlan, roomyBy, roomy, numbersIn, askedAt, UndoReady, ChunkInside, addedPlan, replacedPlan, removedPlan, unlistedPlan}
 use Rattle.editor.proofs.LastRead.{Ends, good-ends, last-bad}
 use Rattle.editor.proofs.UndoFits.{fits-added, fits-replaced, fits-removed, fits-unlisted, begins-there}
+
+-- where the reader is asked, by the record's kind
+pub asked-none : (r : Record) → r .kind < 3 → 0 ≡ askedAt r
+asked-none r h = rw (lt-leb 3 (r .kind) h)
+
+pub asked-start : (r : Record) → 3 ≤ r .kind → r .start - 12 ≡ askedAt r
+asked-start r h = rw (le-leb 3 (r .kind) h)
 
 -- a well-formed record, by its kind
 module _ (b : List ℕ) (l : ℕ) (j : List ℕ) (u : ℕ) (r : Record) (t : Facts) (a : UndoReady b l j u r t) where
@@ -49,8 +56,15 @@ module _ (b : List ℕ) (l : ℕ) (j : List ℕ) (u : ℕ) (r : Record) (t : Fac
   pub file-is : l ≡ length (take l b)
   file-is = sym (length-take-le l b (a .inside))
 
-  facts-are : t ≡ factsOf (model (take l b)) (lastRec (take u j) .usage) (lastRec (take u j) .number) (lastRec (take u j) .start - 12)
-  facts-are = a .facts-are ∙ (λ i. factsOf (model (take l b)) (numbers i .usage) (numbers i .number) (numbers i .start - 12))
+  -- what the reader tells: enough for kinds 1 and 2, whose plans don't depend on the offset
+  facts-are : t ≡ factsOf (model (take l b)) (lastRec (take u j) .usage) (lastRec (take u j) .number) (askedAt (numbersOf (lastRec (take u j))))
+  facts-are = a .facts-are ∙ (λ i. factsOf (model (take l b)) (numbers i .usage) (numbers i .number) (askedAt (numbers i)))
+
+  -- kinds 3 and 4: asked about the record's start less 12
+  start-facts : 3 ≤ r .kind → t ≡ factsOf (model (take l b)) (lastRec (take u j) .usage) (lastRec (take u j) .number) (lastRec (take u j) .start - 12)
+  start-facts h =
+      a .facts-are ∙ ap (λ (z : ℕ). factsOf (model (take l b)) (r .usage) (r .number) z) (sym (asked-start r h))
+      ∙ (λ i. factsOf (model (take l b)) (numbers i .usage) (numbers i .number) (numbers i .start - 12))
 
   kind-is : (k : ℕ) → r .kind ≡ k → lastRec (take u j) .kind ≡ k
   kind-is k h = ap (λ (z : Record). z .kind) (ends .numbers) ∙ h
@@ -76,15 +90,16 @@ module _ (b : List ℕ) (l : ℕ) (j : List ℕ) (u : ℕ) (r : Record) (t : Fac
       → x ≡ removedPlan t l r (take (u - 4 - (u - 4 - r .length)) (drop (u - 4 - r .length) j)) → x ≡ fittingPlan (take l b) (take u j)
   asked-removed x n1 n4 n2 e =
       let h : r .kind ≡ 3 = omega (arith, ends .kind-low, ends .kind-high) in
-      e ∙ (λ i. removedPlan (facts-are i) (file-is i) (numbers i) (body-is i)) ∙ fits-removed (take l b) (take u j) file-facts (a .bytes) (kind-is 3 h)
+      e ∙ (λ i. removedPlan (start-facts (omega arith) i) (file-is i) (numbers i) (body-is i)) ∙ fits-removed (take l b) (take u j) file-facts (a .bytes) (kind-is 3 h)
 
   pub asked-unlisted : (x : Undoing) → r .kind ≡ 4 → x ≡ unlistedPlan t (take l b) r → x ≡ fittingPlan (take l b) (take u j)
   asked-unlisted x h e =
-      e ∙ (λ i. unlistedPlan (facts-are i) (take l b) (numbers i)) ∙ fits-unlisted (take l b) (take u j) file-facts (a .bytes) (kind-is 4 h)
+      e ∙ (λ i. unlistedPlan (start-facts (omega arith) i) (take l b) (numbers i)) ∙ fits-unlisted (take l b) (take u j) file-facts (a .bytes) (kind-is 4 h)
 
-  pub asked-begins : (length (take l b) ≤ 16777216) × ChunkInside (t .begins) (take l b) (r .start - 12)
-  asked-begins =
-      (omega (arith, file-is, a .short), subst (λ (z : Facts × Record). ChunkInside (z .0 .begins) (take l b) (z .1 .start - 12)) (λ i. (sym facts-are i, sym numbers i)) (begins-there (take l b) (take u j) file-facts (a .bytes)))
+  pub asked-begins : r .kind ≡ 4 → (length (take l b) ≤ 16777216) × ChunkInside (t .begins) (take l b) (r .start - 12)
+  asked-begins h =
+      let k : 3 ≤ r .kind = omega arith in
+      (omega (arith, file-is, a .short), subst (λ (z : Facts × Record). ChunkInside (z .0 .begins) (take l b) (z .1 .start - 12)) (λ i. (sym (start-facts k) i, sym numbers i)) (begins-there (take l b) (take u j) file-facts (a .bytes)))
 
 -- the last record's numbers tell whether it is well formed
 good-numbers : (w : Last) (r : Record) → r ≡ numbersIn w → (r .kind ≡ 0 → ⊥) → w ≡ Good r
@@ -187,7 +202,7 @@ module _ (b : List ℕ) (l : ℕ) (j : List ℕ) (u : ℕ) where
               ∙ planned accept (check fit 21 0 then check (leb (length (undoneFile (take l b) (take u j))) (length b)) 24 0) (read-fine .0)
               (accepts accept behind refl ∙ behind-fit n (good-ends j u r hu good .formed))
 
-          pub asked : All Byte b → All Byte j → x ≡ r .usage → y ≡ r .number → z ≡ r .start - 12 → UndoReady b l j u r t
+          pub asked : All Byte b → All Byte j → x ≡ r .usage → y ≡ r .number → z ≡ askedAt r → UndoReady b l j u r t
           unfolding plainVerdict
           asked bb bj ex ey ez =
               let fine : verdict plainRules (take l b) ≡ accept = read-fine .0 in

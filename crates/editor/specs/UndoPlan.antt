@@ -2,7 +2,7 @@
 use mathlib.Core.Path.{_≡_}
 use Prim.Native.Nat.{ℕ, _+_, _-_, _≤_}
 use mathlib.Core.List.{List}
-use mathlib.Core.Bool.{Bool, true, false, _&&_, _||_, not}
+use mathlib.Core.Bool.{Bool, true, false, cond, _&&_, _||_, not}
 use lib.ListN.{length, take, drop}
 use lib.Dec.{eqb, leb, ltb}
 use Rattle.blorb.specs.Bytes.{rd32}
@@ -74,6 +74,10 @@ abbrev pub numbersIn : Last → Record
 numbersIn (Good r) = r
 numbersIn Bad = record { kind = 0; usage = 0; number = 0; place = 0; start = 0; sort = 0; length = 0 }
 
+-- the offset that the reader is asked about: only an undo of kinds 3 and 4 wants to know whether a chunk begins there
+abbrev pub askedAt : Record → ℕ
+askedAt r = cond (leb 3 (r .kind)) (r .start - 12) 0
+
 -- the well-formed last record r of the first u journal bytes, and what the reader tells of the accepted file in the first l bytes
 pub record UndoReady (b : List ℕ) (l : ℕ) (j : List ℕ) (u : ℕ) (r : Record) (t : Facts) : Type 0 where
   pub inside : l ≤ length b
@@ -83,7 +87,7 @@ pub record UndoReady (b : List ℕ) (l : ℕ) (j : List ℕ) (u : ℕ) (r : Reco
   pub fine : verdict plainRules (take l b) ≡ accept
   pub bytes : All Byte (take u j)
   pub last : lastOf (take u j) ≡ Good r
-  pub facts-are : t ≡ factsOf (model (take l b)) (r .usage) (r .number) (r .start - 12)
+  pub facts-are : t ≡ factsOf (model (take l b)) (r .usage) (r .number) (askedAt r)
 
 -- the pair is that of the frontispiece's picture
 abbrev pub frontIs : Front → ℕ → ℕ → Bool

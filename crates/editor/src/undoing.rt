@@ -22,7 +22,7 @@ ghost use Rattle.edits.specs.Run.{written, undoneFile};
 ghost use Rattle.blorb.specs.Format.{sizeOf};
 ghost use Rattle.editor.specs.LastRecord.{lastOf};
 ghost use Rattle.editor.specs.declared.undoing.Undoing.the-variants.{Go};
-ghost use Rattle.editor.specs.UndoPlan.{undoPlan, fittingPlan, roomy, numbersIn, UndoReady, frontIs, entryFine, ChunkInside, fitsAdded, addedPlan, fitsReplaced, oldFine, replacedPlan, fitsRemoved, removedPlan, unlistedPlan};
+ghost use Rattle.editor.specs.UndoPlan.{undoPlan, fittingPlan, roomy, numbersIn, askedAt, UndoReady, frontIs, entryFine, ChunkInside, fitsAdded, addedPlan, fitsReplaced, oldFine, replacedPlan, fitsRemoved, removedPlan, unlistedPlan};
 
 // What an undo goes on with: the file has `count` entries; the record's chunk stands, or goes in, at `at` and has `size` bytes
 // now; the file has `to` bytes after it.
@@ -319,6 +319,16 @@ fn last_numbers(jrn: &[u8], used: usize) -> Record
     }
 }
 
+// The offset to ask the reader about. Kinds 1 and 2 need none, and 0 spares the reader the walk to it.
+fn asked_offset(r: Record) -> usize
+    ensures { λ x. ⌜ x ≡ askedAt r ⌝ }
+{
+    if r.kind < 3 {
+        return 0;
+    }
+    less(r.start as usize, 12)
+}
+
 // An undo's refusal, or how it goes on.
 pub(crate) fn undo_plan(buf: &[u8], len: usize, jrn: &[u8], used: usize) -> Undoing
     ensures { λ r. ⌜ r ≡ undoPlan (now (buf .entry)) len (now (jrn .entry)) used ⌝ }
@@ -336,7 +346,7 @@ pub(crate) fn undo_plan(buf: &[u8], len: usize, jrn: &[u8], used: usize) -> Undo
         };
     }
     let r = last_numbers(jrn, used);
-    match reader::inspect(&buf[..len], r.usage, r.number, less(r.start as usize, 12)) {
+    match reader::inspect(&buf[..len], r.usage, r.number, asked_offset(r)) {
         Inspection::Refused { number, place } => Undoing::Not { number, place },
         Inspection::Whole(facts) => {
             if used == 0 {
