@@ -15,7 +15,7 @@ use Rattle.blorb.specs.Verdict.{Rules, Verdict, accept, refuse, _then_, check, 
 use Rattle.blorb.specs.Rules.{plainAllows, optional, plainRules}
 use Rattle.blorb.specs.Tags.{Pict, Snd, Data, Exec}
 use Rattle.blorb.specs.Model.{Model, base, file, model}
-use Rattle.edits.specs.Edit.{Edit, add, added, edited, givenChunk}
+use Rattle.edits.specs.Edit.{Edit, add, added, edited}
 use Rattle.blorb.specs.Queries.{find}
 use Rattle.blorb.specs.All.{All}
 use Rattle.blorb.specs.Sound.{W, RefOk, Sound}

@@ -19,10 +19,10 @@ use Rattle.blorb.specs.Sound.{W, Sound}
 use Rattle.blorb.proofs.Checks.{then-accept, check-accept, pass}
 use Rattle.blorb.proofs.ModelLaws.{length-file, size-getD}
 use Rattle.blorb.proofs.VerdictLaws.{refsFault, modelFault}
-use Rattle.edits.specs.Edit.{replace, edited, replaced, givenChunk}
+use Rattle.edits.specs.Edit.{replaced}
 use Rattle.edits.specs.Run.{accepted}
 use Rattle.edits.proofs.AddVerdict.{second-any, then-end}
-use Rattle.edits.proofs.FitLaws.{edit-sound, find-pair}
+use Rattle.edits.proofs.FitLaws.{replaced-sound, find-pair}
 use Rattle.edits.proofs.Lengths.{length-replaced}
 use Rattle.edits.proofs.ReplaceVerdict.{refs-replaced}
 use Rattle.edits.proofs.RuleSeven.{plain-plain}
@@ -71,14 +71,13 @@ module _ (m : Model) (u n t : ℕ) (d : List ℕ) (s : Sound m) (ok : modelFault
       let there = chunk-in m place s h in
       omega (arith, length-replaced m own (chunkOf t d) there, size-getD (m .chunks) own noChunk there, length-file m)
 
-  pub replaced-accepted : u < W → n < W → t < W → accepted (verdict plainRules (file (replaced m own (chunkOf t d))))
+  pub replaced-accepted : t < W → accepted (verdict plainRules (file (replaced m own (chunkOf t d))))
       ≡ (leb (length (file m) - size (chunkAt m own) + size (chunkOf t d)) 16777216 && (not (eqb t RIdx) && (plainAllows u (chunkOf t d) && not (isFront (m .chunks) u n && eqb t Rect))))
-  unfolding edited givenChunk
-  replaced-accepted hu hn ht =
+  replaced-accepted ht =
       let p = model-parts m ok in
       let there = chunk-in m place s h in
       let x : Model = replaced m own (chunkOf t d) in
-      let sd : Sound x = edit-sound m (replace u n t d) s (hu, hn, ht) (h, alone) in
+      let sd : Sound x = replaced-sound m own (chunkOf t d) s (record { type-fits = ht }) in
       let a : accepted (secondIndex (base (length (x .refs))) (x .chunks)) ≡ not (eqb t RIdx)
       = (unfold replaced in second-set (base (length (m .refs))) (base (length (m .refs))) (m .chunks) own (chunkOf t d) there (p .no-second)) in
       let few : length (x .refs) ≤ 4096 = (unfold replaced in p .few) in

@@ -13,9 +13,9 @@ use Rattle.blorb.specs.Verdict.{accept, noChunk, verdict}
 use Rattle.blorb.specs.Tags.{Rect}
 use Rattle.blorb.specs.Rules.{plainAllows, picture, plainRules}
 use Rattle.blorb.specs.Model.{Model, base, model, file}
-use Rattle.blorb.specs.Queries.{find, noRef, refAt, chunkAt, without, shared, start}
+use Rattle.blorb.specs.Queries.{find, refAt, chunkAt, without, shared, start}
 use Rattle.blorb.specs.All.{All}
-use Rattle.blorb.proofs.AllLaws.{all-getD, all-take}
+use Rattle.blorb.proofs.AllLaws.{all-take}
 use Rattle.blorb.specs.Sound.{W, RefOk, Sound}
 use Rattle.blorb.proofs.Places.{startOf-placeOf}
 use Rattle.blorb.specs.Bytes.{Byte}
@@ -150,13 +150,10 @@ module _ (r : Rec) (m : Model) (s : Sound m) (ok : modelFault plainRules m ≡ a
   undo2-accepted ht =
       let f = fits2-facts r m fit in
       let e : find (r .usage) (r .number) (m .refs) ≡ r .place = found-at r m ok (f .inside) (f .usage-is) (f .number-is) in
-      let g : RefOk (length (m .chunks)) (refAt m (r .place)) = all-getD (RefOk (length (m .chunks))) (m .refs) (r .place) noRef (s .refs-ok) (f .inside) in
-      let hu : r .usage < W = omega (arith, g .usage-fits, f .usage-is) in
-      let hn : r .number < W = omega (arith, g .number-fits, f .number-is) in
       let h : find (r .usage) (r .number) (m .refs) < length (m .refs) = rw e (f .inside) in
       let al : shared m (find (r .usage) (r .number) (m .refs)) ≡ false = rw e (f .alone) in
       ap (λ (i : ℕ). accepted (verdict plainRules (file (replaced m (refAt m i .chunk) (oldChunk r))))) (sym e)
-      ∙ replaced-accepted m (r .usage) (r .number) (r .type) (r .body) s ok h al hu hn ht
+      ∙ replaced-accepted m (r .usage) (r .number) (r .type) (r .body) s ok h al ht
       ∙ ap (λ (i : ℕ). leb (length (file m) - size (chunkAt m (refAt m i .chunk)) + size (oldChunk r)) 16777216
       && (not (eqb (r .type) RIdx) && (plainAllows (r .usage) (oldChunk r) && not (isFront (m .chunks) (r .usage) (r .number) && eqb (r .type) Rect)))) e
 

@@ -18,7 +18,9 @@ use Rattle.blorb.specs.declared.Usage.{Usage}
 use Rattle.blorb.specs.All.{All}
 use Rattle.blorb.specs.Sound.{Sound}
 use Rattle.blorb.specs.Bytes.{Byte}
+use Rattle.blorb.specs.Keeps.{KeepsRules}
 use Rattle.blorb.proofs.Accept.{accept-back, entryOf-refOf}
+use Rattle.blorb.proofs.Exactly.{exactly}
 use Rattle.blorb.proofs.ModelLaws.{entries}
 use Rattle.reader.specs.Walk.{chunkFrom, chunksFrom}
 use Rattle.reader.specs.Entries.{place, entriesFrom, earlier}
@@ -60,6 +62,14 @@ accepted-when f h =
     let g = good f h in
     let m : length (indexOf f) ≡ length (model f .refs) = g .many ∙ sym (rw (g .model) (refs-count f (rd32 (drop 20 f)))) in
     rw h (ap (Accepted (length f)) m)
+
+-- the reader accepts a file exactly when it keeps 01's rules
+pub accepts-exactly : (f : List ℕ) → All Byte f
+    → ((l n : ℕ) → readOf f ≡ Accepted l n → KeepsRules plainRules f) × (KeepsRules plainRules f → readOf f ≡ Accepted (length f) (length (model f .refs)))
+unfolding plainVerdict
+accepts-exactly f bytes =
+    let e = exactly plainRules f bytes in
+    (λ l n r. e .0 (accepted-is f l n r .2), λ k. accepted-when f (e .1 k))
 
 -- the reader refuses exactly as the verdict does
 pub refused-is : (f : List ℕ) (k p : ℕ) → (readOf f ≡ Refused k p → plainVerdict f ≡ refuse k p) × (plainVerdict f ≡ refuse k p → readOf f ≡ Refused k p)
