@@ -14,11 +14,11 @@ use Rattle.blorb.proofs.ByteLaws.{length-be32, be32-rd32}
 use Rattle.blorb.specs.Format.{Ref, refOf, Chunk, Entry, size, sized, total, chunkBytes, chunksBytes, fileBytes, chunkIn, chunksIn, chunksOf, entryIn, entriesIn, entryBytes, entriesBytes, indexChunk, entriesOf, isStart, placeOf}
 use Rattle.blorb.specs.Tags.{tag, FORM, IFRS, RIdx}
 use Rattle.blorb.specs.Verdict.{Rules, Verdict, accept, refuse, _then_, check, headFault, chunkFault, walkFault, secondIndex, indexFault, refFault, entriesFault, restFault, layoutFault, verdict, knownUsage, pairIn, noChunk}
-use Rattle.blorb.specs.Model.{Model, base, startAt, entryOf, file, model, modelOf}
+use Rattle.blorb.specs.Model.{Model, base, startOf, entryOf, file, model, modelOf}
 use Rattle.blorb.specs.All.{All}
 use Rattle.blorb.proofs.AllLaws.{all-take, all-drop, all-imp}
-use Rattle.blorb.proofs.Sound.{W, ChunkOk, RefOk, Sound}
-use Rattle.blorb.proofs.Places.{size-pos, startAt-placeOf}
+use Rattle.blorb.specs.Sound.{W, ChunkOk, RefOk, Sound}
+use Rattle.blorb.proofs.Places.{size-pos, startOf-placeOf}
 use Rattle.blorb.proofs.Checks.{then-accept, check-accept, and-both}
 use Rattle.blorb.proofs.Codec.{length-chunksBytes}
 
@@ -169,7 +169,7 @@ pub entryOf-refOf : (at : ℕ) (cs : List Chunk) (es : List Entry) → All (λ e
 unfolding refOf entryOf
 entryOf-refOf at cs [] ok = refl
 entryOf-refOf at cs (e ∷ es) ok =
-    λ i. record { usage = e .usage; number = e .number; start = startAt-placeOf (e .start) at cs (ok .0) .0 i } ∷ entryOf-refOf at cs es (ok .1) i
+    λ i. record { usage = e .usage; number = e .number; start = startOf-placeOf (e .start) at cs (ok .0) .0 i } ∷ entryOf-refOf at cs es (ok .1) i
 
 pub record EntryRead (e : Entry) : Type 0 where
   pub usage-small : e .usage < W
@@ -185,7 +185,7 @@ refs-ok : (at : ℕ) (cs : List Chunk) (es : List Entry) → All EntryRead es �
 unfolding refOf
 refs-ok at cs [] h k = tt
 refs-ok at cs (e ∷ es) h k =
-    (record { usage-fits = h .0 .usage-small; number-fits = h .0 .number-small; chunk-there = startAt-placeOf (e .start) at cs (k .0) .1 }, refs-ok at cs es (h .1) (k .1))
+    (record { usage-fits = h .0 .usage-small; number-fits = h .0 .number-small; chunk-there = startOf-placeOf (e .start) at cs (k .0) .1 }, refs-ok at cs es (h .1) (k .1))
 
 -- the whole file
 module _ (R : Rules) where

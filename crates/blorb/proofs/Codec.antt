@@ -13,7 +13,7 @@ use Rattle.blorb.specs.Tags.{FORM, IFRS, RIdx}
 use Rattle.blorb.specs.Format.{Chunk, Entry, size, sized, total, chunkBytes, chunksBytes, fileBytes, chunkIn, chunksIn, chunksOf, entryIn, entriesIn, entryBytes, entriesBytes, indexChunk, entriesOf, isStart, placeOf}
 use Rattle.blorb.specs.All.{All}
 use Rattle.blorb.proofs.Places.{size-pos, body-size}
-use Rattle.blorb.proofs.Sound.{W, ChunkOk, RefOk, Sound}
+use Rattle.blorb.specs.Sound.{W, ChunkOk, RefOk, Sound}
 
 pub length-chunkBytes : (c : Chunk) → length (chunkBytes c) ≡ size c
 unfolding chunkBytes size sized

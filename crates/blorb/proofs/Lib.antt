@@ -1,11 +1,11 @@
 pub mod ByteLaws
 pub mod AllLaws
-pub mod Sound
 pub mod Places
 pub mod Codec
 pub mod ModelLaws
 pub mod Checks
 pub mod Accept
 pub mod VerdictLaws
+pub mod Exactly
 pub mod Parts
 pub mod UsageLaws

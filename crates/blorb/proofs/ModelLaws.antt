@@ -9,11 +9,11 @@ use Rattle.blorb.specs.Bytes.{be32, rd32}
 use Rattle.blorb.proofs.ByteLaws.{length-be32}
 use Rattle.blorb.specs.Format.{Ref, refOf, Chunk, Entry, size, sized, total, fileBytes, chunksOf, entriesBytes, indexChunk, entriesOf, placeOf}
 use Rattle.blorb.specs.Tags.{RIdx}
-use Rattle.blorb.specs.Model.{Model, base, startAt, entryOf, file, model, modelOf}
+use Rattle.blorb.specs.Model.{Model, base, startOf, entryOf, file, model, modelOf}
 use Rattle.blorb.specs.All.{All}
 use Rattle.blorb.proofs.AllLaws.{all-map}
-use Rattle.blorb.proofs.Sound.{W, ChunkOk, RefOk, Sound}
-use Rattle.blorb.proofs.Places.{size-pos, placeOf-startAt}
+use Rattle.blorb.specs.Sound.{W, ChunkOk, RefOk, Sound}
+use Rattle.blorb.proofs.Places.{size-pos, placeOf-startOf}
 use Rattle.blorb.proofs.Codec.{EntryOk, length-fileBytes, length-entriesBytes, chunksOf-fileBytes, entriesOf-indexChunk}
 
 pub size-index : (es : List Entry) → size (indexChunk es) ≡ 12 + 12 * length es
@@ -42,7 +42,7 @@ length-file m = simp (length-fileBytes, size-index, length-map) (omega arith)
 
 pub refOf-entryOf1 : (at : ℕ) (cs : List Chunk) (r : Ref) → RefOk (length cs) r → refOf at cs (entryOf at cs r) ≡ r
 unfolding refOf entryOf
-refOf-entryOf1 at cs r ok = λ i. record { usage = r .usage; number = r .number; chunk = placeOf-startAt at cs (r .chunk) (le-of-lt (ok .chunk-there)) i }
+refOf-entryOf1 at cs r ok = λ i. record { usage = r .usage; number = r .number; chunk = placeOf-startOf at cs (r .chunk) (le-of-lt (ok .chunk-there)) i }
 
 pub refOf-entryOf : (at : ℕ) (cs : List Chunk) (rs : List Ref) → All (RefOk (length cs)) rs → map (refOf at cs) (map (entryOf at cs) rs) ≡ rs
 unfolding refOf entryOf
@@ -52,7 +52,7 @@ refOf-entryOf at cs (r ∷ rs) ok =
 
 module _ (m : Model) (s : Sound m) (small : length (file m) < W) where
   pub entries-ok : All EntryOk (entries m)
-  unfolding entryOf startAt
+  unfolding entryOf startOf
   entries-ok = all-map (RefOk (length (m .chunks))) EntryOk (entryOf (base (length (m .refs))) (m .chunks))
       (λ r ok. record { usage-fits = ok .usage-fits; number-fits = ok .number-fits; start-fits = omega (arith, total-take (r .chunk) (m .chunks), length-file m) })
       (m .refs) (s .refs-ok)

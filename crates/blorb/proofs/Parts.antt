@@ -9,16 +9,12 @@ use lib.Seq.{drop-at}
 use Rattle.blorb.specs.Bytes.{be32}
 use Rattle.blorb.proofs.ByteLaws.{length-be32}
 use Rattle.blorb.specs.Tags.{FORM, IFRS, RIdx}
-use Rattle.blorb.specs.Format.{Chunk, Entry, size, sized, total, chunkBytes, chunksBytes, fileBytes, entriesBytes, indexChunk}
+use Rattle.blorb.specs.Format.{Chunk, Entry, heading, size, sized, total, chunkBytes, chunksBytes, fileBytes, entriesBytes, indexChunk}
 use Rattle.blorb.specs.Verdict.{noChunk}
 use Rattle.blorb.specs.Model.{Model, base, file}
 use Rattle.blorb.specs.Queries.{without}
 use Rattle.blorb.proofs.Codec.{length-entriesBytes}
 use Rattle.blorb.proofs.ModelLaws.{entries, size-index}
-
--- the 24 bytes before the entries, of a file with n entries and chunks of t bytes behind the index
-unfoldable pub front : ℕ → ℕ → List ℕ
-front n t = be32 FORM ++ (be32 (16 + 12 * n + t) ++ (be32 IFRS ++ (be32 RIdx ++ (be32 (4 + 12 * n) ++ be32 n))))
 
 no-pad : (n : ℕ) → replicate {A = ℕ} ((4 + 12 * n) % 2) 0 ≡ []
 no-pad n = rw e
@@ -26,25 +22,25 @@ no-pad n = rw e
     e : (4 + 12 * n) % 2 ≡ 0
     e = omega arith
 
-pub file-parts : (m : Model) → file m ≡ front (length (m .refs)) (total (m .chunks)) ++ (entriesBytes (entries m) ++ chunksBytes (m .chunks))
-unfolding file fileBytes chunksBytes chunkBytes indexChunk front total
+pub file-parts : (m : Model) → file m ≡ heading (length (m .refs)) (total (m .chunks)) ++ (entriesBytes (entries m) ++ chunksBytes (m .chunks))
+unfolding file fileBytes chunksBytes chunkBytes indexChunk heading total
 file-parts m =
     let n : ℕ = length (m .refs) in
     let l : length (be32 (length (entries m)) ++ entriesBytes (entries m)) ≡ 4 + 12 * n = simp (length-append, length-be32, length-entriesBytes, length-map) in
     let t : 4 + (size (indexChunk (entries m)) + total (m .chunks)) ≡ 16 + 12 * n + total (m .chunks) = rw size-index (simp length-map (omega arith)) in
     rw (l, t, no-pad n, append-nil (be32 (length (entries m)) ++ entriesBytes (entries m)), length-map) (simp append-assoc)
 
-pub length-front : (n t : ℕ) → length (front n t) ≡ 24
-unfolding front
-length-front n t = simp (length-append, length-be32)
+pub length-heading : (n t : ℕ) → length (heading n t) ≡ 24
+unfolding heading
+length-heading n t = simp (length-append, length-be32)
 
 -- the chunks behind the index are the rest of the file
 pub drop-base : (m : Model) → drop (base (length (m .refs))) (file m) ≡ chunksBytes (m .chunks)
 unfolding base
 drop-base m =
-    rw (file-parts m, ← append-assoc (front (length (m .refs)) (total (m .chunks))) (entriesBytes (entries m)) (chunksBytes (m .chunks)))
-    (drop-at (front (length (m .refs)) (total (m .chunks)) ++ entriesBytes (entries m)) (chunksBytes (m .chunks)) (24 + 12 * length (m .refs))
-    (simp (length-append, length-front, length-entriesBytes, length-map)))
+    rw (file-parts m, ← append-assoc (heading (length (m .refs)) (total (m .chunks))) (entriesBytes (entries m)) (chunksBytes (m .chunks)))
+    (drop-at (heading (length (m .refs)) (total (m .chunks)) ++ entriesBytes (entries m)) (chunksBytes (m .chunks)) (24 + 12 * length (m .refs))
+    (simp (length-append, length-heading, length-entriesBytes, length-map)))
 
 pub chunks-append : (a b : List Chunk) → chunksBytes (a ++ b) ≡ chunksBytes a ++ chunksBytes b
 unfolding chunksBytes

@@ -10,15 +10,15 @@ use lib.Dec.{eqb, leb}
 use borrow.Author.Tests.{eq-eqb, ne-eqb, eqb-true, eqb-false, le-leb, lt-leb}
 use Rattle.blorb.specs.Bytes.{rd32}
 use Rattle.blorb.specs.Tags.{FORM}
-use Rattle.blorb.specs.Format.{Chunk}
+use Rattle.blorb.specs.Format.{Chunk, chunkOf}
 use Rattle.blorb.specs.Verdict.{knownUsage}
-use Rattle.blorb.specs.Rules.{plain, oneOf}
+use Rattle.blorb.specs.Rules.{plainAllows, oneOf}
 use Rattle.blorb.specs.Tags.{AIFF}
 use Rattle.blorb.specs.declared.Usage.{Usage}
 use Rattle.blorb.specs.declared.Usage.the-variants.{Pict, Snd, Data, Exec}
 use Rattle.blorb.specs.declared.Known.{Known}
 use Rattle.blorb.specs.declared.Known.the-variants.{Is, Unknown}
-use Rattle.blorb.specs.Usages.{codeOf, pickKnown, usageOf, pictType, sndType, dataType, execType, chunkOf}
+use Rattle.blorb.specs.Usages.{codeOf, pickKnown, usageOf, pictType, sndType, dataType, execType}
 
 pub or-false : (b : Bool) → b || false ≡ b
 or-false true = refl
@@ -53,20 +53,20 @@ unfolding usageOf
 known-not u e = unknown-go (eqb u (codeOf Pict)) (eqb u (codeOf Snd)) (eqb u (codeOf Data)) (eqb u (codeOf Exec)) e
 
 -- rule 5 by usage
-pub plain-pict : (c : Chunk) → plain (codeOf Pict) c ≡ pictType (c .type) (length (c .body))
-unfolding plain oneOf
+pub plain-pict : (c : Chunk) → plainAllows (codeOf Pict) c ≡ pictType (c .type) (length (c .body))
+unfolding plainAllows oneOf
 plain-pict c = simp (or-false, or-assoc)
 
-pub plain-data : (c : Chunk) → plain (codeOf Data) c ≡ dataType (c .type)
-unfolding plain oneOf
+pub plain-data : (c : Chunk) → plainAllows (codeOf Data) c ≡ dataType (c .type)
+unfolding plainAllows oneOf
 plain-data c = simp or-false
 
-pub plain-exec : (c : Chunk) → plain (codeOf Exec) c ≡ execType (c .type)
-unfolding plain oneOf
+pub plain-exec : (c : Chunk) → plainAllows (codeOf Exec) c ≡ execType (c .type)
+unfolding plainAllows oneOf
 plain-exec c = simp or-false
 
-pub plain-snd : (c : Chunk) → plain (codeOf Snd) c ≡ sndType (c .type) || (eqb (c .type) FORM && leb 4 (length (c .body)) && eqb (rd32 (c .body)) AIFF)
-unfolding plain oneOf
+pub plain-snd : (c : Chunk) → plainAllows (codeOf Snd) c ≡ sndType (c .type) || (eqb (c .type) FORM && leb 4 (length (c .body)) && eqb (rd32 (c .body)) AIFF)
+unfolding plainAllows oneOf
 plain-snd c = simp (or-false, or-assoc)
 
 pub rd32-take : (m : ℕ) (s : List ℕ) → 4 ≤ m → rd32 (take m s) ≡ rd32 s
@@ -106,20 +106,20 @@ none-allowed false false true d x y z w h = let q : _≡_ {A = ℕ} 0 1 = cc in 
 none-allowed false false false true x y z w h = let q : _≡_ {A = ℕ} 0 1 = cc in absurd (omega arith)
 none-allowed false false false false x y z w h = refl
 
-pub plain-unknown : (u : ℕ) (c : Chunk) → usageOf u ≡ Unknown → plain u c ≡ false
-unfolding plain
+pub plain-unknown : (u : ℕ) (c : Chunk) → usageOf u ≡ Unknown → plainAllows u c ≡ false
+unfolding plainAllows
 plain-unknown u c e = none-allowed (eqb u (codeOf Pict)) (eqb u (codeOf Snd)) (eqb u (codeOf Data)) (eqb u (codeOf Exec)) _ _ _ _ (known-not u e)
 
 -- rule 5 for a sound by its type and data
 module _ (t : ℕ) (d : List ℕ) where
-  pub snd-other : (t ≡ FORM → ⊥) → sndType t ≡ plain (codeOf Snd) (chunkOf t d)
+  pub snd-other : (t ≡ FORM → ⊥) → sndType t ≡ plainAllows (codeOf Snd) (chunkOf t d)
   snd-other n = sym (plain-snd (chunkOf t d) ∙ rw (ne-eqb t FORM n) (or-false (sndType t)))
 
-  pub snd-short : t ≡ FORM → length d < 4 → false ≡ plain (codeOf Snd) (chunkOf t d)
+  pub snd-short : t ≡ FORM → length d < 4 → false ≡ plainAllows (codeOf Snd) (chunkOf t d)
   snd-short e l = sym (plain-snd (chunkOf t d) ∙ rw (e, lt-leb 4 (length d) l))
 
-  pub snd-form : t ≡ FORM → 4 ≤ length d → eqb (rd32 d) AIFF ≡ plain (codeOf Snd) (chunkOf t d)
+  pub snd-form : t ≡ FORM → 4 ≤ length d → eqb (rd32 d) AIFF ≡ plainAllows (codeOf Snd) (chunkOf t d)
   snd-form e l = sym (plain-snd (chunkOf t d) ∙ rw (e, le-leb 4 (length d) l))
 
-pub plain-known : (u : ℕ) (k : Usage) (c : Chunk) → usageOf u ≡ Is k → plain (codeOf k) c ≡ plain u c
-plain-known u k c e = ap (λ (v : ℕ). plain v c) (sym (known-is u k e .1))
+pub plain-known : (u : ℕ) (k : Usage) (c : Chunk) → usageOf u ≡ Is k → plainAllows (codeOf k) c ≡ plainAllows u c
+plain-known u k c e = ap (λ (v : ℕ). plainAllows v c) (sym (known-is u k e .1))

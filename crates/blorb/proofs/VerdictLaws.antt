@@ -14,10 +14,10 @@ use Rattle.blorb.proofs.ByteLaws.{length-be32, rd32-be32, drop-be32, dr
 use Rattle.blorb.specs.Format.{Ref, refOf, Chunk, Entry, size, sized, total, chunkBytes, chunksBytes, fileBytes, chunkIn, chunksIn, chunksOf, entriesBytes, indexChunk, entriesOf, isStart, placeOf}
 use Rattle.blorb.specs.Tags.{tag, FORM, IFRS, RIdx}
 use Rattle.blorb.specs.Verdict.{Rules, Verdict, accept, refuse, _then_, check, headFault, chunkFault, walkFault, secondIndex, indexFault, refFault, entriesFault, restFault, layoutFault, verdict, knownUsage, pairIn, noChunk}
-use Rattle.blorb.specs.Model.{Model, base, startAt, entryOf, file, model, modelOf}
+use Rattle.blorb.specs.Model.{Model, base, startOf, entryOf, file, model, modelOf}
 use Rattle.blorb.specs.All.{All}
-use Rattle.blorb.proofs.Sound.{W, ChunkOk, RefOk, Sound}
-use Rattle.blorb.proofs.Places.{size-pos, body-size, isStart-startAt}
+use Rattle.blorb.specs.Sound.{W, ChunkOk, RefOk, Sound}
+use Rattle.blorb.proofs.Places.{size-pos, body-size, isStart-startOf}
 use Rattle.blorb.proofs.Codec.{length-chunkBytes, length-chunksBytes, length-fileBytes, length-entriesBytes, first-length, first-rest, drop-header, entriesOf-indexChunk, EntryOk}
 use Rattle.blorb.proofs.Checks.{pass, accepts, holds-last}
 use Rattle.blorb.proofs.ModelLaws.{entries, size-index, length-file, chunks-of, entries-ok, few, refOf-entryOf, refOf-entryOf1}
@@ -104,7 +104,7 @@ module _ (R : Rules) where
   refs-entries at cs earlier p (r ∷ rs) ok =
       let e : refOf at cs (entryOf at cs r) ≡ r = refOf-entryOf1 at cs r (ok .0) in
       ap (λ (v : Verdict). check (knownUsage (r .usage)) 12 p then v)
-      (pass _ _ _ _ (isStart-startAt at cs (r .chunk) (ok .0 .chunk-there))
+      (pass _ _ _ _ (isStart-startOf at cs (r .chunk) (ok .0 .chunk-there))
       ∙ rw (e, refs-entries at cs (earlier ++ (r ∷ [])) (p + 12) rs (ok .1)))
 
   -- what is left to judge

@@ -12,6 +12,9 @@ pub record Chunk : Type 0 where
   pub type : ℕ
   pub body : List ℕ
 
+abbrev pub chunkOf : ℕ → List ℕ → Chunk
+chunkOf t d = record { type = t; body = d }
+
 -- rule 3: "12 bytes an entry: usage, number, start"; as it stands in the file
 pub record Entry : Type 0 where
   pub usage : ℕ
@@ -28,7 +31,7 @@ pub record Ref : Type 0 where
 unfoldable pub sized : ℕ → ℕ
 sized m = 8 + (m + m % 2)
 
--- the same as the code computes it
+-- the same number, for contracts: it unfolds by itself
 abbrev pub sizeOf : ℕ → ℕ
 sizeOf n = 8 + (n + n % 2)
 
@@ -53,7 +56,7 @@ total (c ∷ cs) = size c + total cs
 unfoldable pub fileBytes : List Chunk → List ℕ
 fileBytes cs = be32 FORM ++ (be32 (4 + total cs) ++ (be32 IFRS ++ chunksBytes cs))
 
--- reading: the chunk that s begins with, and all chunks in s (k bounds their number). It never fails: what is wrong is the verdict's business.
+-- reading: the chunk that s begins with, and all chunks in s (k bounds their number). It never fails: what is wrong is told by the verdict.
 unfoldable pub chunkIn : List ℕ → Chunk
 chunkIn s = record { type = rd32 s; body = take (rd32 (drop 4 s)) (drop 8 s) }
 
@@ -84,6 +87,10 @@ entriesBytes (e ∷ es) = entryBytes e ++ entriesBytes es
 -- rule 3: "Its data: a count, then 12 bytes an entry"; the index chunk that holds these entries
 unfoldable pub indexChunk : List Entry → Chunk
 indexChunk es = record { type = RIdx; body = be32 (length es) ++ entriesBytes es }
+
+-- the 24 bytes before the entries, of a file with n entries and chunks of t bytes behind the index
+unfoldable pub heading : ℕ → ℕ → List ℕ
+heading n t = be32 FORM ++ (be32 (16 + 12 * n + t) ++ (be32 IFRS ++ (be32 RIdx ++ (be32 (4 + 12 * n) ++ be32 n))))
 
 -- the entries in an index chunk
 unfoldable pub entriesOf : Chunk → List Entry

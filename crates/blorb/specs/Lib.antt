@@ -7,5 +7,7 @@ pub mod Verdict
 pub mod Rules
 pub mod Model
 pub mod Queries
+pub mod Sound
+pub mod Keeps
 pub mod Lookup
 pub mod Usages

@@ -8,7 +8,7 @@ use Rattle.blorb.specs.Bytes.{rd32}
 use Rattle.blorb.specs.Format.{Ref, Chunk}
 use Rattle.blorb.specs.Verdict.{noChunk}
 use Rattle.blorb.specs.Tags.{Fspc}
-use Rattle.blorb.specs.Model.{Model, base, startAt}
+use Rattle.blorb.specs.Model.{Model, base, startOf}
 
 module _ {A : Type 0} where
   -- the list without its element i
@@ -40,7 +40,7 @@ shared m i = uses (refAt m i .chunk) (without i (m .refs))
 
 -- where the chunk at place k starts
 unfoldable pub start : Model → ℕ → ℕ
-start m k = startAt (base (length (m .refs))) (m .chunks) k
+start m k = startOf (base (length (m .refs))) (m .chunks) k
 
 -- rule 7's frontispiece chunk: its place among the chunks, and "the number of a picture" in it
 unfoldable pub frontPlace : List Chunk → ℕ

@@ -14,8 +14,8 @@ oneOf t [] = false
 oneOf t (x ∷ xs) = eqb t x || oneOf t xs
 
 -- rule 5: the types that a usage allows, and what each asks of the chunk besides
-unfoldable pub plain : ℕ → Chunk → Bool
-plain u c =
+unfoldable pub plainAllows : ℕ → Chunk → Bool
+plainAllows u c =
     (eqb u Pict && (oneOf (c .type) (JPEG ∷ (PNG ∷ [])) || (eqb (c .type) Rect && eqb (length (c .body)) 8)))
     || (eqb u Snd && (oneOf (c .type) (OGGV ∷ (MOD ∷ (SONG ∷ []))) || (eqb (c .type) FORM && leb 4 (length (c .body)) && eqb (rd32 (c .body)) AIFF)))
     || (eqb u Data && oneOf (c .type) (TEXT ∷ (BINA ∷ [])))
@@ -53,7 +53,7 @@ optional base rs cs = chunkRules rs cs [] base cs
 
 -- 01's own rules
 abbrev pub plainRules : Rules
-plainRules = record { rule5 = plain; rule7 = optional }
+plainRules = record { rule5 = plainAllows; rule7 = optional }
 
 -- the verdict of a file
 unfoldable pub plainVerdict : List ℕ → Verdict

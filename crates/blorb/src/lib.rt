@@ -4,10 +4,10 @@ ghost use Prim.Native.Nat.{_+_, _≤_, _<_, _^_};
 ghost use lib.ListN.{length, drop};
 ghost use Rattle.blorb.specs.Bytes.{rd32};
 ghost use Rattle.blorb.specs.Little.{Little, swapped};
-ghost use Rattle.blorb.specs.Format.{Chunk};
-ghost use Rattle.blorb.specs.Rules.{plain};
+ghost use Rattle.blorb.specs.Format.{Chunk, chunkOf};
+ghost use Rattle.blorb.specs.Rules.{plainAllows};
 ghost use Rattle.blorb.specs.declared.Usage.the-variants.{Snd};
-ghost use Rattle.blorb.specs.Usages.{codeOf, usageOf, pictType, sndType, dataType, execType, chunkOf};
+ghost use Rattle.blorb.specs.Usages.{codeOf, usageOf, pictType, sndType, dataType, execType};
 
 // An entry's usage, once read: one of four kinds.
 pub enum Usage {
@@ -94,7 +94,7 @@ fn exec_type(t: u64) -> bool
 
 // Rule 5 for a sound: a 'FORM' must hold 'AIFF'.
 fn sound_type(t: u64, d: &[u8]) -> bool
-    ensures { λ r. ⌜ r ≡ plain (codeOf Snd) (chunkOf t (now (d .entry))) ⌝ }
+    ensures { λ r. ⌜ r ≡ plainAllows (codeOf Snd) (chunkOf t (now (d .entry))) ⌝ }
 {
     if t != 0x464f524d {
         return snd_type(t);
@@ -147,7 +147,7 @@ impl Usage {
 
     // Rule 5: whether a chunk of this type and data may stand under this usage.
     pub fn allows(self, kind: u64, d: &[u8]) -> bool
-        ensures { λ r. ⌜ r ≡ plain (codeOf self) (chunkOf kind (now (d .entry))) ⌝ }
+        ensures { λ r. ⌜ r ≡ plainAllows (codeOf self) (chunkOf kind (now (d .entry))) ⌝ }
     {
         match self {
             Usage::Pict => pict_type(kind, d.len() as u64),
@@ -160,7 +160,7 @@ impl Usage {
 
 // Rule 5 for a usage given by its four bytes: an unknown one allows nothing.
 pub fn type_allowed(code: u64, kind: u64, d: &[u8]) -> bool
-    ensures { λ r. ⌜ r ≡ plain code (chunkOf kind (now (d .entry))) ⌝ }
+    ensures { λ r. ⌜ r ≡ plainAllows code (chunkOf kind (now (d .entry))) ⌝ }
 {
     let Known::Is(usage) = Usage::of_code(code) else {
         return false;

@@ -10,7 +10,7 @@ use Rattle.edits.specs.Run.{State, Call}
 use Rattle.editor.specs.declared.Answer.{Answer}
 use Rattle.editor.specs.Called.{Called}
 use Rattle.capi.specs.declared.EditAnswer.{EditAnswer}
-use Rattle.capi.specs.Numbers.{numberOf, placeOf, editNumbers}
+use Rattle.capi.specs.Numbers.{refusalNumber, refusalPlace, editNumbers}
 use Rattle.capi.specs.Answered.{Answered}
 
 -- a usage's four bytes are a number of 32 bits
@@ -24,8 +24,8 @@ code-small Exec = omega arith
 pub answered : (s : State) (c : Call) (a : Answer) (r : EditAnswer) (b j : List ℕ) → r ≡ editNumbers a → Called s c a b j → Answered s c r b j
 answered s c a r b j e h =
     rw e (record {
-      refusal = ap numberOf (h .outcome);
-      place = ap placeOf (h .outcome);
+      refusal = ap refusalNumber (h .outcome);
+      place = ap refusalPlace (h .outcome);
       len = h .len;
       used = h .used;
       file = h .file;

@@ -15,10 +15,10 @@ use Rattle.blorb.specs.Rules.{plainRules, plainVerdict, picture, single, chunkR
 use Rattle.edits.specs.Edit.{Edit, add, replace, remove}
 use Rattle.edits.specs.Run.{State, Call, edit, undo, hundred, targetFault, editedFile, editFault, undoFault, fault}
 use Rattle.blorb.specs.Model.{Model}
-use Rattle.reader.specs.Reading.{indexOf, noEntry, readBy, readOf, entryBy, askedBy, entryOf, hitIn, foundBy, lookedBy, lookupOf}
+use Rattle.reader.specs.Reading.{indexOf, noEntry, readBy, readOf, entryBy, askedBy, askedOf, hitIn, foundBy, lookedBy, lookupOf}
 use Rattle.reader.specs.declared.entries.Hit.{Hit}
 use Rattle.reader.specs.declared.entries.Hit.the-variants.{At, Nothing}
-use Rattle.capi.specs.Numbers.{numberOf, readNumbers, entryNumbers, lookupNumbers}
+use Rattle.capi.specs.Numbers.{refusalNumber, readNumbers, entryNumbers, lookupNumbers}
 use Rattle.capi.specs.Numbered.{Numbered}
 
 none : Numbered accept
@@ -128,12 +128,12 @@ called s undo =
     more _ 20 0 _ (omega arith)
     (both _ _ (judged _) (more _ 26 0 _ (omega arith) (more _ 21 0 _ (omega arith) (one _ 24 0 (omega arith)))))
 
-zero-accepts : (v : Verdict) → Numbered v → numberOf v ≡ 0 → v ≡ accept
+zero-accepts : (v : Verdict) → Numbered v → refusalNumber v ≡ 0 → v ≡ accept
 zero-accepts accept h e = refl
 zero-accepts (refuse k p) h e = absurd (omega (arith, positive k p h, e))
 
 -- a call that edits and whose `refusal` is 0 was carried out
-pub zero-done : (s : State) (c : Call) → numberOf (fault plainRules s c) ≡ 0 → fault plainRules s c ≡ accept
+pub zero-done : (s : State) (c : Call) → refusalNumber (fault plainRules s c) ≡ 0 → fault plainRules s c ≡ accept
 zero-done s c e = zero-accepts _ (called s c) e
 
 -- a file whose `refusal` is 0 is accepted
@@ -146,8 +146,8 @@ zero-reads f e = go (verdict plainRules f) (judged f) e
     go (refuse k p) h e = absurd (omega (arith, positive k p h, e))
 
 -- an entry whose `refusal` is 0 is one of the index of an accepted file
-pub zero-entry : (f : List ℕ) (i : ℕ) → entryNumbers (entryOf f i) .refusal ≡ 0 → (plainVerdict f ≡ accept) × (i < length (indexOf f))
-unfolding entryOf plainVerdict
+pub zero-entry : (f : List ℕ) (i : ℕ) → entryNumbers (askedOf f i) .refusal ≡ 0 → (plainVerdict f ≡ accept) × (i < length (indexOf f))
+unfolding askedOf plainVerdict
 zero-entry f i e = go (verdict plainRules f) (judged f) e
   where
     below : (b : Bool) (x : Entry) → ltb i (length (indexOf f)) ≡ b → entryNumbers (entryBy b x i) .refusal ≡ 0 → i < length (indexOf f)

@@ -18,13 +18,13 @@ use Rattle.capi.specs.declared.LookupAnswer.{LookupAnswer}
 use Rattle.capi.specs.declared.EditAnswer.{EditAnswer}
 
 -- a verdict's number and place
-abbrev pub numberOf : Verdict → ℕ
-numberOf accept = 0
-numberOf (refuse k p) = k
+abbrev pub refusalNumber : Verdict → ℕ
+refusalNumber accept = 0
+refusalNumber (refuse k p) = k
 
-abbrev pub placeOf : Verdict → ℕ
-placeOf accept = 0
-placeOf (refuse k p) = p
+abbrev pub refusalPlace : Verdict → ℕ
+refusalPlace accept = 0
+refusalPlace (refuse k p) = p
 
 -- "the reader gives its length and entry count"
 abbrev pub readNumbers : Reading → ReadAnswer
@@ -43,4 +43,4 @@ lookupNumbers (Missing k p) = record { refusal = k; place = p; kind = 0; start =
 
 -- an edit's or undo's answer, with L and U
 abbrev pub editNumbers : Answer → EditAnswer
-editNumbers a = record { refusal = numberOf (verdictOf (a .outcome)); place = placeOf (verdictOf (a .outcome)); length = a .len; used = a .used }
+editNumbers a = record { refusal = refusalNumber (verdictOf (a .outcome)); place = refusalPlace (verdictOf (a .outcome)); length = a .len; used = a .used }

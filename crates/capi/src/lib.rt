@@ -9,7 +9,7 @@ ghost use mathlib.Core.Path.{_≡_};
 ghost use lib.ListN.{length};
 ghost use lib.Dec.{leb};
 ghost use Rattle.blorb.specs.Bytes.{rd32};
-ghost use Rattle.reader.specs.Reading.{readOf, entryOf, lookupOf};
+ghost use Rattle.reader.specs.Reading.{readOf, askedOf, lookupOf};
 ghost use Rattle.edits.specs.Edit.{add, replace, remove};
 ghost use Rattle.edits.specs.Run.{edit, undo};
 ghost use Rattle.edits.specs.Blank.{blanked};
@@ -77,7 +77,7 @@ pub extern "C" fn blorb_read(file: &[u8]) -> ReadAnswer
 // Entry i of the index; its usage as the number in its four bytes.
 #[no_mangle]
 pub extern "C" fn blorb_entry(file: &[u8], i: usize) -> EntryAnswer
-    ensures { λ r. ⌜ r ≡ entryNumbers (entryOf (now (file .entry)) i) ⌝ }
+    ensures { λ r. ⌜ r ≡ entryNumbers (askedOf (now (file .entry)) i) ⌝ }
 {
     match reader::entry(file, i) {
         Asked::Given(e) => {

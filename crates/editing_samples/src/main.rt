@@ -76,7 +76,7 @@ fn show(file: &[u8], jrn: &[u8]) {
     hex(jrn);
 }
 
-// A sum of the bytes that knows their order.
+// A sum of the bytes that depends on their order.
 fn checksum(s: &[u8]) -> u64 {
     let mut sum = 0;
     for i in 0..s.len() {

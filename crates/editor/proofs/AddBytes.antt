@@ -10,14 +10,14 @@ use lib.Dec.{leb}
 use borrow.Author.Tests.{lt-leb}
 use Rattle.blorb.specs.Format.{Ref, Chunk, placeOf}
 use Rattle.blorb.specs.Rules.{plainRules}
-use Rattle.blorb.specs.Model.{Model, base, startAt, file, model}
+use Rattle.blorb.specs.Model.{Model, base, startOf, file, model}
 use Rattle.blorb.specs.Queries.{start}
 use Rattle.blorb.specs.All.{All}
-use Rattle.blorb.proofs.Sound.{RefOk, Sound}
+use Rattle.blorb.specs.Sound.{RefOk, Sound}
 use Rattle.blorb.specs.Bytes.{Byte}
 use Rattle.blorb.proofs.Accept.{accept-back}
-use Rattle.blorb.proofs.Places.{placeOf-startAt}
-use Rattle.edits.specs.Edit.{add, added, edited, given, with-at, raise}
+use Rattle.blorb.proofs.Places.{placeOf-startOf}
+use Rattle.edits.specs.Edit.{add, added, edited, givenChunk, with-at, raise}
 use Rattle.edits.specs.Journal.{Rec, oldPlace, undo3}
 use Rattle.edits.specs.Run.{editedFile}
 use Rattle.editor.specs.Post.{Stands, Insertable, goneRec}
@@ -37,12 +37,12 @@ raise-none k (r ∷ rs) ok =
 
 -- the last place of all: the file's end
 end-start : (m : Model) → length (file m) ≡ start m (length (m .chunks))
-unfolding start startAt base
+unfolding start startOf base
 end-start m = rw (take-length (m .chunks)) (file-length m)
 
 end-place : (m : Model) (l : ℕ) → l ≡ length (file m) → placeOf l (base (length (m .refs))) (m .chunks) ≡ length (m .chunks)
 unfolding start
-end-place m l e = ap (λ (z : ℕ). placeOf z (base (length (m .refs))) (m .chunks)) (e ∙ end-start m) ∙ placeOf-startAt (base (length (m .refs))) (m .chunks) (length (m .chunks)) (omega arith)
+end-place m l e = ap (λ (z : ℕ). placeOf z (base (length (m .refs))) (m .chunks)) (e ∙ end-start m) ∙ placeOf-startOf (base (length (m .refs))) (m .chunks) (length (m .chunks)) (omega arith)
 
 module _ (b : List ℕ) (l k : ℕ) (stands : Stands b l k) (bytes : All Byte (take l b)) where
   abbrev m : Model
@@ -63,7 +63,7 @@ module _ (b : List ℕ) (l k : ℕ) (stands : Stands b l k) (bytes : All Byte (t
   }
 
   pub added-file : (u n t : ℕ) (d : List ℕ) → file (undo3 (goneRec 3 u n k l t d) (model (take l b))) ≡ editedFile (take l b) (add u n t d)
-  unfolding editedFile edited added given undo3
+  unfolding editedFile edited added givenChunk undo3
   added-file u n t d =
       let r : Rec = goneRec 3 u n k l t d in
       let l12 : l + 12 - 12 ≡ l = omega arith in

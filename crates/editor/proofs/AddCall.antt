@@ -11,7 +11,7 @@ use borrow.Author.Tests.{leb-true}
 use Rattle.blorb.specs.Verdict.{Verdict, accept, _then_, check, verdict}
 use Rattle.blorb.specs.Rules.{plainRules}
 use Rattle.blorb.specs.Model.{model, file}
-use Rattle.edits.specs.Edit.{Edit, add, edited, given}
+use Rattle.edits.specs.Edit.{Edit, add, edited, givenChunk}
 use Rattle.edits.specs.Journal.{recOf, recBytes}
 use Rattle.edits.proofs.JournalLaws.{length-recBytes}
 use Rattle.blorb.specs.All.{All}
@@ -63,7 +63,7 @@ module _ (b : List ℕ) (l J U u n t : ℕ) (d : List ℕ) (bytes : All Byte (ta
       let st = open-stands b l U J K bytes h refl in
       let g = accept-back plainRules f bytes (st .0 .fine) in
       let lf : length (file (model f)) ≡ l = ap length (g .0) ∙ length-take-le l b (st .0 .inside) in
-      length-added (model f) u n (given t d) ∙ omega (arith, size-given t d)
+      length-added (model f) u n (givenChunk t d) ∙ omega (arith, size-given t d)
 
   pub plan-unopened : (x k p : ℕ) → asked b l J U u n x ≡ Refused k p → No k p ≡ planOf Vd K
   plan-unopened x k p e = ap (λ (v : Verdict). planOf v K) (sym (edit-unopened (length b) J f l U E k p (asked-refused b l J U u n x k p e)))

@@ -8,16 +8,16 @@ use lib.ListN.{length, getD}
 use lib.Seq.{getD-append-seam, take-length}
 use lib.Dec.{eqb, leb, ltb}
 use borrow.Author.Tests.{eq-eqb, ne-eqb, le-leb, lt-leb}
-use Rattle.blorb.specs.Format.{Ref, Chunk, total}
+use Rattle.blorb.specs.Format.{Ref, Chunk, total, chunkOf}
 use Rattle.blorb.specs.Tags.{RIdx}
 use Rattle.blorb.specs.Verdict.{Verdict, accept, refuse, _then_, check, noChunk, knownUsage, refFault, verdict}
-use Rattle.blorb.specs.Rules.{plain, optional, plainRules}
+use Rattle.blorb.specs.Rules.{plainAllows, optional, plainRules}
 use Rattle.blorb.specs.Tags.{Exec}
 use Rattle.blorb.specs.Model.{Model, base, file, model}
-use Rattle.edits.specs.Edit.{add, added, edited, given}
+use Rattle.edits.specs.Edit.{add, added, edited, givenChunk}
 use Rattle.blorb.specs.Queries.{find}
 use Rattle.blorb.specs.All.{All}
-use Rattle.blorb.proofs.Sound.{W, Sound}
+use Rattle.blorb.specs.Sound.{W, Sound}
 use Rattle.blorb.specs.Bytes.{Byte}
 use Rattle.blorb.proofs.Checks.{then-accept}
 use Rattle.blorb.proofs.Accept.{accept-back}
@@ -26,7 +26,6 @@ use Rattle.blorb.proofs.VerdictLaws.{modelFault, verdict-file}
 use Rattle.edits.proofs.FitLaws.{edit-sound}
 use Rattle.edits.proofs.Lengths.{length-added}
 use Rattle.edits.specs.Run.{hundred, editedFile}
-use Rattle.blorb.specs.Usages.{chunkOf}
 use Rattle.reader.specs.declared.Piece.{Piece}
 use Rattle.reader.specs.declared.Target.{Target}
 use Rattle.reader.specs.declared.Target.the-variants as target
@@ -44,13 +43,13 @@ addJudged l k b u n t d =
     then check (not (eqb t RIdx)) 109 (l + 12)
     then check (leb (k + 1) 4096) 111 20
     then check (knownUsage u) 112 (24 + 12 * k)
-    then check (plain u (given t d)) 114 (24 + 12 * k)
+    then check (plainAllows u (givenChunk t d)) 114 (24 + 12 * k)
     then check (not (eqb u Exec) || eqb n 0) 115 (24 + 12 * k + 4)
     then check (not b) 116 (24 + 12 * k)
 
 module _ (m : Model) (u n t : ℕ) (d : List ℕ) (s : Sound m) (ok : modelFault plainRules m ≡ accept) (hu : u < W) (hn : n < W) (ht : t < W) where
   abbrev c : Chunk
-  c = given t d
+  c = givenChunk t d
 
   abbrev K : ℕ
   K = length (m .refs)
@@ -58,7 +57,7 @@ module _ (m : Model) (u n t : ℕ) (d : List ℕ) (s : Sound m) (ok : modelFault
   abbrev x : Ref
   x = record { usage = u; number = n; chunk = length (m .chunks) }
 
-  seven : plain u c ≡ true → optional (base (suc K)) (m .refs ++ (x ∷ [])) (m .chunks ++ (c ∷ [])) ≡ accept
+  seven : plainAllows u c ≡ true → optional (base (suc K)) (m .refs ++ (x ∷ [])) (m .chunks ++ (c ∷ [])) ≡ accept
   unfolding modelFault
   seven h =
       let a = then-accept _ _ (then-accept _ _ (then-accept _ _ ok .1) .1) in
@@ -72,7 +71,7 @@ module _ (m : Model) (u n t : ℕ) (d : List ℕ) (s : Sound m) (ok : modelFault
   own-type = getD-append-seam (m .chunks) c [] noChunk
 
   entry-judged : refFault plainRules (m .chunks ++ (c ∷ [])) (m .refs) (24 + 12 * K) x
-      ≡ check (plain u c) 14 (24 + 12 * K) then check (not (eqb u Exec) || eqb n 0) 15 (24 + 12 * K + 4) then check (not (ltb (find u n (m .refs)) K)) 16 (24 + 12 * K)
+      ≡ check (plainAllows u c) 14 (24 + 12 * K) then check (not (eqb u Exec) || eqb n 0) 15 (24 + 12 * K + 4) then check (not (ltb (find u n (m .refs)) K)) 16 (24 + 12 * K)
   unfolding refFault
   entry-judged = rw (own-type, pair-found u n (m .refs))
 
@@ -80,17 +79,17 @@ module _ (m : Model) (u n t : ℕ) (d : List ℕ) (s : Sound m) (ok : modelFault
       ≡ check (not (eqb t RIdx)) 9 (length (file m) + 12)
       then check (leb (suc K) 4096) 11 20
       then check (knownUsage u) 12 (24 + 12 * K)
-      then check (plain u c) 14 (24 + 12 * K)
+      then check (plainAllows u c) 14 (24 + 12 * K)
       then check (not (eqb u Exec) || eqb n 0) 15 (24 + 12 * K + 4)
       then check (not (ltb (find u n (m .refs)) K)) 16 (24 + 12 * K)
-  unfolding given
+  unfolding givenChunk
   model-judged =
       let v : Verdict = check (not (eqb u Exec) || eqb n 0) 15 (24 + 12 * K + 4) then check (not (ltb (find u n (m .refs)) K)) 16 (24 + 12 * K) in
       let w : Verdict = optional (base (suc K)) (m .refs ++ (x ∷ [])) (m .chunks ++ (c ∷ [])) in
       let A : Verdict = check (knownUsage u) 12 (24 + 12 * K) in
-      let e : (A then refFault plainRules (m .chunks ++ (c ∷ [])) (m .refs) (24 + 12 * K) x) then w ≡ A then (check (plain u c) 14 (24 + 12 * K) then v)
-      = ap (λ (z : Verdict). (A then z) then w) entry-judged ∙ then-assoc A (check (plain u c) 14 (24 + 12 * K) then v) w
-      ∙ ap (λ (z : Verdict). A then z) (unlooked (plain u c) 14 (24 + 12 * K) v w seven) in
+      let e : (A then refFault plainRules (m .chunks ++ (c ∷ [])) (m .refs) (24 + 12 * K) x) then w ≡ A then (check (plainAllows u c) 14 (24 + 12 * K) then v)
+      = ap (λ (z : Verdict). (A then z) then w) entry-judged ∙ then-assoc A (check (plainAllows u c) 14 (24 + 12 * K) then v) w
+      ∙ ap (λ (z : Verdict). A then z) (unlooked (plainAllows u c) 14 (24 + 12 * K) v w seven) in
       added-verdict plainRules m u n c s ok
       ∙ (λ i. check (not (eqb t RIdx)) 9 (place9 i) then (check (leb (suc K) 4096) 11 20 then e i))
 
@@ -101,9 +100,9 @@ module _ (m : Model) (u n t : ℕ) (d : List ℕ) (s : Sound m) (ok : modelFault
       let l1 : length (file (added m u n c)) ≡ length (file m) + (20 + (length d + length d % 2)) = length-added m u n c ∙ omega (arith, size-given t d) in
       let sd : Sound (added m u n c) = (unfold edited in edit-sound m (add u n t d) s (hu, hn, ht) tt) in
       ap hundred (verdict-file plainRules (added m u n c) sd ∙ (λ i. check (leb (l1 i) 16777216) 1 0 then model-judged i))
-      ∙ hundreds (leb (length (file m) + (20 + (length d + length d % 2))) 16777216) (not (eqb t RIdx)) (leb (suc K) 4096) (knownUsage u) (plain u c) (not (eqb u Exec) || eqb n 0) (not (ltb (find u n (m .refs)) K)) (length (file m) + 12) (24 + 12 * K)
+      ∙ hundreds (leb (length (file m) + (20 + (length d + length d % 2))) 16777216) (not (eqb t RIdx)) (leb (suc K) 4096) (knownUsage u) (plainAllows u c) (not (eqb u Exec) || eqb n 0) (not (ltb (find u n (m .refs)) K)) (length (file m) + 12) (24 + 12 * K)
       ∙ ap (λ (z : ℕ). check (leb (length (file m) + (20 + (length d + length d % 2))) 16777216) 101 0 then (check (not (eqb t RIdx)) 109 (length (file m) + 12) then (check (leb z 4096) 111 20
-      then (check (knownUsage u) 112 (24 + 12 * K) then (check (plain u c) 114 (24 + 12 * K) then (check (not (eqb u Exec) || eqb n 0) 115 (24 + 12 * K + 4) then check (not (ltb (find u n (m .refs)) K)) 116 (24 + 12 * K))))))) k1
+      then (check (knownUsage u) 112 (24 + 12 * K) then (check (plainAllows u c) 114 (24 + 12 * K) then (check (not (eqb u Exec) || eqb n 0) 115 (24 + 12 * K + 4) then check (not (ltb (find u n (m .refs)) K)) 116 (24 + 12 * K))))))) k1
     where
       hundreds : (a b c d e f g : Bool) (p q : ℕ)
           → hundred (check a 1 0 then (check b 9 p then (check c 11 20 then (check d 12 q then (check e 14 q then (check f 15 (q + 4) then check g 16 q))))))
@@ -154,20 +153,20 @@ module _ (f : List ℕ) (k : ℕ) (g : Target) (u n t : ℕ) (d : List ℕ) (byt
         out-112 e = sym (shape there refl ∙ rw (le-leb _ _ h1, ne-eqb t RIdx h2, le-leb _ _ h3, e))
 
         module _ (h4 : knownUsage u ≡ true) where
-          pub out-114 : plain u (chunkOf t d) ≡ false → refuse 114 (24 + 12 * k) ≡ H
-          unfolding addJudged check _then_ given
+          pub out-114 : plainAllows u (chunkOf t d) ≡ false → refuse 114 (24 + 12 * k) ≡ H
+          unfolding addJudged check _then_ givenChunk
           out-114 e = sym (shape there refl ∙ rw (le-leb _ _ h1, ne-eqb t RIdx h2, le-leb _ _ h3, h4, e))
 
-          module _ (h5 : plain u (chunkOf t d) ≡ true) where
+          module _ (h5 : plainAllows u (chunkOf t d) ≡ true) where
             pub out-115 : (not (eqb u Exec) || eqb n 0) ≡ false → refuse 115 (24 + 12 * k + 4) ≡ H
-            unfolding addJudged check _then_ given
+            unfolding addJudged check _then_ givenChunk
             out-115 e = sym (shape there refl ∙ rw (le-leb _ _ h1, ne-eqb t RIdx h2, le-leb _ _ h3, h4, h5, e))
 
             module _ (h6 : (not (eqb u Exec) || eqb n 0) ≡ true) where
               pub out-116 : (p : Piece) → g ≡ target.At p → refuse 116 (24 + 12 * k) ≡ H
-              unfolding addJudged check _then_ given
+              unfolding addJudged check _then_ givenChunk
               out-116 p e = sym (shape true (target-at (model f) u n p (sym (pre .1) ∙ e) .0) ∙ rw (le-leb _ _ h1, ne-eqb t RIdx h2, le-leb _ _ h3, h4, h5, h6))
 
               pub out-done : g ≡ target.Nothing → accept ≡ H
-              unfolding addJudged check _then_ given
+              unfolding addJudged check _then_ givenChunk
               out-done e = sym (shape false (target-nothing (model f) u n (sym (pre .1) ∙ e)) ∙ rw (le-leb _ _ h1, ne-eqb t RIdx h2, le-leb _ _ h3, h4, h5, h6))

@@ -6,18 +6,18 @@ use native.Mathlib.Omega.{arith}
 use lib.ListN.{length, getD, take, drop, length-append, length-map}
 use lib.Seq.{drop-at, drop-drop}
 use Rattle.blorb.specs.Bytes.{be32, rd32}
-use Rattle.blorb.specs.Format.{Chunk, entriesBytes, chunkBytes, chunksBytes, total, size}
+use Rattle.blorb.specs.Format.{Chunk, entriesBytes, chunkBytes, chunksBytes, total, size, heading}
 use Rattle.blorb.specs.Verdict.{noChunk}
-use Rattle.blorb.specs.Model.{Model, base, startAt, file}
+use Rattle.blorb.specs.Model.{Model, base, startOf, file}
 use Rattle.blorb.specs.Queries.{chunkAt}
 use Rattle.blorb.specs.Queries.{start}
 use Rattle.blorb.specs.All.{All}
 use Rattle.blorb.proofs.AllLaws.{all-getD}
-use Rattle.blorb.proofs.Sound.{W, ChunkOk, Sound}
+use Rattle.blorb.specs.Sound.{W, ChunkOk, Sound}
 use Rattle.blorb.proofs.Places.{body-size}
 use Rattle.blorb.proofs.Codec.{length-entriesBytes, length-chunksBytes, first-type, first-length, first-body}
 use Rattle.blorb.proofs.ModelLaws.{entries, size-getD}
-use Rattle.blorb.proofs.Parts.{front, file-parts, length-front}
+use Rattle.blorb.proofs.Parts.{file-parts, length-heading}
 use Rattle.editor.proofs.Writes.{file-length}
 use Rattle.editor.proofs.RemoveBytes.{chunks-around}
 
@@ -30,13 +30,13 @@ module _ (m : Model) (k : ℕ) (s : Sound m) (there : k < length (m .chunks)) (s
 
   -- the file from the chunk's start on
   pub drop-start : drop (start m k) (file m) ≡ chunkBytes c ++ rest
-  unfolding start startAt base
+  unfolding start startOf base
   drop-start =
-      let F : List ℕ = front (length (m .refs)) (total (m .chunks)) in
+      let F : List ℕ = heading (length (m .refs)) (total (m .chunks)) in
       let E : List ℕ = entriesBytes (entries m) in
       let c1 : List ℕ = chunksBytes (take k (m .chunks)) in
       let lE : length E ≡ 12 * length (m .refs) = length-entriesBytes (entries m) ∙ ap (λ (z : ℕ). 12 * z) (length-map (m .refs) _) in
-      let lF : length F ≡ 24 = length-front (length (m .refs)) (total (m .chunks)) in
+      let lF : length F ≡ 24 = length-heading (length (m .refs)) (total (m .chunks)) in
       let l1 : length c1 ≡ total (take k (m .chunks)) = length-chunksBytes (take k (m .chunks)) in
       let lp : length (F ++ (E ++ c1)) ≡ 24 + 12 * length (m .refs) + total (take k (m .chunks)) = length-append F (E ++ c1) ∙ ap (λ (z : ℕ). length F + z) (length-append E c1) ∙ omega arith in
       let e : file m ≡ (F ++ (E ++ c1)) ++ (chunkBytes c ++ rest)

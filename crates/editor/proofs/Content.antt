@@ -12,11 +12,11 @@ use lib.Seq.{drop-drop, drop-append-add, length-take-le}
 use Rattle.blorb.specs.Format.{Entry, entriesBytes}
 use Rattle.blorb.specs.All.{All}
 use Rattle.blorb.proofs.Codec.{EntryOk}
-use Rattle.edits.proofs.Starts.{moved}
+use Rattle.edits.specs.Starts.{moved}
 use Rattle.edits.specs.Run.{noted, written}
 use Rattle.edits.proofs.RunLaws.{length-written}
 use Rattle.edits.proofs.Noted.{noted-over}
-use Rattle.editor.specs.Shift.{moved as slid}
+use Rattle.editor.specs.Shift.{slid}
 use Rattle.editor.specs.Moves.{startsMoved}
 use Rattle.editor.specs.Post.{closed, resized}
 use Rattle.editor.proofs.Writes.{left-behind, slid-left, slid-right, starts-moved}

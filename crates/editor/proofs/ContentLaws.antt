@@ -16,7 +16,7 @@ use Rattle.blorb.specs.Model.{Model, model, file}
 use Rattle.blorb.specs.Queries.{find, refAt, noRef}
 use Rattle.blorb.specs.Lookup.{Look, missing, here, lookup}
 use Rattle.blorb.proofs.AllLaws.{all-getD}
-use Rattle.blorb.proofs.Sound.{RefOk, Sound}
+use Rattle.blorb.specs.Sound.{RefOk, Sound}
 use Rattle.blorb.proofs.Checks.{then-accept, check-accept, both-true}
 use Rattle.blorb.proofs.Accept.{accept-back, accept-short}
 use Rattle.blorb.proofs.ModelLaws.{model-file}
@@ -24,7 +24,7 @@ use Rattle.blorb.proofs.VerdictLaws.{modelFault, verdict-file}
 use Rattle.reader.specs.Reading.{lookupOf, partOf}
 use Rattle.reader.specs.declared.Looked.the-variants.{Found, Refused}
 use Rattle.reader.proofs.Promises.{lookup-here, lookup-nowhere}
-use Rattle.edits.specs.Edit.{Edit, add, replace, remove, added, edited, given}
+use Rattle.edits.specs.Edit.{Edit, add, replace, remove, added, edited, givenChunk}
 use Rattle.edits.specs.Run.{ArgsOk, targetFault, editedFile, editFault}
 use Rattle.edits.proofs.Applies.{Applies}
 use Rattle.edits.proofs.AddVerdict.{added-verdict}
@@ -55,8 +55,8 @@ content-is f u n h = go (lookup (model f) u n) refl
     go missing e = content-refused f u n 22 0 (lookup-nowhere f u n h e)
     go (here c) e = let p = lookup-here f u n h c e in content-found f u n _ _ _ (p .0) ∙ ap (holds (c .type)) (p .1)
 
-pub holds-given : (f : List ℕ) (u n t : ℕ) (d : List ℕ) → plainVerdict f ≡ accept → lookup (model f) u n ≡ here (given t d) → Holds f u n t d
-unfolding given
+pub holds-given : (f : List ℕ) (u n t : ℕ) (d : List ℕ) → plainVerdict f ≡ accept → lookup (model f) u n ≡ here (givenChunk t d) → Holds f u n t d
+unfolding givenChunk
 holds-given f u n t d h e =
     let p = lookup-here f u n h (record { type = t; body = d }) e in
     record { start = _; found = p .0; content = content-found f u n _ _ _ (p .0) ∙ ap (holds t) (p .1) }
@@ -129,12 +129,12 @@ found-apart m u n v k h o =
 pub own-pair : (f : List ℕ) (e : Edit) → Told f e → OwnPair e (editedFile f e)
 unfolding edited modelFault
 own-pair f (add u n t d) k =
-    let fresh : pairIn u n (model f .refs) ≡ false = not-there (model f) u n (given t d) (k .sound) (k .judged) (k .judged-new) in
+    let fresh : pairIn u n (model f .refs) ≡ false = not-there (model f) u n (givenChunk t d) (k .sound) (k .judged) (k .judged-new) in
     holds-given (editedFile f (add u n t d)) u n t d (k .new)
-    (ap (λ (m : Model). lookup m u n) (k .same) ∙ add-reads (model f) u n (given t d) (k .sound) fresh)
+    (ap (λ (m : Model). lookup m u n) (k .same) ∙ add-reads (model f) u n (givenChunk t d) (k .sound) fresh)
 own-pair f (replace u n t d) k =
     holds-given (editedFile f (replace u n t d)) u n t d (k .new)
-    (ap (λ (m : Model). lookup m u n) (k .same) ∙ replace-reads (model f) u n (given t d) (k .applies .0) (chunk-there (model f) (find u n (model f .refs)) (k .sound) (k .applies .0)))
+    (ap (λ (m : Model). lookup m u n) (k .same) ∙ replace-reads (model f) u n (givenChunk t d) (k .applies .0) (chunk-there (model f) (find u n (model f .refs)) (k .sound) (k .applies .0)))
 own-pair f (remove u n) k =
     let i : ℕ = find u n (model f .refs) in
     let refs = then-accept _ _ (then-accept _ _ (then-accept _ _ (k .judged) .1) .1) .0 in
@@ -144,8 +144,8 @@ own-pair f (remove u n) k =
 -- every other pair
 keeps : (m : Model) (e : Edit) (v k : ℕ) → Sound m → Applies m e → OtherPair e v k → lookup (edited m e) v k ≡ lookup m v k
 unfolding edited
-keeps m (add u n t d) v k s a o = add-keeps m u n (given t d) v k s (apart-eqb u n v k o)
-keeps m (replace u n t d) v k s a o = replace-keeps m (find u n (m .refs)) (given t d) v k (a .0) (a .1) (found-apart m u n v k (a .0) o)
+keeps m (add u n t d) v k s a o = add-keeps m u n (givenChunk t d) v k s (apart-eqb u n v k o)
+keeps m (replace u n t d) v k s a o = replace-keeps m (find u n (m .refs)) (givenChunk t d) v k (a .0) (a .1) (found-apart m u n v k (a .0) o)
 keeps m (remove u n) v k s a o = remove-keeps m (find u n (m .refs)) v k a (found-apart m u n v k a o)
 
 pub other-pair : (f : List ℕ) (e : Edit) (v k : ℕ) → Told f e → OtherPair e v k → contentOf (editedFile f e) v k ≡ contentOf f v k

@@ -9,29 +9,29 @@ use lib.ListN.{length, take, drop, length-append, length-map, length-drop, take-
 use lib.Seq.{length-take-le, drop-append-le, drop-drop}
 use lib.Dec.{leb}
 use Rattle.blorb.specs.Bytes.{be32}
-use Rattle.blorb.specs.Format.{Chunk, Entry, size, entryBytes, entriesBytes, chunkBytes, chunksBytes, total, placeOf}
+use Rattle.blorb.specs.Format.{Chunk, Entry, size, entryBytes, entriesBytes, chunkBytes, chunksBytes, total, placeOf, chunkOf, heading}
 use Rattle.blorb.specs.Rules.{plainRules}
-use Rattle.blorb.specs.Model.{Model, base, startAt, file, model}
+use Rattle.blorb.specs.Model.{Model, base, startOf, file, model}
 use Rattle.blorb.specs.Queries.{start}
 use Rattle.blorb.specs.All.{All}
-use Rattle.blorb.proofs.Sound.{Sound}
+use Rattle.blorb.specs.Sound.{Sound}
 use Rattle.blorb.specs.Bytes.{Byte}
 use Rattle.blorb.proofs.Accept.{accept-back}
 use Rattle.blorb.proofs.Codec.{EntryOk, length-entriesBytes, length-chunksBytes, length-chunkBytes}
 use Rattle.blorb.proofs.ModelLaws.{entries, entries-ok, total-take}
-use Rattle.blorb.proofs.Parts.{front, file-parts, length-front, chunks-append}
-use Rattle.edits.specs.Edit.{with-at, given}
+use Rattle.blorb.proofs.Parts.{file-parts, length-heading, chunks-append}
+use Rattle.edits.specs.Edit.{with-at}
 use Rattle.edits.specs.Journal.{Rec, oldChunk, oldPlace, undo3, undo4, fits3, fits4}
 use Rattle.edits.specs.Run.{noted, written}
 use Rattle.edits.proofs.Noted.{noted-over}
 use Rattle.edits.proofs.Lengths.{total-append}
-use Rattle.edits.proofs.Starts.{moved}
+use Rattle.edits.specs.Starts.{moved}
 use Rattle.edits.proofs.InsertStarts.{risen, length-with, starts-inserted, starts-relisted, fit3, fit4}
-use Rattle.editor.specs.Shift.{moved as slid}
+use Rattle.editor.specs.Shift.{slid}
 use Rattle.editor.specs.Moves.{startsMoved, relocated}
 use Rattle.editor.specs.declared.moves.Move.{Move}
 use Rattle.editor.specs.Post.{Stands, Insertable, goneRec}
-use Rattle.editor.proofs.Writes.{file-length, entries-append, entries-cons, chunks-cons, length-entry, entry-bytes, size-given, slid-right, starts-moved, written-longer}
+use Rattle.editor.proofs.Writes.{file-length, entries-append, entries-cons, chunks-cons, length-entry, entry-bytes, size-of, slid-right, starts-moved, written-longer}
 
 -- starts at or behind s: behind s - 1
 pub relocated-risen : (m : Move) (s a : ℕ) → 1 ≤ s → m .limit ≡ s - 1 → m .grow ≡ 12 + a → m .fall ≡ 0 → m .plus ≡ 12 → m .minus ≡ 0 → relocated m ≡ risen s a
@@ -138,7 +138,7 @@ module _ (m : Model) (r : Rec) (es : r .start ≡ start m (oldPlace r m) + 12) w
   abbrev back : Entry
   back = record { usage = r .usage; number = r .number; start = r .start }
 
-  inserted-file : file (undo3 r m) ≡ front (suc (length (m .refs))) (total (m .chunks) + size (oldChunk r))
+  inserted-file : file (undo3 r m) ≡ heading (suc (length (m .refs))) (total (m .chunks) + size (oldChunk r))
       ++ (entriesBytes (with-at (r .place) back (map (moved (risen (r .start - 12) (size (oldChunk r)))) (entries m)))
       ++ (chunksBytes (take (oldPlace r m) (m .chunks)) ++ (chunkBytes (oldChunk r) ++ chunksBytes (drop (oldPlace r m) (m .chunks)))))
   inserted-file =
@@ -146,21 +146,21 @@ module _ (m : Model) (r : Rec) (es : r .start ≡ start m (oldPlace r m) + 12) w
       let t1 : total (undo3 r m .chunks) ≡ total (m .chunks) + size (oldChunk r) = (unfold undo3 in size-with (m .chunks) (oldPlace r m) (oldChunk r)) in
       let c1 : chunksBytes (undo3 r m .chunks) ≡ chunksBytes (take (oldPlace r m) (m .chunks)) ++ (chunkBytes (oldChunk r) ++ chunksBytes (drop (oldPlace r m) (m .chunks)))
       = (unfold undo3 in chunks-with (m .chunks) (oldPlace r m) (oldChunk r)) in
-      file-parts (undo3 r m) ∙ (λ z. front (n1 z) (t1 z) ++ (entriesBytes (starts-inserted m r es z) ++ c1 z))
+      file-parts (undo3 r m) ∙ (λ z. heading (n1 z) (t1 z) ++ (entriesBytes (starts-inserted m r es z) ++ c1 z))
 
-  relisted-file : file (undo4 r m) ≡ front (suc (length (m .refs))) (total (m .chunks))
+  relisted-file : file (undo4 r m) ≡ heading (suc (length (m .refs))) (total (m .chunks))
       ++ (entriesBytes (with-at (r .place) back (map (moved (λ t. t + 12)) (entries m))) ++ chunksBytes (m .chunks))
   relisted-file =
       let n1 : length (undo4 r m .refs) ≡ suc (length (m .refs)) = (unfold undo4 in length-with (r .place) _ _) in
       let t1 : total (undo4 r m .chunks) ≡ total (m .chunks) = (unfold undo4 in refl) in
       let c1 : chunksBytes (undo4 r m .chunks) ≡ chunksBytes (m .chunks) = (unfold undo4 in refl) in
-      file-parts (undo4 r m) ∙ (λ z. front (n1 z) (t1 z) ++ (entriesBytes (starts-relisted m r es z) ++ c1 z))
+      file-parts (undo4 r m) ∙ (λ z. heading (n1 z) (t1 z) ++ (entriesBytes (starts-relisted m r es z) ++ c1 z))
 
 seam : (a b c d : List ℕ) → a ++ (b ++ (c ++ d)) ≡ (a ++ (b ++ c)) ++ d
 seam a b c d = simp append-assoc
 
 start-bytes : (m : Model) (k : ℕ) → start m k ≡ 24 + 12 * length (m .refs) + length (chunksBytes (take k (m .chunks)))
-unfolding start startAt base
+unfolding start startOf base
 start-bytes m k = ap (λ (z : ℕ). 24 + 12 * length (m .refs) + z) (sym (length-chunksBytes (take k (m .chunks))))
 
 -- from an accepted file in a buffer, as the code has it
@@ -174,7 +174,7 @@ module _ (b : List ℕ) (l k i at u n : ℕ) (stands : Stands b l k) (bytes : Al
   lm : length (file m) ≡ l
   lm = ap length (good .0) ∙ length-take-le l b (stands .inside)
 
-  whole : b ≡ front (length (m .refs)) (total (m .chunks)) ++ (entriesBytes (entries m) ++ (chunksBytes (m .chunks) ++ drop l b))
+  whole : b ≡ heading (length (m .refs)) (total (m .chunks)) ++ (entriesBytes (entries m) ++ (chunksBytes (m .chunks) ++ drop l b))
   whole = sym (take-append-drop l b) ∙ ap (λ (z : List ℕ). z ++ drop l b) (sym (good .0) ∙ file-parts m) ∙ simp append-assoc
 
   listed-ok : All EntryOk (entries m)
@@ -185,9 +185,8 @@ module _ (b : List ℕ) (l k i at u n : ℕ) (stands : Stands b l k) (bytes : Al
 
   pub insert-written : (t : ℕ) (d : List ℕ) → l + (20 + (length d + length d % 2)) ≤ length b
       → noted (noted (noted (slid (slid (startsMoved (risen at (8 + (length d + length d % 2))) k 24 b) (at + (12 + (8 + (length d + length d % 2)))) at (l - at)) (24 + 12 * i + 12) (24 + 12 * i) (at - (24 + 12 * i)))
-      (24 + 12 * i) (be32 u ++ (be32 n ++ be32 (at + 12)))) (at + 12) (chunkBytes (given t d))) 0 (front (k + 1) (l - (24 + 12 * k) + (8 + (length d + length d % 2))))
+      (24 + 12 * i) (be32 u ++ (be32 n ++ be32 (at + 12)))) (at + 12) (chunkBytes (chunkOf t d))) 0 (heading (k + 1) (l - (24 + 12 * k) + (8 + (length d + length d % 2))))
       ≡ written b l (file (undo3 (goneRec 3 u n i at t d) (model (take l b))))
-  unfolding given
   insert-written t d room =
       let r : Rec = goneRec 3 u n i at t d in
       let c : Chunk = oldChunk r in
@@ -200,21 +199,21 @@ module _ (b : List ℕ) (l k i at u n : ℕ) (stands : Stands b l k) (bytes : Al
       let c2 : List ℕ = chunksBytes (drop kc (m .chunks)) in
       let cut : chunksBytes (m .chunks) ≡ c1 ++ c2 = ap chunksBytes (sym (take-append-drop kc (m .chunks))) ∙ chunks-append (take kc (m .chunks)) (drop kc (m .chunks)) in
       let tot : total (m .chunks) ≡ length c1 + length c2 = sym (length-chunksBytes (m .chunks)) ∙ ap length cut ∙ length-append c1 c2 in
-      let F : List ℕ = front N (total (m .chunks)) in
+      let F : List ℕ = heading N (total (m .chunks)) in
       let w0 : b ≡ F ++ (entriesBytes (entries m) ++ (c1 ++ (c2 ++ drop l b)))
       = whole ∙ ap (λ (z : List ℕ). F ++ (entriesBytes (entries m) ++ z)) (ap (λ (z : List ℕ). z ++ drop l b) cut ∙ append-assoc c1 c2 (drop l b)) in
       let ek : k ≡ N = stands .entries in
       let lr : length (drop l b) ≡ length b - l = length-drop l b in
       let ea : 24 + 12 * N + length c1 ≡ at = sym (es ∙ start-bytes m kc) in
       let el : at + length c2 ≡ l = omega (arith, file-length m, lm) in
-      let sc : size c ≡ sz = size-given t d ∙ omega arith in
+      let sc : size c ≡ sz = size-of t d ∙ omega arith in
       let x : Entry = record { usage = u; number = n; start = at + 12 } in
       let k1 : k + 1 ≡ suc N = omega arith in
       let t1 : l - (24 + 12 * k) + sz ≡ total (m .chunks) + size c = omega (arith, file-length m, lm) in
-      let F′ : List ℕ = front (suc N) (total (m .chunks) + size c) in
+      let F′ : List ℕ = heading (suc N) (total (m .chunks) + size c) in
       let f : ℕ → ℕ = risen at sz in
-      let leaves = chunk-leaves F (entries m) f i N (24 + 12 * i) (length-front N (total (m .chunks))) (length-map (m .refs) _) listed-ok (omega (arith, ins .listed)) refl
-      c1 c2 (drop l b) (entryBytes x) (chunkBytes c) F′ at sz l ea el (omega arith) (length-entry x) (length-chunkBytes c ∙ sc) (length-front (suc N) (total (m .chunks) + size c)) in
+      let leaves = chunk-leaves F (entries m) f i N (24 + 12 * i) (length-heading N (total (m .chunks))) (length-map (m .refs) _) listed-ok (omega (arith, ins .listed)) refl
+      c1 c2 (drop l b) (entryBytes x) (chunkBytes c) F′ at sz l ea el (omega arith) (length-entry x) (length-chunkBytes c ∙ sc) (length-heading (suc N) (total (m .chunks) + size c)) in
       let E : List ℕ = entriesBytes (with-at i x (map (moved f) (entries m))) in
       let file-is : file (undo3 r m) ≡ F′ ++ (E ++ (c1 ++ (chunkBytes c ++ c2)))
       = inserted-file m r (ap (λ (z : ℕ). z + 12) es)
@@ -222,9 +221,9 @@ module _ (b : List ℕ) (l k i at u n : ℕ) (stands : Stands b l k) (bytes : Al
       let lE : length E ≡ 12 * suc N = length-entriesBytes (with-at i x (map (moved f) (entries m)))
       ∙ ap (λ (z : ℕ). 12 * z) (length-with i x (map (moved f) (entries m)) ∙ ap suc (length-map (entries m) _ ∙ length-map (m .refs) _)) in
       let len : length (file (undo3 r m)) ≡ l + (12 + sz)
-      = ap length file-is ∙ simp length-append (omega (arith, length-front (suc N) (total (m .chunks) + size c), length-chunkBytes c)) in
+      = ap length file-is ∙ simp length-append (omega (arith, length-heading (suc N) (total (m .chunks) + size c), length-chunkBytes c)) in
       (λ z. noted (noted (noted (slid (slid (startsMoved f (ek z) 24 (w0 z)) (at + (12 + sz)) at (l - at)) (24 + 12 * i + 12) (24 + 12 * i) (at - (24 + 12 * i)))
-      (24 + 12 * i) (sym (entry-bytes u n (at + 12)) z)) (at + 12) (chunkBytes c)) 0 (front (k1 z) (t1 z)))
+      (24 + 12 * i) (sym (entry-bytes u n (at + 12)) z)) (at + 12) (chunkBytes c)) 0 (heading (k1 z) (t1 z)))
       ∙ leaves
       ∙ (λ z. F′ ++ (sym (entries-with (map (moved f) (entries m)) i x) z ++ ((c1 ++ (chunkBytes c ++ c2)) ++ drop (12 + sz) (drop l b))))
       ∙ seam F′ E (c1 ++ (chunkBytes c ++ c2)) (drop (12 + sz) (drop l b))
@@ -232,7 +231,7 @@ module _ (b : List ℕ) (l k i at u n : ℕ) (stands : Stands b l k) (bytes : Al
       ∙ at-end (file (undo3 r m)) (12 + sz) len
 
   pub relist-written : l + 12 ≤ length b
-      → noted (noted (slid (startsMoved (λ t. t + 12) k 24 b) (24 + 12 * i + 12) (24 + 12 * i) (l - (24 + 12 * i))) (24 + 12 * i) (be32 u ++ (be32 n ++ be32 (at + 12)))) 0 (front (k + 1) (l - (24 + 12 * k)))
+      → noted (noted (slid (startsMoved (λ t. t + 12) k 24 b) (24 + 12 * i + 12) (24 + 12 * i) (l - (24 + 12 * i))) (24 + 12 * i) (be32 u ++ (be32 n ++ be32 (at + 12)))) 0 (heading (k + 1) (l - (24 + 12 * k)))
       ≡ written b l (file (undo4 (goneRec 4 u n i at 0 []) (model (take l b))))
   relist-written room =
       let r : Rec = goneRec 4 u n i at 0 [] in
@@ -241,22 +240,22 @@ module _ (b : List ℕ) (l k i at u n : ℕ) (stands : Stands b l k) (bytes : Al
       let es : at ≡ start m (oldPlace r m) = ins .starts ∙ ap (λ (z : ℕ). start m (placeOf z (base N) (m .chunks))) (sym back12) in
       let C : List ℕ = chunksBytes (m .chunks) in
       let lC : length C ≡ total (m .chunks) = length-chunksBytes (m .chunks) in
-      let F : List ℕ = front N (total (m .chunks)) in
+      let F : List ℕ = heading N (total (m .chunks)) in
       let ek : k ≡ N = stands .entries in
       let lr : length (drop l b) ≡ length b - l = length-drop l b in
       let x : Entry = record { usage = u; number = n; start = at + 12 } in
       let k1 : k + 1 ≡ suc N = omega arith in
       let t1 : l - (24 + 12 * k) ≡ total (m .chunks) = omega (arith, file-length m, lm) in
-      let F′ : List ℕ = front (suc N) (total (m .chunks)) in
+      let F′ : List ℕ = heading (suc N) (total (m .chunks)) in
       let f : ℕ → ℕ = λ t. t + 12 in
-      let leaves = entry-leaves F (entries m) f i N (24 + 12 * i) (length-front N (total (m .chunks))) (length-map (m .refs) _) listed-ok (omega (arith, ins .listed)) refl
-      C (drop l b) (entryBytes x) F′ l (omega (arith, file-length m, lm)) (omega arith) (length-entry x) (length-front (suc N) (total (m .chunks))) in
+      let leaves = entry-leaves F (entries m) f i N (24 + 12 * i) (length-heading N (total (m .chunks))) (length-map (m .refs) _) listed-ok (omega (arith, ins .listed)) refl
+      C (drop l b) (entryBytes x) F′ l (omega (arith, file-length m, lm)) (omega arith) (length-entry x) (length-heading (suc N) (total (m .chunks))) in
       let E : List ℕ = entriesBytes (with-at i x (map (moved f) (entries m))) in
       let file-is : file (undo4 r m) ≡ F′ ++ (E ++ C) = relisted-file m r (ap (λ (z : ℕ). z + 12) es) in
       let lE : length E ≡ 12 * suc N = length-entriesBytes (with-at i x (map (moved f) (entries m)))
       ∙ ap (λ (z : ℕ). 12 * z) (length-with i x (map (moved f) (entries m)) ∙ ap suc (length-map (entries m) _ ∙ length-map (m .refs) _)) in
-      let len : length (file (undo4 r m)) ≡ l + 12 = ap length file-is ∙ simp length-append (omega (arith, length-front (suc N) (total (m .chunks)), file-length m, lm)) in
-      (λ z. noted (noted (slid (startsMoved f (ek z) 24 (whole z)) (24 + 12 * i + 12) (24 + 12 * i) (l - (24 + 12 * i))) (24 + 12 * i) (sym (entry-bytes u n (at + 12)) z)) 0 (front (k1 z) (t1 z)))
+      let len : length (file (undo4 r m)) ≡ l + 12 = ap length file-is ∙ simp length-append (omega (arith, length-heading (suc N) (total (m .chunks)), file-length m, lm)) in
+      (λ z. noted (noted (slid (startsMoved f (ek z) 24 (whole z)) (24 + 12 * i + 12) (24 + 12 * i) (l - (24 + 12 * i))) (24 + 12 * i) (sym (entry-bytes u n (at + 12)) z)) 0 (heading (k1 z) (t1 z)))
       ∙ leaves
       ∙ (λ z. F′ ++ (sym (entries-with (map (moved f) (entries m)) i x) z ++ (C ++ drop 12 (drop l b))))
       ∙ seam F′ E C (drop 12 (drop l b))

@@ -8,10 +8,10 @@ use lib.ListN.{length, getD, take, drop}
 use lib.Dec.{eqb}
 use borrow.Author.Tests.{eq-eqb, ne-eqb}
 use Rattle.blorb.specs.Bytes.{rd32}
-use Rattle.edits.specs.Edit.{given}
-use Rattle.edits.specs.Journal.{Rec, lastRec, wellFormed, oldChunk}
+use Rattle.blorb.specs.Format.{chunkOf}
+use Rattle.edits.specs.Journal.{Rec, lastRec, wellFormed, oldChunk, kindRule}
 use Rattle.edits.specs.Run.{State, afterUndo}
-use Rattle.edits.proofs.LastLaws.{kindRule, numbers-part, formed-part, WellFormed, well-formed-part}
+use Rattle.edits.proofs.LastLaws.{numbers-part, formed-part, WellFormed, well-formed-part}
 use Rattle.editor.specs.declared.journal.Record.{Record}
 use Rattle.editor.specs.declared.journal.Last.{Last}
 use Rattle.editor.specs.declared.journal.Last.the-variants.{Good, Bad}
@@ -75,13 +75,13 @@ pub record Ends (l : List ℕ) (u : ℕ) (r : Record) : Type 0 where
   pub numbers : numbersOf (lastRec (take u l)) ≡ r
   pub room : 29 + r .length ≤ u
   pub lies : lastRec (take u l) .body ≡ take (r .length) (drop (u - 4 - r .length) l)
-  pub old : oldChunk (lastRec (take u l)) ≡ given (r .sort) (take (r .length) (drop (u - 4 - r .length) l))
+  pub old : oldChunk (lastRec (take u l)) ≡ chunkOf (r .sort) (take (r .length) (drop (u - 4 - r .length) l))
   pub kind-low : 1 ≤ r .kind
   pub kind-high : r .kind ≤ 4
   pub back : (b : List ℕ) (len : ℕ) → afterUndo (state b len l u) .U ≡ u - (29 + r .length)
 
 pub good-ends : (l : List ℕ) (u : ℕ) (r : Record) → u ≤ length l → lastOf (take u l) ≡ Good r → Ends l u r
-unfolding given afterUndo
+unfolding afterUndo
 good-ends l u r inside h =
     let g = last-good (take u l) r h in
     let w = well-formed-part l u inside (g .0) in

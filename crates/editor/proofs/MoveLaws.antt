@@ -1,19 +1,20 @@
 -- Laws of the byte-moving leaves.
-use Prim.Native.Nat.{ℕ, suc, _+_, _*_, _-_, _/_, _%_, _≤_, _<_}
+use Prim.Native.Nat.{ℕ, zero, suc, _+_, _*_, _-_, _/_, _%_, _≤_, _<_}
 use mathlib.Core.Path.{_≡_, refl, ap, sym, _∙_}
 use mathlib.Core.List.{List, [], _∷_, _++_, append-assoc}
 use native.Mathlib.Omega.{arith}
 use native.Mathlib.Numerals.{add-one}
-use lib.ListN.{length, getD, take, drop, set, replicate, length-replicate, getD-replicate, length-append}
-use lib.Seq.{paste, paste-suc, take-length, set-split}
-use Rattle.blorb.specs.Bytes.{be32, rd32}
+use lib.ListN.{length, getD, take, drop, set, replicate, length-replicate, getD-replicate, length-append, length-drop, take-append-drop}
+use lib.Seq.{paste, paste-suc, take-length, set-split, drop-drop}
+use Rattle.blorb.specs.Bytes.{Byte, be32, rd32}
+use Rattle.blorb.specs.All.{All}
+use Rattle.blorb.proofs.AllLaws.{all-drop}
+use Rattle.blorb.proofs.Accept.{again}
 use Rattle.blorb.proofs.ByteLaws.{length-be32}
 use Rattle.edits.specs.Run.{noted}
 use Rattle.edits.proofs.Noted.{noted-next}
 use Rattle.blorb.specs.Tags.{FORM, IFRS, RIdx}
-use Rattle.blorb.specs.Format.{chunkBytes}
-use Rattle.edits.specs.Edit.{given}
-use Rattle.blorb.proofs.Parts.{front}
+use Rattle.blorb.specs.Format.{chunkBytes, chunkOf, heading}
 use Rattle.edits.specs.Journal.{recBytes, recBody}
 use Rattle.blorb.specs.Little.{little}
 use Rattle.editor.specs.Moves.{low4, turned, startsMoved}
@@ -64,6 +65,22 @@ starts-done f n i p b h =
     let e : n - i ≡ 0 = omega arith in
     rw e (unfold startsMoved in refl)
 
+-- a number read and written back
+read-back : (b : List ℕ) (at : ℕ) → All Byte b → at + 4 ≤ length b → noted b at (be32 (rd32 (drop at b))) ≡ b
+unfolding noted
+read-back b at h l =
+    let e : be32 (rd32 (drop at b)) ≡ take 4 (drop at b) = again (drop at b) (all-drop Byte at b h) (simp length-drop (omega arith)) in
+    rw (length-be32, e, ← drop-drop 4 at b, take-append-drop 4 (drop at b)) (take-append-drop at b)
+
+-- starts that stay
+pub starts-stay : (f : ℕ → ℕ) → ((x : ℕ) → f x ≡ x) → (n at : ℕ) (b : List ℕ) → All Byte b → at + 12 * n ≤ length b → startsMoved f n at b ≡ b
+unfolding startsMoved
+starts-stay f e zero at b h l = refl
+starts-stay f e (suc n) at b h l =
+    let r : ℕ = rd32 (drop (at + 8) b) in
+    let s : noted b (at + 8) (be32 (f r)) ≡ b = ap (λ (x : ℕ). noted b (at + 8) (be32 x)) (e r) ∙ read-back b (at + 8) h (omega arith) in
+    ap (startsMoved f n (at + 12)) s ∙ starts-stay f e n (at + 12) b h (omega arith)
+
 -- numbers side by side
 pub words : (b : List ℕ) (at x y z : ℕ) → at + 12 ≤ length b
     → noted (noted (noted b at (be32 x)) (at + 4) (be32 y)) (at + 8) (be32 z) ≡ noted b at (be32 x ++ (be32 y ++ be32 z))
@@ -74,17 +91,17 @@ words b at x y z h =
       append-assoc (be32 x) (be32 y) (be32 z),
     )
 
-pub front-written : (b : List ℕ) (n t : ℕ) → 24 ≤ length b
-    → noted (noted b 0 (be32 FORM ++ (be32 (16 + 12 * n + t) ++ be32 IFRS))) 12 (be32 RIdx ++ (be32 (4 + 12 * n) ++ be32 n)) ≡ noted b 0 (front n t)
-unfolding front
-front-written b n t h =
+pub heading-written : (b : List ℕ) (n t : ℕ) → 24 ≤ length b
+    → noted (noted b 0 (be32 FORM ++ (be32 (16 + 12 * n + t) ++ be32 IFRS))) 12 (be32 RIdx ++ (be32 (4 + 12 * n) ++ be32 n)) ≡ noted b 0 (heading n t)
+unfolding heading
+heading-written b n t h =
     rw (noted-next b 0 12 (be32 FORM ++ (be32 (16 + 12 * n + t) ++ be32 IFRS)) (be32 RIdx ++ (be32 (4 + 12 * n) ++ be32 n))
     (simp (length-append, length-be32)) (simp (length-append, length-be32) (omega arith)))
     (ap (noted b 0) (simp append-assoc))
 
 pub chunk-written : (b : List ℕ) (at t : ℕ) (d : List ℕ) → at + (8 + (length d + length d % 2)) ≤ length b
-    → noted (noted (noted (noted b at (be32 t)) (at + 4) (be32 (length d))) (at + 8) d) (at + 8 + length d) (replicate (length d % 2) 0) ≡ noted b at (chunkBytes (given t d))
-unfolding chunkBytes given
+    → noted (noted (noted (noted b at (be32 t)) (at + 4) (be32 (length d))) (at + 8) d) (at + 8 + length d) (replicate (length d % 2) 0) ≡ noted b at (chunkBytes (chunkOf t d))
+unfolding chunkBytes
 chunk-written b at t d h =
     rw (
       noted-next b at (at + 4) (be32 t) (be32 (length d)) (simp length-be32) (simp length-be32 (omega arith)),

@@ -8,29 +8,30 @@ use native.Mathlib.Nat.{add-zero}
 use lib.ListN.{length, getD, take, drop, replicate, length-append, length-map, length-drop, length-replicate, take-append-drop}
 use lib.Seq.{length-take-le, split-at}
 use lib.Dec.{ltb}
-use Rattle.blorb.specs.Format.{Ref, Chunk, Entry, size, entryBytes, entriesBytes, chunkBytes, chunksBytes, total}
+use Rattle.blorb.specs.Format.{Ref, Chunk, Entry, size, entryBytes, entriesBytes, chunkBytes, chunksBytes, total, heading}
 use Rattle.blorb.specs.Verdict.{noChunk}
 use Rattle.blorb.specs.Rules.{plainRules}
-use Rattle.blorb.specs.Model.{Model, base, startAt, entryOf, file, model}
+use Rattle.blorb.specs.Model.{Model, base, startOf, entryOf, file, model}
 use Rattle.blorb.specs.Queries.{noRef, refAt, chunkAt, shared, without}
 use Rattle.edits.specs.Edit.{removed, removedBoth, removedEntry}
 use Rattle.blorb.specs.Queries.{start}
 use Rattle.blorb.specs.All.{All}
 use Rattle.blorb.proofs.AllLaws.{all-getD}
-use Rattle.blorb.proofs.Sound.{W, RefOk, Sound}
+use Rattle.blorb.specs.Sound.{W, RefOk, Sound}
 use Rattle.blorb.specs.Bytes.{Byte}
 use Rattle.blorb.proofs.Accept.{accept-back}
 use Rattle.blorb.proofs.Codec.{EntryOk, length-entriesBytes, length-chunksBytes, length-chunkBytes}
 use Rattle.blorb.proofs.ModelLaws.{entries, entries-ok}
 use Rattle.edits.proofs.UndoLaws.{length-without, length-remaining}
-use Rattle.edits.proofs.Starts.{moved, fallen, starts-removed, map-without}
-use Rattle.blorb.proofs.Parts.{front, file-parts, length-front, chunks-append}
+use Rattle.edits.specs.Starts.{moved, fallen}
+use Rattle.edits.proofs.Starts.{starts-removed, starts-unlisted, map-without}
+use Rattle.blorb.proofs.Parts.{file-parts, length-heading, chunks-append}
 use Rattle.edits.proofs.Lengths.{total-less}
 use Rattle.edits.specs.Run.{noted, written}
 use Rattle.edits.proofs.Noted.{noted-over}
 use Rattle.editor.specs.Moves.{startsMoved, relocated}
 use Rattle.editor.specs.declared.moves.Move.{Move}
-use Rattle.editor.specs.Shift.{moved as slid}
+use Rattle.editor.specs.Shift.{slid}
 use Rattle.editor.specs.Post.{Stands, goneSize}
 use Rattle.editor.proofs.Writes.{file-length, entries-append, entries-cons, chunks-cons, length-entry, left-behind, slid-left, starts-moved, written-shorter}
 
@@ -82,11 +83,11 @@ module _ (b : List ℕ) (L : ℕ) (m : Model) (i st sz t′ : ℕ) (c1 cx c2 : L
   es′ = map (moved f) (entries m)
 
   abbrev F : List ℕ
-  F = front (length (m .refs)) (total (m .chunks))
+  F = heading (length (m .refs)) (total (m .chunks))
 
   pub remove-leaves : noted (noted (slid (slid (startsMoved f n 24 b) (36 + 12 * i - 12) (36 + 12 * i) (st - (36 + 12 * i))) (st + sz - (12 + sz)) (st + sz) (L - (st + sz)))
-      (L - (12 + sz)) (replicate (12 + sz) 0)) 0 (front (n - 1) t′)
-      ≡ written b L (front (n - 1) t′ ++ (entriesBytes (map (moved f) (without i es)) ++ (c1 ++ c2)))
+      (L - (12 + sz)) (replicate (12 + sz) 0)) 0 (heading (n - 1) t′)
+      ≡ written b L (heading (n - 1) t′ ++ (entriesBytes (map (moved f) (without i es)) ++ (c1 ++ c2)))
   remove-leaves =
       let t : List ℕ = drop L b in
       let E : List ℕ = entriesBytes es in
@@ -94,7 +95,7 @@ module _ (b : List ℕ) (L : ℕ) (m : Model) (i st sz t′ : ℕ) (c1 cx c2 : L
       let ln : length es ≡ n = length-map (m .refs) _ in
       let ln′ : length es′ ≡ n = length-map es _ ∙ ln in
       let lE : length E ≡ 12 * n = length-entriesBytes es ∙ ap (λ (z : ℕ). 12 * z) ln in
-      let lF : length F ≡ 24 = length-front n (total (m .chunks)) in
+      let lF : length F ≡ 24 = length-heading n (total (m .chunks)) in
       let lL : length (take L b) ≡ L = length-take-le L b inside in
       let cont : take L b ≡ F ++ (E ++ (c1 ++ (cx ++ c2))) = whole ∙ file-parts m ∙ ap (λ (z : List ℕ). F ++ (E ++ z)) split in
       let lt : 24 + (12 * n + (length c1 + (sz + length c2))) ≡ L = sym (simp length-append (omega arith)) ∙ ap length (sym cont) ∙ lL in
@@ -138,8 +139,8 @@ module _ (b : List ℕ) (L : ℕ) (m : Model) (i st sz t′ : ℕ) (c1 cx c2 : L
       let lQ : length ((P ++ S) ++ c2) ≡ L - (12 + sz) = length-append (P ++ S) c2 ∙ ends (length (P ++ S)) (length c2) st sz L lPS lc2 low high in
       let w4 : noted (((P ++ S) ++ c2) ++ (g2 ++ t)) (L - (12 + sz)) zs ≡ F ++ ((A ++ B) ++ (c1 ++ (c2 ++ (zs ++ t))))
       = noted-over ((P ++ S) ++ c2) g2 t zs (L - (12 + sz)) lQ (lg2 ∙ sym lz) ∙ simp append-assoc in
-      let F′ : List ℕ = front (n - 1) t′ in
-      let lF′ : length F′ ≡ 24 = length-front (n - 1) t′ in
+      let F′ : List ℕ = heading (n - 1) t′ in
+      let lF′ : length F′ ≡ 24 = length-heading (n - 1) t′ in
       let AB : A ++ B ≡ entriesBytes (map (moved f) (without i es))
       = sym (entries-append (take i es′) (drop (suc i) es′)) ∙ ap entriesBytes (without-is i es′) ∙ ap entriesBytes (sym (map-without (moved f) i es)) in
       let lf : length (F′ ++ ((A ++ B) ++ (c1 ++ c2))) + (12 + sz) ≡ L
@@ -153,23 +154,14 @@ module _ (b : List ℕ) (L : ℕ) (m : Model) (i st sz t′ : ℕ) (c1 cx c2 : L
       ∙ sym (written-shorter b L (12 + sz) (F′ ++ ((A ++ B) ++ (c1 ++ c2))) lf)
       ∙ ap (λ (z : List ℕ). written b L (F′ ++ (z ++ (c1 ++ c2)))) AB
 
--- a shared chunk stays: every start falls by 12
-pub starts-unlisted : (m : Model) (i s : ℕ) → i < length (m .refs) → entries (removedEntry m i) ≡ map (moved (fallen s 0)) (without i (entries m))
-unfolding removedEntry entryOf startAt base
-starts-unlisted m i s h =
-    rw (← map-without (entryOf (base (length (m .refs))) (m .chunks)) i (m .refs), ← length-without i (m .refs) h)
-    (all (without i (m .refs)))
+-- a fall by 12 and the size of no chunk
+fall-none : (s : ℕ) (es : List Entry) → map (moved (λ t. t - 12)) es ≡ map (moved (fallen s 0)) es
+fall-none s [] = refl
+fall-none s (e ∷ es) = λ i. record { usage = e .usage; number = e .number; start = same (ltb s (e .start)) (e .start) i } ∷ fall-none s es i
   where
-    n : ℕ
-    n = length (without i (m .refs))
-
-    both : (x : Bool) (j : ℕ) → 24 + 12 * n + total (take j (m .chunks)) ≡ cond x (24 + 12 * suc n + total (take j (m .chunks)) - (12 + 0)) (24 + 12 * suc n + total (take j (m .chunks)) - 12)
-    both true j = omega arith
-    both false j = omega arith
-
-    all : (rs : List Ref) → map (entryOf (base n) (m .chunks)) rs ≡ map (moved (fallen s 0)) (map (entryOf (base (suc n)) (m .chunks)) rs)
-    all [] = refl
-    all (r ∷ rs) = λ z. record { usage = r .usage; number = r .number; start = both (ltb s (24 + 12 * suc n + total (take (r .chunk) (m .chunks)))) (r .chunk) z } ∷ all rs z
+    same : (x : Bool) (t : ℕ) → t - 12 ≡ cond x (t - (12 + 0)) (t - 12)
+    same true t = omega arith
+    same false t = refl
 
 -- the file after a removal, in parts
 module _ (m : Model) (i : ℕ) (s : Sound m) (h : i < length (m .refs)) where
@@ -179,32 +171,32 @@ module _ (m : Model) (i : ℕ) (s : Sound m) (h : i < length (m .refs)) where
   there : refAt m i .chunk < length (m .chunks)
   there = all-getD (RefOk (length (m .chunks))) (m .refs) i noRef (s .refs-ok) h .chunk-there
 
-  both-file : shared m i ≡ false → file (removedBoth m i k) ≡ front (length (m .refs) - 1) (total (m .chunks) - size (chunkAt m k))
+  both-file : shared m i ≡ false → file (removedBoth m i k) ≡ heading (length (m .refs) - 1) (total (m .chunks) - size (chunkAt m k))
       ++ (entriesBytes (map (moved (fallen (start m k) (size (chunkAt m k)))) (without i (entries m))) ++ (chunksBytes (take k (m .chunks)) ++ chunksBytes (drop (suc k) (m .chunks))))
   both-file alone =
       let n1 : length (removedBoth m i k .refs) ≡ length (m .refs) - 1 = omega (arith, length-remaining m i k h) in
       let t1 : total (removedBoth m i k .chunks) ≡ total (m .chunks) - size (chunkAt m k) = (unfold removedBoth in omega (arith, total-less (m .chunks) k there)) in
       let c1 : chunksBytes (removedBoth m i k .chunks) ≡ chunksBytes (take k (m .chunks)) ++ chunksBytes (drop (suc k) (m .chunks))
       = (unfold removedBoth without in chunks-append (take k (m .chunks)) (drop (suc k) (m .chunks))) in
-      file-parts (removedBoth m i k) ∙ (λ z. front (n1 z) (t1 z) ++ (entriesBytes (starts-removed m i h there alone z) ++ c1 z))
+      file-parts (removedBoth m i k) ∙ (λ z. heading (n1 z) (t1 z) ++ (entriesBytes (starts-removed m i h there alone z) ++ c1 z))
 
-  entry-file : file (removedEntry m i) ≡ front (length (m .refs) - 1) (total (m .chunks) - 0)
+  entry-file : file (removedEntry m i) ≡ heading (length (m .refs) - 1) (total (m .chunks) - 0)
       ++ (entriesBytes (map (moved (fallen (start m k) 0)) (without i (entries m))) ++ (chunksBytes (take k (m .chunks)) ++ chunksBytes (drop k (m .chunks))))
   entry-file =
       let n1 : length (removedEntry m i .refs) ≡ length (m .refs) - 1 = (unfold removedEntry in omega (arith, length-without i (m .refs) h)) in
       let t1 : total (removedEntry m i .chunks) ≡ total (m .chunks) - 0 = (unfold removedEntry in omega arith) in
       let c1 : chunksBytes (removedEntry m i .chunks) ≡ chunksBytes (take k (m .chunks)) ++ chunksBytes (drop k (m .chunks))
       = (unfold removedEntry in ap chunksBytes (sym (take-append-drop k (m .chunks))) ∙ chunks-append (take k (m .chunks)) (drop k (m .chunks))) in
-      file-parts (removedEntry m i) ∙ (λ z. front (n1 z) (t1 z) ++ (entriesBytes (starts-unlisted m i (start m k) h z) ++ c1 z))
+      file-parts (removedEntry m i) ∙ (λ z. heading (n1 z) (t1 z) ++ (entriesBytes ((starts-unlisted m i h ∙ fall-none (start m k) (without i (entries m))) z) ++ c1 z))
 
   start-is : start m k ≡ 24 + 12 * length (m .refs) + length (chunksBytes (take k (m .chunks)))
-  unfolding start startAt base
+  unfolding start startOf base
   start-is = ap (λ (z : ℕ). 24 + 12 * length (m .refs) + z) (sym (length-chunksBytes (take k (m .chunks))))
 
 -- from an accepted file in a buffer, as the code has it
 pub remove-written : (b : List ℕ) (l k i st sz : ℕ) → Stands b l k → All Byte (take l b) → i < k → st ≡ start (model (take l b)) (refAt (model (take l b)) i .chunk) → sz ≡ goneSize (model (take l b)) i
     → noted (noted (slid (slid (startsMoved (fallen st sz) k 24 b) (36 + 12 * i - 12) (36 + 12 * i) (st - (36 + 12 * i))) (st + sz - (12 + sz)) (st + sz) (l - (st + sz))) (l - (12 + sz)) (replicate (12 + sz) 0)) 0
-    (front (k - 1) (l - sz - (24 + 12 * k)))
+    (heading (k - 1) (l - sz - (24 + 12 * k)))
     ≡ written b l (file (removed (model (take l b)) i))
 unfolding goneSize removed
 remove-written b l k i st sz stands bytes hi est esz = go (shared (model (take l b)) i) refl
@@ -228,23 +220,23 @@ remove-written b l k i st sz stands bytes hi est esz = go (shared (model (take l
     th = there (model (take l b)) i (g .1) hi′
 
     fin : (sz′ : ℕ) (c1 cx c2 : List ℕ) (m′ : Model) → sz ≡ sz′ → chunksBytes (model (take l b) .chunks) ≡ c1 ++ (cx ++ c2) → length cx ≡ sz′ → c1 ≡ chunksBytes (take (refAt (model (take l b)) i .chunk) (model (take l b) .chunks))
-        → file m′ ≡ front (length (model (take l b) .refs) - 1) (total (model (take l b) .chunks) - sz′)
+        → file m′ ≡ heading (length (model (take l b) .refs) - 1) (total (model (take l b) .chunks) - sz′)
         ++ (entriesBytes (map (moved (fallen (start (model (take l b)) (refAt (model (take l b)) i .chunk)) sz′)) (without i (entries (model (take l b))))) ++ (c1 ++ c2))
         → noted (noted (slid (slid (startsMoved (fallen st sz) k 24 b) (36 + 12 * i - 12) (36 + 12 * i) (st - (36 + 12 * i))) (st + sz - (12 + sz)) (st + sz) (l - (st + sz))) (l - (12 + sz)) (replicate (12 + sz) 0)) 0
-        (front (k - 1) (l - sz - (24 + 12 * k))) ≡ written b l (file m′)
+        (heading (k - 1) (l - sz - (24 + 12 * k))) ≡ written b l (file m′)
     fin sz′ c1 cx c2 m′ es split lcx ec1 X =
         let ek : k ≡ length (m .refs) = stands .entries in
         let small : length (file m) < W = omega (arith, lm, stands .short) in
         let tt : l - sz - (24 + 12 * k) ≡ total (m .chunks) - sz′ = omega (arith, file-length m, lm) in
         let est′ : start m kc ≡ 24 + 12 * length (m .refs) + length c1 = start-is m i (g .1) hi′ ∙ ap (λ (z : List ℕ). 24 + 12 * length (m .refs) + length z) (sym ec1) in
         (λ z. noted (noted (slid (slid (startsMoved (fallen (est z) (es z)) (ek z) 24 b) (36 + 12 * i - 12) (36 + 12 * i) (est z - (36 + 12 * i))) (est z + es z - (12 + es z)) (est z + es z) (l - (est z + es z)))
-        (l - (12 + es z)) (replicate {A = ℕ} (12 + es z) 0)) 0 (front (ek z - 1) (tt z)))
+        (l - (12 + es z)) (replicate {A = ℕ} (12 + es z) 0)) 0 (heading (ek z - 1) (tt z)))
         ∙ remove-leaves b l m i (start m kc) sz′ (total (m .chunks) - sz′) c1 cx c2 (fallen (start m kc) sz′) (stands .inside) (sym (g .0)) (entries-ok m (g .1) small) (omega arith) hi′ split est′ lcx
         ∙ ap (written b l) (sym X)
 
     go : (x : Bool) → shared (model (take l b)) i ≡ x
         → noted (noted (slid (slid (startsMoved (fallen st sz) k 24 b) (36 + 12 * i - 12) (36 + 12 * i) (st - (36 + 12 * i))) (st + sz - (12 + sz)) (st + sz) (l - (st + sz))) (l - (12 + sz)) (replicate (12 + sz) 0)) 0
-        (front (k - 1) (l - sz - (24 + 12 * k)))
+        (heading (k - 1) (l - sz - (24 + 12 * k)))
         ≡ written b l (file (cond x (removedEntry (model (take l b)) i) (removedBoth (model (take l b)) i (refAt (model (take l b)) i .chunk))))
     go false e =
         fin (size (chunkAt m kc)) (chunksBytes (take kc (m .chunks))) (chunkBytes (chunkAt m kc)) (chunksBytes (drop (suc kc) (m .chunks))) (removedBoth m i kc)

@@ -12,14 +12,14 @@ use borrow.Author.Tests.{leb-true, lt-ltb, ltb-true}
 use Rattle.blorb.specs.Format.{Chunk, size, sized, total}
 use Rattle.blorb.specs.Verdict.{Verdict, accept, refuse, _then_, check, verdict, noChunk}
 use Rattle.blorb.specs.Rules.{plainRules}
-use Rattle.blorb.specs.Model.{Model, model, file, startAt, base}
+use Rattle.blorb.specs.Model.{Model, model, file, startOf, base}
 use Rattle.edits.specs.Edit.{Edit, remove, removed, edited}
 use Rattle.blorb.specs.Queries.{find, refAt, chunkAt, shared, noRef, start}
 use Rattle.edits.specs.Journal.{recOf, recBytes, Rec, removal}
 use Rattle.edits.proofs.JournalLaws.{length-recBytes}
 use Rattle.blorb.specs.All.{All}
 use Rattle.blorb.proofs.AllLaws.{all-getD}
-use Rattle.blorb.proofs.Sound.{RefOk, Sound}
+use Rattle.blorb.specs.Sound.{RefOk, Sound}
 use Rattle.blorb.proofs.VerdictLaws.{modelFault, verdict-file}
 use Rattle.edits.proofs.FitLaws.{find-pair}
 use Rattle.blorb.specs.Bytes.{Byte}
@@ -62,7 +62,7 @@ unfolding size sized
 body-sized c = omega arith
 
 start-before : (m : Model) (k : ℕ) → k < length (m .chunks) → (start m k + size (chunkAt m k) ≤ length (file m)) × (24 + 12 * length (m .refs) ≤ start m k)
-unfolding start startAt base total
+unfolding start startOf base total
 start-before m k h = (omega (arith, total-upto (m .chunks) k h, file-length m), omega arith)
   where
     total-upto : (cs : List Chunk) (j : ℕ) → j < length cs → total (take j cs) + size (getD cs j noChunk) ≤ total cs

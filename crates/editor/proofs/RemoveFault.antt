@@ -12,12 +12,12 @@ use Rattle.blorb.specs.Format.{Ref, Chunk, size, total}
 use Rattle.blorb.specs.Verdict.{Verdict, accept, refuse, _then_, check, noChunk, refFault, secondIndex, verdict}
 use Rattle.blorb.specs.Tags.{Pict, Rect, Fspc}
 use Rattle.blorb.specs.Rules.{picture, typeIn, optional, plainRules}
-use Rattle.blorb.specs.Model.{Model, base, startAt, file, model}
+use Rattle.blorb.specs.Model.{Model, base, startOf, file, model}
 use Rattle.edits.specs.Edit.{remove, edited, lower, removed, removedBoth, removedEntry}
 use Rattle.blorb.specs.Queries.{find, noRef, refAt, chunkAt, without, uses, shared, start, frontPlace, frontNumber}
 use Rattle.blorb.specs.All.{All}
 use Rattle.blorb.proofs.AllLaws.{all-getD}
-use Rattle.blorb.proofs.Sound.{W, RefOk, Sound}
+use Rattle.blorb.specs.Sound.{W, RefOk, Sound}
 use Rattle.blorb.specs.Bytes.{Byte}
 use Rattle.blorb.proofs.Checks.{then-accept, check-accept, pass, accepts}
 use Rattle.blorb.proofs.Accept.{accept-back}
@@ -26,7 +26,8 @@ use Rattle.edits.proofs.UndoLaws.{or-false, length-without, length-remaining}
 use Rattle.blorb.proofs.VerdictLaws.{refsFault, modelFault, verdict-file}
 use Rattle.edits.proofs.RemoveVerdict.{same-chunk, refs-removed, refs-without}
 use Rattle.edits.proofs.FitLaws.{edit-sound, find-pair}
-use Rattle.edits.proofs.Starts.{fallen, fell}
+use Rattle.edits.specs.Starts.{fallen}
+use Rattle.edits.proofs.Starts.{fell}
 use Rattle.edits.specs.Run.{hundred, editedFile}
 use Rattle.editor.specs.Post.{goneSize, Listed}
 use Rattle.reader.specs.declared.Front.{Front}
@@ -67,8 +68,8 @@ front-without (c ∷ cs) (suc k) h p = go (eqb (c .type) Fspc) (front-without cs
     go true ih = (rw (le-ltb (suc k) 0 (omega arith)), ne-eqb 0 (suc k) (λ e. omega arith))
     go false ih = (ap suc (ih .0) ∙ up (frontPlace cs), ne-eqb (suc (frontPlace cs)) (suc k) (λ e. eqb-false (frontPlace cs) k (ih .1) (omega arith)))
 
-fell-all : (n : ℕ) (cs : List Chunk) (s j : ℕ) → startAt (base n) cs j ≡ fallen s 0 (startAt (base (suc n)) cs j)
-unfolding startAt base
+fell-all : (n : ℕ) (cs : List Chunk) (s j : ℕ) → startOf (base n) cs j ≡ fallen s 0 (startOf (base (suc n)) cs j)
+unfolding startOf base
 fell-all n cs s j = both (ltb s (24 + 12 * suc n + total (take j cs)))
   where
     both : (x : Bool) → 24 + 12 * n + total (take j cs) ≡ cond x (24 + 12 * suc n + total (take j cs) - (12 + 0)) (24 + 12 * suc n + total (take j cs) - 12)
@@ -123,9 +124,9 @@ module _ (m : Model) (i u n : ℕ) (s : Sound m) (ok : modelFault plainRules m �
       let x : Ref = record { usage = 0; number = 0; chunk = frontPlace cs } in
       let n1 : length (map (lower k) (without i rs)) ≡ length (without i rs) = length-map (without i rs) (lower k) in
       let n2 : suc (length (without i rs)) ≡ length rs = length-without i rs h in
-      let place : startAt (base (length (map (lower k) (without i rs)))) (without k cs) (frontPlace (without k cs)) ≡ fallen (startAt (base (length rs)) cs k) (goneSize m i) (startAt (base (length rs)) cs (frontPlace cs))
-      = (λ z. startAt (base (n1 z)) (without k cs) (fw .0 z)) ∙ fell (length (without i rs)) cs k x there (fw .1)
-      ∙ (λ z. fallen (startAt (base (n2 z)) cs k) (sym gs z) (startAt (base (n2 z)) cs (frontPlace cs))) in
+      let place : startOf (base (length (map (lower k) (without i rs)))) (without k cs) (frontPlace (without k cs)) ≡ fallen (startOf (base (length rs)) cs k) (goneSize m i) (startOf (base (length rs)) cs (frontPlace cs))
+      = (λ z. startOf (base (n1 z)) (without k cs) (fw .0 z)) ∙ fell (length (without i rs)) cs k x there (fw .1)
+      ∙ (λ z. fallen (startOf (base (n2 z)) cs k) (sym gs z) (startOf (base (n2 z)) cs (frontPlace cs))) in
       optional-like (base (length rs)) (base (length (map (lower k) (without i rs)))) rs (map (lower k) (without i rs)) cs (without k cs) (like-without cs k there pl) (parts .3)
       ∙ pick (typeIn Fspc cs) 0 0 _ _ _ _ refl (λ e. picture-lower (frontNumber cs) cs k (without i rs) alone ∙ still (frontNumber cs) e refl) place
 
@@ -134,8 +135,8 @@ module _ (m : Model) (i u n : ℕ) (s : Sound m) (ok : modelFault plainRules m �
   unfolding lostFront removedEntry start
   entry-seven gs =
       let n2 : suc (length (without i rs)) ≡ length rs = length-without i rs h in
-      let place : startAt (base (length (without i rs))) cs (frontPlace cs) ≡ fallen (startAt (base (length rs)) cs k) (goneSize m i) (startAt (base (length rs)) cs (frontPlace cs))
-      = fell-all (length (without i rs)) cs (startAt (base (length rs)) cs k) (frontPlace cs) ∙ (λ z. fallen (startAt (base (length rs)) cs k) (sym gs z) (startAt (base (n2 z)) cs (frontPlace cs))) in
+      let place : startOf (base (length (without i rs))) cs (frontPlace cs) ≡ fallen (startOf (base (length rs)) cs k) (goneSize m i) (startOf (base (length rs)) cs (frontPlace cs))
+      = fell-all (length (without i rs)) cs (startOf (base (length rs)) cs k) (frontPlace cs) ∙ (λ z. fallen (startOf (base (length rs)) cs k) (sym gs z) (startOf (base (n2 z)) cs (frontPlace cs))) in
       optional-like (base (length rs)) (base (length (without i rs))) rs (without i rs) cs cs (like-self cs) (parts .3)
       ∙ pick (typeIn Fspc cs) 0 0 _ _ _ _ refl (λ e. still (frontNumber cs) e refl) place
 

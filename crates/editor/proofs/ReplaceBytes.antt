@@ -2,33 +2,38 @@
 use mathlib.Core.Path.{_≡_, refl, sym, ap, _∙_}
 use Prim.Native.Nat.{ℕ, suc, _+_, _*_, _-_, _≤_, _<_}
 use mathlib.Core.List.{List, [], _++_, map, append-assoc}
-use mathlib.Core.Bool.{cond}
+use mathlib.Core.Bool.{Bool, true, false, cond}
 use native.Mathlib.Omega.{arith}
 use native.Mathlib.Nat.{add-zero, sub-zero}
 use lib.ListN.{length, take, drop, set, length-append, length-map}
 use lib.Seq.{length-take-le}
 use lib.Dec.{ltb}
-use Rattle.blorb.specs.Format.{Chunk, Entry, size, entriesBytes, chunkBytes, chunksBytes, total}
+use borrow.Author.Tests.{le-ltb}
+use Rattle.blorb.specs.Format.{Chunk, Entry, size, entriesBytes, chunkBytes, chunksBytes, total, chunkOf, heading}
 use Rattle.blorb.specs.Verdict.{noChunk}
 use Rattle.blorb.specs.Rules.{plainRules}
-use Rattle.blorb.specs.Model.{Model, base, startAt, file, model}
+use Rattle.blorb.specs.Model.{Model, base, startOf, file, model}
 use Rattle.blorb.specs.Queries.{noRef, refAt, chunkAt}
-use Rattle.edits.specs.Edit.{replaced, given}
+use Rattle.edits.specs.Edit.{replaced}
 use Rattle.blorb.specs.Queries.{start}
 use Rattle.blorb.specs.All.{All}
 use Rattle.blorb.proofs.AllLaws.{all-getD}
-use Rattle.blorb.proofs.Sound.{W, RefOk}
+use Rattle.blorb.specs.Sound.{W, RefOk}
 use Rattle.blorb.specs.Bytes.{Byte}
 use Rattle.blorb.proofs.Accept.{accept-back}
 use Rattle.blorb.proofs.Codec.{length-entriesBytes, length-chunksBytes, length-chunkBytes}
 use Rattle.blorb.proofs.ModelLaws.{entries, entries-ok, size-getD}
-use Rattle.edits.proofs.Starts.{moved, behind, starts-replaced}
-use Rattle.blorb.proofs.Parts.{front, file-parts, length-front, chunks-set}
+use Rattle.edits.specs.Starts.{moved, behind}
+use Rattle.edits.proofs.Starts.{starts-replaced}
+use Rattle.blorb.proofs.Parts.{file-parts, length-heading, chunks-set}
 use Rattle.edits.proofs.Lengths.{total-put}
 use Rattle.edits.specs.Run.{noted, written}
 use Rattle.editor.specs.Moves.{startsMoved, relocated}
 use Rattle.editor.specs.declared.moves.Move.{Move}
-use Rattle.editor.specs.Post.{Stands, resized, Replaceable}
+use Rattle.editor.specs.Post.{Stands, closed, resized, Replaceable}
+use Rattle.edits.proofs.Noted.{noted-none}
+use Rattle.editor.proofs.ShiftLaws.{slid-onto}
+use Rattle.editor.proofs.MoveLaws.{starts-stay}
 use Rattle.editor.proofs.Content.{written-first, put-written, starts-written, Resized, resized-written}
 use Rattle.editor.proofs.Writes.{file-length}
 use Rattle.editor.proofs.RemoveBytes.{chunks-around}
@@ -40,11 +45,31 @@ relocated-behind m s a b p q r t w = λ i x. all x i
     all : (x : ℕ) → cond (ltb (m .limit) x) (x + m .grow - m .fall) (x + m .plus - m .minus) ≡ behind s a b x
     all x = rw (p, q, r, t, w, add-zero x, sub-zero x)
 
+-- a part of the same size: no start moves, and no byte
+behind-stay : (s a x : ℕ) → behind s a a x ≡ x
+behind-stay s a x = go (ltb s x)
+  where
+    go : (t : Bool) → cond t (x + a - a) x ≡ x
+    go true = omega arith
+    go false = refl
+
+pub starts-kept : (b : List ℕ) (k st old new : ℕ) → old ≡ new → All Byte b → 24 + 12 * k ≤ length b → b ≡ startsMoved (behind st old new) k 24 b
+starts-kept b k st old new e bytes h =
+    sym (ap (λ (a : ℕ). startsMoved (behind st a new) k 24 b) e ∙ starts-stay (behind st new new) (behind-stay st new) k 24 b bytes h)
+
+pub resized-same : (b : List ℕ) (at len old new : ℕ) → old ≡ new → b ≡ resized b at len old new
+unfolding resized closed
+resized-same b at len old new e =
+    let z : new - new ≡ 0 = omega arith in
+    let n : at + new + 0 ≡ at + new = omega arith in
+    let m : at + new - 0 ≡ at + new = omega arith in
+    sym (ap (λ (a : ℕ). resized b at len a new) e ∙ rw (le-ltb new new (omega arith), z, n, m, slid-onto b (at + new) (len - (at + new))) (noted-none b (len - 0)))
+
 seam : (a b c d : List ℕ) → a ++ (b ++ (c ++ d)) ≡ (a ++ (b ++ c)) ++ d
 seam a b c d = simp append-assoc
 
 start-total : (m : Model) (k : ℕ) → start m k ≡ 24 + 12 * length (m .refs) + total (take k (m .chunks))
-unfolding start startAt base
+unfolding start startOf base
 start-total m k = refl
 
 total-new : (m : Model) (k : ℕ) (c : Chunk) → k < length (m .chunks) → (l n old new : ℕ) → l ≡ 24 + 12 * length (m .refs) + total (m .chunks) → n ≡ length (m .refs) → old ≡ size (chunkAt m k) → new ≡ size c
@@ -52,7 +77,7 @@ total-new : (m : Model) (k : ℕ) (c : Chunk) → k < length (m .chunks) → (l 
 unfolding replaced
 total-new m k c h l n old new el en eo ew = omega (arith, total-put (m .chunks) k c h, size-getD (m .chunks) k noChunk h)
 
-parts-replaced : (m : Model) (k : ℕ) (c : Chunk) → file (replaced m k c) ≡ front (length (m .refs)) (total (replaced m k c .chunks)) ++ (entriesBytes (entries (replaced m k c)) ++ chunksBytes (replaced m k c .chunks))
+parts-replaced : (m : Model) (k : ℕ) (c : Chunk) → file (replaced m k c) ≡ heading (length (m .refs)) (total (replaced m k c .chunks)) ++ (entriesBytes (entries (replaced m k c)) ++ chunksBytes (replaced m k c .chunks))
 unfolding replaced
 parts-replaced m k c = file-parts (record { refs = m .refs; chunks = set (m .chunks) k c })
 
@@ -61,13 +86,13 @@ unfolding replaced
 chunks-replaced m k c h = chunks-set (m .chunks) k c h
 
 pub replace-written : (b : List ℕ) (l k i st old new t : ℕ) (d : List ℕ) → Stands b l k → All Byte (take l b) → Replaceable b l k i st old
-    → new ≡ size (given t d) → l + (new - old) ≤ length b
-    → noted (noted (startsMoved (behind st old new) k 24 (resized b st l old new)) 0 (front k (l - (24 + 12 * k) - old + new))) st (chunkBytes (given t d))
-    ≡ written b l (file (replaced (model (take l b)) (refAt (model (take l b)) i .chunk) (given t d)))
+    → new ≡ size (chunkOf t d) → l + (new - old) ≤ length b
+    → noted (noted (startsMoved (behind st old new) k 24 (resized b st l old new)) 0 (heading k (l - (24 + 12 * k) - old + new))) st (chunkBytes (chunkOf t d))
+    ≡ written b l (file (replaced (model (take l b)) (refAt (model (take l b)) i .chunk) (chunkOf t d)))
 replace-written b l k i st old new t d stands bytes rp en room =
     let m : Model = model (take l b) in
     let kc : ℕ = refAt m i .chunk in
-    let c : Chunk = given t d in
+    let c : Chunk = chunkOf t d in
     let n : ℕ = length (m .refs) in
     let g = accept-back plainRules (take l b) bytes (stands .fine) in
     let ek : k ≡ n = stands .entries in
@@ -78,7 +103,7 @@ replace-written b l k i st old new t d stands bytes rp en room =
     let small : length (file m) < W = omega (arith, stands .short) in
     let es : List Entry = entries m in
     let f : ℕ → ℕ = behind st old new in
-    let F : List ℕ = front n (total (m .chunks)) in
+    let F : List ℕ = heading n (total (m .chunks)) in
     let E : List ℕ = entriesBytes es in
     let E′ : List ℕ = entriesBytes (map (moved f) es) in
     let c1 : List ℕ = chunksBytes (take kc (m .chunks)) in
@@ -87,7 +112,7 @@ replace-written b l k i st old new t d stands bytes rp en room =
     let ln : length es ≡ n = length-map (m .refs) _ in
     let lE : length E ≡ 12 * n = length-entriesBytes es ∙ ap (λ (z : ℕ). 12 * z) ln in
     let lE′ : length E′ ≡ 12 * n = length-entriesBytes (map (moved f) es) ∙ ap (λ (z : ℕ). 12 * z) (length-map es _ ∙ ln) in
-    let lF : length F ≡ 24 = length-front n (total (m .chunks)) in
+    let lF : length F ≡ 24 = length-heading n (total (m .chunks)) in
     let lc1 : length c1 ≡ total (take kc (m .chunks)) = length-chunksBytes (take kc (m .chunks)) in
     let lcx : length cx ≡ old = length-chunkBytes (chunkAt m kc) ∙ sym (rp .sized) in
     let es0 : st ≡ 24 + 12 * n + total (take kc (m .chunks)) = rp .starts ∙ start-total m kc in
@@ -103,12 +128,12 @@ replace-written b l k i st old new t d stands bytes rp en room =
     let w2 : startsMoved f k 24 (resized b st l old new) ≡ written b l (F ++ (E′ ++ (c1 ++ (h ++ c2))))
     = (λ z. startsMoved f ((ek ∙ sym ln) z) 24 (w1 z)) ∙ starts-written b l f F es (c1 ++ (h ++ c2)) 24 lF (entries-ok m (g .1) small) (lE′ ∙ sym lE) in
     let tt : l - (24 + 12 * k) - old + new ≡ total (replaced m kc c .chunks) = total-new m kc c th l k old new (sym lm ∙ file-length m) ek (rp .sized) en in
-    let F′ : List ℕ = front n (total (replaced m kc c .chunks)) in
-    let fr : front k (l - (24 + 12 * k) - old + new) ≡ F′ = λ z. front (ek z) (tt z) in
+    let F′ : List ℕ = heading n (total (replaced m kc c .chunks)) in
+    let fr : heading k (l - (24 + 12 * k) - old + new) ≡ F′ = λ z. heading (ek z) (tt z) in
     let w3 : noted (written b l (F ++ (E′ ++ (c1 ++ (h ++ c2))))) 0 F′ ≡ written b l (F′ ++ (E′ ++ (c1 ++ (h ++ c2))))
-    = put-written b l [] F (E′ ++ (c1 ++ (h ++ c2))) F′ 0 refl (lF ∙ sym (length-front n (total (replaced m kc c .chunks)))) in
+    = put-written b l [] F (E′ ++ (c1 ++ (h ++ c2))) F′ 0 refl (lF ∙ sym (length-heading n (total (replaced m kc c .chunks)))) in
     let p2 : List ℕ = F′ ++ (E′ ++ c1) in
-    let lF′ : length F′ ≡ 24 = length-front n (total (replaced m kc c .chunks)) in
+    let lF′ : length F′ ≡ 24 = length-heading n (total (replaced m kc c .chunks)) in
     let lp2 : length p2 ≡ st = length-append F′ (E′ ++ c1) ∙ ap (λ (z : ℕ). length F′ + z) (length-append E′ c1) ∙ omega arith in
     let w4 : noted (written b l (p2 ++ (h ++ c2))) st (chunkBytes c) ≡ written b l (p2 ++ (chunkBytes c ++ c2))
     = put-written b l p2 h c2 (chunkBytes c) st lp2 (rz .hole-length ∙ en ∙ sym (length-chunkBytes c)) in
@@ -117,4 +142,4 @@ replace-written b l k i st old new t d stands bytes rp en room =
     let ch : c1 ++ (chunkBytes c ++ c2) ≡ chunksBytes (replaced m kc c .chunks) = sym (chunks-replaced m kc c th) in
     (λ z. noted (noted (w2 z) 0 (fr z)) st (chunkBytes c))
     ∙ ap (λ (z : List ℕ). noted z st (chunkBytes c)) (w3 ∙ ap (written b l) (seam F′ E′ c1 (h ++ c2)))
-    ∙ w4 ∙ ap (written b l) (sym (seam F′ E′ c1 (chunkBytes c ++ c2)) ∙ (λ z. front n (total (replaced m kc c .chunks)) ++ (ee z ++ ch z)) ∙ sym (parts-replaced m kc c))
+    ∙ w4 ∙ ap (written b l) (sym (seam F′ E′ c1 (chunkBytes c ++ c2)) ∙ (λ z. heading n (total (replaced m kc c .chunks)) ++ (ee z ++ ch z)) ∙ sym (parts-replaced m kc c))

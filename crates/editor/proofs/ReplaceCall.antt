@@ -8,11 +8,11 @@ use lib.ListN.{length, take, drop}
 use lib.Seq.{length-take-le}
 use lib.Dec.{leb}
 use borrow.Author.Tests.{leb-true, lt-ltb, ltb-true}
-use Rattle.blorb.specs.Format.{size, sized}
+use Rattle.blorb.specs.Format.{chunkOf, size, sized}
 use Rattle.blorb.specs.Verdict.{Verdict, accept, refuse, _then_, check, verdict}
 use Rattle.blorb.specs.Rules.{plainRules}
 use Rattle.blorb.specs.Model.{Model, model, file}
-use Rattle.edits.specs.Edit.{Edit, replace, replaced, given, edited}
+use Rattle.edits.specs.Edit.{Edit, replace, replaced, givenChunk, edited}
 use Rattle.blorb.specs.Queries.{find, refAt, chunkAt, shared, start}
 use Rattle.edits.specs.Journal.{recOf, recBytes, Rec}
 use Rattle.edits.proofs.JournalLaws.{length-recBytes}
@@ -83,7 +83,7 @@ module _ (b : List ℕ) (l J U u n t : ℕ) (d : List ℕ) (bytes : All Byte (ta
 
   new-length : Found b l J U u n bytes K → length (editedFile f E) ≡ l - size (chunkAt m kc) + new
   unfolding editedFile edited
-  new-length w = omega (arith, length-replaced m kc (given t d) (w .there), w .length-l, size-given t d, w .ends)
+  new-length w = omega (arith, length-replaced m kc (givenChunk t d) (w .there), w .length-l, size-given t d, w .ends)
 
   record-length : length (editRecord f E) ≡ 29 + length (chunkAt m kc .body)
   unfolding editRecord recOf
@@ -226,13 +226,13 @@ module _ (b j : List ℕ) (l U u n t : ℕ) (d : List ℕ) (bytes : All Byte (ta
 
   pub made : (a : ℕ) (c : Answer) (b′ j′ : List ℕ) → a ≡ 8 + (p .length + p .length % 2)
       → c ≡ doneWith (l - a + (8 + (length d + length d % 2))) (U + (29 + p .length))
-      → b′ ≡ written b l (file (replaced (model (take l b)) (refAt (model (take l b)) (p .place) .chunk) (given t d)))
+      → b′ ≡ written b l (file (replaced (model (take l b)) (refAt (model (take l b)) (p .place) .chunk) (chunkOf t d)))
       → j′ ≡ noted j U (recBytes (recordOf 2 (record { usage = u; number = n; start = p .start }) (p .place) (p .kind) (take (p .start + 8 + p .length - (p .start + 8)) (drop (p .start + 8) b))))
       → Called (state b l j U) (edit (replace u n t d)) c b′ j′
-  unfolding fault after afterEdit editedFile edited editRecord
+  unfolding fault after afterEdit editedFile edited givenChunk editRecord
   made a c b′ j′ ea ec eb ej =
       gave-done (state b l j U) (edit (replace u n t d)) c _ _ b′ j′ ec (r .fine) (length-now b l (length j) U u n t d bytes p (r .found) (r .piece-is) a ea)
       (ap (λ (z : ℕ). U + z) (used-now b l (length j) U u n t d bytes k p r))
-      (eb ∙ ap (λ (z : ℕ). written b l (file (replaced (model (take l b)) (refAt (model (take l b)) z .chunk) (given t d)))) (place-is (model (take l b)) (find u n (model (take l b) .refs)) p (r .piece-is)))
+      (eb ∙ ap (λ (z : ℕ). written b l (file (replaced (model (take l b)) (refAt (model (take l b)) z .chunk) (chunkOf t d)))) (place-is (model (take l b)) (find u n (model (take l b) .refs)) p (r .piece-is)))
       (ej ∙ ap (λ (z : ℕ). noted j U (recBytes (recordOf 2 (record { usage = u; number = n; start = p .start }) (p .place) (p .kind) (take z (drop (p .start + 8) b))))) (part-size (p .start + 8) (p .length))
       ∙ ap (λ (z : Rec). noted j U (recBytes z)) (record-is b l (length j) U u n t d bytes k p r))

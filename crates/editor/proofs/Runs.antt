@@ -9,23 +9,23 @@ use Rattle.edits.specs.Run.{State, CallOk, step, run, answers}
 use Rattle.edits.specs.Demand3.{Begins}
 use Rattle.edits.proofs.Demand3.{demand3}
 use Rattle.editor.specs.Called.{Called}
-use Rattle.editor.specs.Runs.{Turn, callOf, toldBy, left, Ran, endOf, AsLedger}
+use Rattle.editor.specs.Runs.{Turn, callOf, answerOf, stateAfter, Ran, endOf, AsLedger}
 
-left-is : (s : State) (t : Turn) → Called s (t .call) (t .answer) (t .buffer) (t .journal) → left t ≡ step plainRules s (t .call)
-left-is s t c = λ i. record { buffer = c .file i; L = c .len i; journal = c .journal i; U = c .used i }
+stateAfter-is : (s : State) (t : Turn) → Called s (t .call) (t .answer) (t .buffer) (t .journal) → stateAfter t ≡ step plainRules s (t .call)
+stateAfter-is s t c = λ i. record { buffer = c .file i; L = c .len i; journal = c .journal i; U = c .used i }
 
 ran-end : (s : State) (ts : List Turn) → Ran s ts → endOf s ts ≡ run plainRules s (map callOf ts)
 unfolding run
 ran-end s [] h = refl
-ran-end s (t ∷ ts) h = ran-end (left t) ts (h .1) ∙ ap (λ (x : State). run plainRules x (map callOf ts)) (left-is s t (h .0))
+ran-end s (t ∷ ts) h = ran-end (stateAfter t) ts (h .1) ∙ ap (λ (x : State). run plainRules x (map callOf ts)) (stateAfter-is s t (h .0))
 
-ran-answers : (s : State) (ts : List Turn) → Ran s ts → map toldBy ts ≡ answers plainRules s (map callOf ts)
+ran-answers : (s : State) (ts : List Turn) → Ran s ts → map answerOf ts ≡ answers plainRules s (map callOf ts)
 unfolding answers
 ran-answers s [] h = refl
 ran-answers s (t ∷ ts) h =
     let c = h .0 in
-    let r : map toldBy ts ≡ answers plainRules (step plainRules s (t .call)) (map callOf ts)
-    = ran-answers (left t) ts (h .1) ∙ ap (λ (x : State). answers plainRules x (map callOf ts)) (left-is s t c) in
+    let r : map answerOf ts ≡ answers plainRules (step plainRules s (t .call)) (map callOf ts)
+    = ran-answers (stateAfter t) ts (h .1) ∙ ap (λ (x : State). answers plainRules x (map callOf ts)) (stateAfter-is s t c) in
     λ i. record { result = c .outcome i; L = c .len i; U = c .used i } ∷ r i
 
 -- demand 3

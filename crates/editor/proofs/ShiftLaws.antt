@@ -1,4 +1,4 @@
--- Laws of `moved`: nothing moved, its length, its elements outside the part, and a turn of each loop.
+-- Laws of `slid`: nothing moved, its length, its elements outside the part, and a turn of each loop.
 use Prim.Native.Nat.{ℕ, zero, suc, _+_, _-_, _≤_, _<_}
 use mathlib.Core.Path.{_≡_, ap, sym, _∙_}
 use mathlib.Core.List.{List, [], _∷_, _++_, append-assoc}
@@ -6,35 +6,39 @@ use native.Mathlib.Omega.{arith}
 use native.Mathlib.Numerals.{add-one}
 use lib.ListN.{take-append-drop, length, getD, take, drop, set, length-drop, List·getD-append}
 use lib.Seq.{take-add, take-take, take-paste, drop-drop, take-all, take-suc-set, take-append-le, drop-append-le, drop-at, paste, paste-zero, paste-suc, length-paste, drop-paste, length-paste-head, length-take-le, take-suc, append-snoc, set-at, drop-cons, getD-take, getD-drop}
-use Rattle.editor.specs.Shift.{moved}
+use Rattle.editor.specs.Shift.{slid}
 
-pub moved-none : (b : List ℕ) (dst src n : ℕ) → n ≡ 0 → b ≡ moved b dst src n
-moved-none b dst src n e = rw e (paste-zero b dst (drop src b))
+pub slid-none : (b : List ℕ) (dst src n : ℕ) → n ≡ 0 → b ≡ slid b dst src n
+slid-none b dst src n e = rw e (paste-zero b dst (drop src b))
+
+-- a part moved to where it stands
+pub slid-onto : (b : List ℕ) (at n : ℕ) → slid b at at n ≡ b
+slid-onto b at n = ap (λ (l : List ℕ). l ++ drop (at + n) b) (sym (take-add at n b)) ∙ take-append-drop (at + n) b
 
 module _ (b : List ℕ) (dst src n : ℕ) (hd : dst + n ≤ length b) (hs : src + n ≤ length b) where
   fits : n ≤ length (drop src b)
   fits = rw length-drop (omega arith)
 
-  pub moved-length : length (moved b dst src n) ≡ length b
-  moved-length = length-paste b dst (drop src b) n hd fits
+  pub slid-length : length (slid b dst src n) ≡ length b
+  slid-length = length-paste b dst (drop src b) n hd fits
 
-  pub moved-below : (i : ℕ) → i < dst → getD (moved b dst src n) i 0 ≡ getD b i 0
-  moved-below i h =
+  pub slid-below : (i : ℕ) → i < dst → getD (slid b dst src n) i 0 ≡ getD b i 0
+  slid-below i h =
       let l : length (take dst b) ≡ dst = length-take-le dst b (omega arith) in
       let m : length (take dst b ++ take n (drop src b)) ≡ dst + n = length-paste-head b dst (drop src b) n (omega arith) fits in
       List·getD-append (take dst b ++ take n (drop src b)) (drop (dst + n) b) 0 i (omega arith)
       ∙ List·getD-append (take dst b) (take n (drop src b)) 0 i (omega arith)
       ∙ getD-take dst b i 0 h
 
-  pub moved-past : (k : ℕ) → getD (moved b dst src n) (dst + n + k) 0 ≡ getD b (dst + n + k) 0
-  moved-past k =
-      sym (getD-drop (dst + n) (moved b dst src n) k 0)
+  pub slid-past : (k : ℕ) → getD (slid b dst src n) (dst + n + k) 0 ≡ getD b (dst + n + k) 0
+  slid-past k =
+      sym (getD-drop (dst + n) (slid b dst src n) k 0)
       ∙ ap (λ (l : List ℕ). getD l k 0) (drop-paste b dst (drop src b) n (omega arith) fits)
       ∙ getD-drop (dst + n) b k 0
 
 -- one element more at the front: m is where it goes, i where it comes from
 front : (b : List ℕ) (m i n : ℕ) → m < length b → i < length b
-    → set (moved b (suc m) (suc i) n) m (getD b i 0) ≡ moved b m i (suc n)
+    → set (slid b (suc m) (suc i) n) m (getD b i 0) ≡ slid b m i (suc n)
 front b m i n hm hi =
     let y = getD b m 0 in
     let x = getD b i 0 in
@@ -49,25 +53,25 @@ front b m i n hm hi =
 
 -- a turn of the loop to the right, which goes from the part's end to its start
 pub right-turn : (b : List ℕ) (i len k : ℕ) → 0 < i → i ≤ len → len + k ≤ length b
-    → set (moved b (i + k) i (len - i)) (i - 1 + k) (getD (moved b (i + k) i (len - i)) (i - 1) 0) ≡ moved b (i - 1 + k) (i - 1) (len - (i - 1))
+    → set (slid b (i + k) i (len - i)) (i - 1 + k) (getD (slid b (i + k) i (len - i)) (i - 1) 0) ≡ slid b (i - 1 + k) (i - 1) (len - (i - 1))
 right-turn b zero len k z h l = absurd (omega arith)
 right-turn b (suc j) len k z h l =
     let e : suc j - 1 ≡ j = omega arith in
     let f : len - j ≡ suc (len - suc j) = omega arith in
     let g : suc j + k ≡ suc (j + k) = omega arith in
-    rw (moved-below b (suc j + k) (suc j) (len - suc j) (omega arith) (omega arith) (suc j - 1) (omega arith), e, f, g)
+    rw (slid-below b (suc j + k) (suc j) (len - suc j) (omega arith) (omega arith) (suc j - 1) (omega arith), e, f, g)
     (front b (j + k) j (len - suc j) (omega arith) (omega arith))
 
 -- a turn of the loop to the left, which goes from the part's start to its end
 pub left-turn : (b : List ℕ) (at i k : ℕ) → k ≤ at → at ≤ i → i < length b
-    → set (moved b (at - k) at (i - at)) (i - k) (getD (moved b (at - k) at (i - at)) i 0) ≡ moved b (at - k) at (i + 1 - at)
+    → set (slid b (at - k) at (i - at)) (i - k) (getD (slid b (at - k) at (i - at)) i 0) ≡ slid b (at - k) at (i + 1 - at)
 left-turn b at i k hk ha hi =
     let e : i - k ≡ at - k + (i - at) = omega arith in
     let f : i + 1 - at ≡ suc (i - at) = omega arith in
     let g : i ≡ at - k + (i - at) + k = omega arith in
-    let q : getD (moved b (at - k) at (i - at)) i 0 ≡ getD (drop at b) (i - at) 0 =
-    ap (λ (j : ℕ). getD (moved b (at - k) at (i - at)) j 0) g
-    ∙ moved-past b (at - k) at (i - at) (omega arith) (omega arith) k
+    let q : getD (slid b (at - k) at (i - at)) i 0 ≡ getD (drop at b) (i - at) 0 =
+    ap (λ (j : ℕ). getD (slid b (at - k) at (i - at)) j 0) g
+    ∙ slid-past b (at - k) at (i - at) (omega arith) (omega arith) k
     ∙ ap (λ (j : ℕ). getD b j 0) (omega arith)
     ∙ sym (getD-drop at b (i - at) 0) in
     let n : length (drop at b) ≡ length b - at = length-drop at b in
@@ -115,9 +119,9 @@ part-front p r j n h =
 
 -- a block more at the front
 front-more : (b : List ℕ) (j k n r : ℕ) → j + n + k + r ≤ length b
-    → moved (moved b (j + n + k) (j + n) r) (j + k) j n ≡ moved b (j + k) j (n + r)
+    → slid (slid b (j + n + k) (j + n) r) (j + k) j n ≡ slid b (j + k) j (n + r)
 front-more b j k n r h =
-    let m = moved b (j + n + k) (j + n) r in
+    let m = slid b (j + n + k) (j + n) r in
     let p = take (j + n + k) b in
     let s = drop (j + n + k) b in
     let t = take r (drop (j + n) b) in
@@ -146,20 +150,20 @@ front-more b j k n r h =
 
 -- a part more to the right: the part from `j` up to `i`, after the one from `i` on
 pub right-more : (b : List ℕ) (j i len k n : ℕ) → j + n ≡ i → i ≤ len → len + k ≤ length b
-    → moved (moved b (i + k) i (len - i)) (j + k) j n ≡ moved b (j + k) j (len - j)
+    → slid (slid b (i + k) i (len - i)) (j + k) j n ≡ slid b (j + k) j (len - j)
 right-more b j i len k n e hi hl =
     let f : len - j ≡ n + (len - i) = omega arith in
     rw f
-    (ap (λ (z : ℕ). moved (moved b (z + k) z (len - i)) (j + k) j n) (sym e)
+    (ap (λ (z : ℕ). slid (slid b (z + k) z (len - i)) (j + k) j n) (sym e)
     ∙ front-more b j k n (len - i) (omega arith))
 
 -- a part more to the left: the `n` from `i` on, after those before it
 pub left-more : (b : List ℕ) (at i k n : ℕ) → k ≤ at → at ≤ i → i + n ≤ length b
-    → moved (moved b (at - k) at (i - at)) (i - k) i n ≡ moved b (at - k) at (i + n - at)
+    → slid (slid b (at - k) at (i - at)) (i - k) i n ≡ slid b (at - k) at (i + n - at)
 left-more b at i k n hk ha hi =
     let d = at - k in
     let r = i - at in
-    let m = moved b d at r in
+    let m = slid b d at r in
     let e : i - k ≡ d + r = omega arith in
     let f : i + n - at ≡ r + n = omega arith in
     let g : i ≡ d + r + k = omega arith in
@@ -178,22 +182,22 @@ left-more b at i k n hk ha hi =
     ∙ copy-more b (drop at b) d r n (omega arith) (omega arith))
 
 -- a turn by blocks of n: m before it, t the block, m' after it
-pub right-block : (b m t m' : List ℕ) (i len k n : ℕ) → m' ≡ paste m (i - n + k) t n → t ≡ take n (drop (i - n) m) → m ≡ moved b (i + k) i (len - i)
-    → n ≤ i → i ≤ len → len + k ≤ length b → m' ≡ moved b (i - n + k) (i - n) (len - (i - n))
+pub right-block : (b m t m' : List ℕ) (i len k n : ℕ) → m' ≡ paste m (i - n + k) t n → t ≡ take n (drop (i - n) m) → m ≡ slid b (i + k) i (len - i)
+    → n ≤ i → i ≤ len → len + k ≤ length b → m' ≡ slid b (i - n + k) (i - n) (len - (i - n))
 right-block b m t m' i len k n s l e hn hi hl =
     s
     ∙ ap (λ (x : List ℕ). paste m (i - n + k) x n) l
     ∙ as-part m m (i - n + k) (i - n) n
-    ∙ ap (λ (x : List ℕ). moved x (i - n + k) (i - n) n) e
+    ∙ ap (λ (x : List ℕ). slid x (i - n + k) (i - n) n) e
     ∙ right-more b (i - n) i len k n (omega arith) hi hl
 
-pub left-block : (b m t m' : List ℕ) (at i k n : ℕ) → m' ≡ paste m (i - k) t n → t ≡ take n (drop i m) → m ≡ moved b (at - k) at (i - at)
-    → k ≤ at → at ≤ i → i + n ≤ length b → m' ≡ moved b (at - k) at (i + n - at)
+pub left-block : (b m t m' : List ℕ) (at i k n : ℕ) → m' ≡ paste m (i - k) t n → t ≡ take n (drop i m) → m ≡ slid b (at - k) at (i - at)
+    → k ≤ at → at ≤ i → i + n ≤ length b → m' ≡ slid b (at - k) at (i + n - at)
 left-block b m t m' at i k n s l e hk ha hi =
     s
     ∙ ap (λ (x : List ℕ). paste m (i - k) x n) l
     ∙ as-part m m (i - k) i n
-    ∙ ap (λ (x : List ℕ). moved x (i - k) i n) e
+    ∙ ap (λ (x : List ℕ). slid x (i - k) i n) e
     ∙ left-more b at i k n hk ha hi
 
 pub copy-block : (b d m t m' : List ℕ) (at i n : ℕ) → m' ≡ paste m (at + i) t n → t ≡ take n (drop i d) → m ≡ paste b at d i
@@ -206,18 +210,18 @@ copy-block b d m t m' at i n s l e h hi =
     ∙ copy-more b d at i n (omega arith) hi
 
 -- the rest, after the blocks
-pub right-last : (b m m' : List ℕ) (at i len k : ℕ) → m' ≡ moved m (at + k) at (i - at) → m ≡ moved b (i + k) i (len - i)
-    → at ≤ i → i ≤ len → len + k ≤ length b → m' ≡ moved b (at + k) at (len - at)
-right-last b m m' at i len k s e ha hi hl = s ∙ ap (λ (x : List ℕ). moved x (at + k) at (i - at)) e ∙ right-more b at i len k (i - at) (omega arith) hi hl
+pub right-last : (b m m' : List ℕ) (at i len k : ℕ) → m' ≡ slid m (at + k) at (i - at) → m ≡ slid b (i + k) i (len - i)
+    → at ≤ i → i ≤ len → len + k ≤ length b → m' ≡ slid b (at + k) at (len - at)
+right-last b m m' at i len k s e ha hi hl = s ∙ ap (λ (x : List ℕ). slid x (at + k) at (i - at)) e ∙ right-more b at i len k (i - at) (omega arith) hi hl
 
-pub left-last : (b m m' : List ℕ) (at i len k : ℕ) → m' ≡ moved m (i - k) i (len - i) → m ≡ moved b (at - k) at (i - at)
-    → k ≤ at → at ≤ i → i ≤ len → len ≤ length b → m' ≡ moved b (at - k) at (len - at)
+pub left-last : (b m m' : List ℕ) (at i len k : ℕ) → m' ≡ slid m (i - k) i (len - i) → m ≡ slid b (at - k) at (i - at)
+    → k ≤ at → at ≤ i → i ≤ len → len ≤ length b → m' ≡ slid b (at - k) at (len - at)
 left-last b m m' at i len k s e hk ha hi hl =
     let q : i + (len - i) - at ≡ len - at = omega arith in
     s
-    ∙ ap (λ (x : List ℕ). moved x (i - k) i (len - i)) e
+    ∙ ap (λ (x : List ℕ). slid x (i - k) i (len - i)) e
     ∙ left-more b at i k (len - i) hk ha (omega arith)
-    ∙ ap (λ (x : ℕ). moved b (at - k) at x) q
+    ∙ ap (λ (x : ℕ). slid b (at - k) at x) q
 
 pub copy-last : (b d m m' : List ℕ) (at i : ℕ) → m' ≡ paste m (at + i) (drop i d) (length d - i) → m ≡ paste b at d i
     → at + length d ≤ length b → i ≤ length d → m' ≡ paste b at d (length d)

@@ -18,7 +18,7 @@ use Rattle.blorb.proofs.Checks.{pass, accepts}
 use Rattle.blorb.proofs.Accept.{accept-short}
 use Rattle.edits.specs.Journal.{Rec, lastRec, wellFormed, fits}
 use Rattle.edits.specs.Run.{accepted, undoneFile, undoFault}
-use Rattle.edits.proofs.UndoJudged.{accepted-stood}
+use Rattle.edits.proofs.UndoJudged.{AcceptedFile, accepted-facts}
 use Rattle.editor.specs.declared.journal.Record.{Record}
 use Rattle.editor.specs.declared.journal.Last.{Last}
 use Rattle.editor.specs.declared.journal.Last.the-variants.{Good, Bad}
@@ -28,14 +28,24 @@ use Rattle.editor.specs.declared.undoing.Undoing.{Undoing}
 use Rattle.editor.specs.declared.undoing.Undoing.the-variants.{Not}
 use Rattle.editor.specs.LastRecord.{numbersOf, lastOf}
 use Rattle.reader.specs.Inspecting.{factsOf, inspectionOf}
-use Rattle.editor.specs.UndoPlan.{goOf, undoingOf, undoPlan, fitting, fittingPlan, roomyBy, roomy, numbersIn, Asked, Begins, addedPlan, replacedPlan, removedPlan, unlistedPlan}
+use Rattle.editor.specs.UndoPlan.{goOf, undoingOf, undoPlan, fitting, fittingPlan, roomyBy, roomy, numbersIn, askedAt, UndoReady, ChunkInside, addedPlan, replacedPlan, removedPlan, unlistedPlan}
 use Rattle.editor.proofs.LastRead.{Ends, good-ends, last-bad}
 use Rattle.editor.proofs.UndoFits.{fits-added, fits-replaced, fits-removed, fits-unlisted, begins-there}
 
+-- where the reader is asked, by the record's kind
+pub asked-none : (r : Record) → r .kind < 3 → 0 ≡ askedAt r
+asked-none r h = rw (lt-leb 3 (r .kind) h)
+
+pub asked-start : (r : Record) → 3 ≤ r .kind → r .start - 12 ≡ askedAt r
+asked-start r h = rw (le-leb 3 (r .kind) h)
+
 -- a well-formed record, by its kind
-module _ (b : List ℕ) (l : ℕ) (j : List ℕ) (u : ℕ) (r : Record) (t : Facts) (a : Asked b l j u r t) where
+module _ (b : List ℕ) (l : ℕ) (j : List ℕ) (u : ℕ) (r : Record) (t : Facts) (a : UndoReady b l j u r t) where
   abbrev rec : Rec
   rec = lastRec (take u j)
+
+  file-facts : AcceptedFile (take l b)
+  file-facts = accepted-facts (take l b) (a .file-bytes) (a .fine)
 
   pub ends : Ends j u r
   ends = good-ends j u r (a .within) (a .last)
@@ -46,8 +56,15 @@ module _ (b : List ℕ) (l : ℕ) (j : List ℕ) (u : ℕ) (r : Record) (t : Fac
   pub file-is : l ≡ length (take l b)
   file-is = sym (length-take-le l b (a .inside))
 
-  facts-are : t ≡ factsOf (model (take l b)) (lastRec (take u j) .usage) (lastRec (take u j) .number) (lastRec (take u j) .start - 12)
-  facts-are = a .told ∙ (λ i. factsOf (model (take l b)) (numbers i .usage) (numbers i .number) (numbers i .start - 12))
+  -- what the reader tells: enough for kinds 1 and 2, whose plans don't depend on the offset
+  facts-are : t ≡ factsOf (model (take l b)) (lastRec (take u j) .usage) (lastRec (take u j) .number) (askedAt (numbersOf (lastRec (take u j))))
+  facts-are = a .facts-are ∙ (λ i. factsOf (model (take l b)) (numbers i .usage) (numbers i .number) (askedAt (numbers i)))
+
+  -- kinds 3 and 4: asked about the record's start less 12
+  start-facts : 3 ≤ r .kind → t ≡ factsOf (model (take l b)) (lastRec (take u j) .usage) (lastRec (take u j) .number) (lastRec (take u j) .start - 12)
+  start-facts h =
+      a .facts-are ∙ ap (λ (z : ℕ). factsOf (model (take l b)) (r .usage) (r .number) z) (sym (asked-start r h))
+      ∙ (λ i. factsOf (model (take l b)) (numbers i .usage) (numbers i .number) (numbers i .start - 12))
 
   kind-is : (k : ℕ) → r .kind ≡ k → lastRec (take u j) .kind ≡ k
   kind-is k h = ap (λ (z : Record). z .kind) (ends .numbers) ∙ h
@@ -63,25 +80,26 @@ module _ (b : List ℕ) (l : ℕ) (j : List ℕ) (u : ℕ) (r : Record) (t : Fac
 
   pub asked-added : (x : Undoing) → r .kind ≡ 1 → x ≡ addedPlan t l r → x ≡ fittingPlan (take l b) (take u j)
   asked-added x h e =
-      e ∙ (λ i. addedPlan (facts-are i) (file-is i) (numbers i)) ∙ fits-added (take l b) (take u j) (a .stood) (a .bytes) (kind-is 1 h)
+      e ∙ (λ i. addedPlan (facts-are i) (file-is i) (numbers i)) ∙ fits-added (take l b) (take u j) file-facts (a .bytes) (kind-is 1 h)
 
   pub asked-replaced : (x : Undoing) → r .kind ≡ 2 → x ≡ replacedPlan t l r (take (u - 4 - (u - 4 - r .length)) (drop (u - 4 - r .length) j)) → x ≡ fittingPlan (take l b) (take u j)
   asked-replaced x h e =
-      e ∙ (λ i. replacedPlan (facts-are i) (file-is i) (numbers i) (body-is i)) ∙ fits-replaced (take l b) (take u j) (a .stood) (a .bytes) (kind-is 2 h)
+      e ∙ (λ i. replacedPlan (facts-are i) (file-is i) (numbers i) (body-is i)) ∙ fits-replaced (take l b) (take u j) file-facts (a .bytes) (kind-is 2 h)
 
   pub asked-removed : (x : Undoing) → (r .kind ≡ 1 → ⊥) → (r .kind ≡ 4 → ⊥) → (r .kind ≡ 2 → ⊥)
       → x ≡ removedPlan t l r (take (u - 4 - (u - 4 - r .length)) (drop (u - 4 - r .length) j)) → x ≡ fittingPlan (take l b) (take u j)
   asked-removed x n1 n4 n2 e =
       let h : r .kind ≡ 3 = omega (arith, ends .kind-low, ends .kind-high) in
-      e ∙ (λ i. removedPlan (facts-are i) (file-is i) (numbers i) (body-is i)) ∙ fits-removed (take l b) (take u j) (a .stood) (a .bytes) (kind-is 3 h)
+      e ∙ (λ i. removedPlan (start-facts (omega arith) i) (file-is i) (numbers i) (body-is i)) ∙ fits-removed (take l b) (take u j) file-facts (a .bytes) (kind-is 3 h)
 
   pub asked-unlisted : (x : Undoing) → r .kind ≡ 4 → x ≡ unlistedPlan t (take l b) r → x ≡ fittingPlan (take l b) (take u j)
   asked-unlisted x h e =
-      e ∙ (λ i. unlistedPlan (facts-are i) (take l b) (numbers i)) ∙ fits-unlisted (take l b) (take u j) (a .stood) (a .bytes) (kind-is 4 h)
+      e ∙ (λ i. unlistedPlan (start-facts (omega arith) i) (take l b) (numbers i)) ∙ fits-unlisted (take l b) (take u j) file-facts (a .bytes) (kind-is 4 h)
 
-  pub asked-begins : (length (take l b) ≤ 16777216) × Begins (t .begins) (take l b) (r .start - 12)
-  asked-begins =
-      (omega (arith, file-is, a .short), subst (λ (z : Facts × Record). Begins (z .0 .begins) (take l b) (z .1 .start - 12)) (λ i. (sym facts-are i, sym numbers i)) (begins-there (take l b) (take u j) (a .stood) (a .bytes)))
+  pub asked-begins : r .kind ≡ 4 → (length (take l b) ≤ 16777216) × ChunkInside (t .begins) (take l b) (r .start - 12)
+  asked-begins h =
+      let k : 3 ≤ r .kind = omega arith in
+      (omega (arith, file-is, a .short), subst (λ (z : Facts × Record). ChunkInside (z .0 .begins) (take l b) (z .1 .start - 12)) (λ i. (sym (start-facts k) i, sym numbers i)) (begins-there (take l b) (take u j) file-facts (a .bytes)))
 
 -- the last record's numbers tell whether it is well formed
 good-numbers : (w : Last) (r : Record) → r ≡ numbersIn w → (r .kind ≡ 0 → ⊥) → w ≡ Good r
@@ -184,7 +202,7 @@ module _ (b : List ℕ) (l : ℕ) (j : List ℕ) (u : ℕ) where
               ∙ planned accept (check fit 21 0 then check (leb (length (undoneFile (take l b) (take u j))) (length b)) 24 0) (read-fine .0)
               (accepts accept behind refl ∙ behind-fit n (good-ends j u r hu good .formed))
 
-          pub asked : All Byte b → All Byte j → x ≡ r .usage → y ≡ r .number → z ≡ r .start - 12 → Asked b l j u r t
+          pub asked : All Byte b → All Byte j → x ≡ r .usage → y ≡ r .number → z ≡ askedAt r → UndoReady b l j u r t
           unfolding plainVerdict
           asked bb bj ex ey ez =
               let fine : verdict plainRules (take l b) ≡ accept = read-fine .0 in
@@ -193,8 +211,9 @@ module _ (b : List ℕ) (l : ℕ) (j : List ℕ) (u : ℕ) where
                 inside = hl;
                 within = hu;
                 short = omega (arith, accept-short plainRules (take l b) fine);
-                stood = accepted-stood (take l b) (all-take Byte l b bb) fine;
+                file-bytes = all-take Byte l b bb;
+                fine = fine;
                 bytes = all-take Byte u j bj;
                 last = good;
-                told = read-fine .1 ∙ (λ i. factsOf (model (take l b)) (ex i) (ey i) (ez i));
+                facts-are = read-fine .1 ∙ (λ i. factsOf (model (take l b)) (ex i) (ey i) (ez i));
               }

@@ -8,24 +8,24 @@ use lib.ListN.{length, take, drop}
 use lib.Seq.{length-take-le}
 use lib.Dec.{leb}
 use borrow.Author.Tests.{leb-true}
-use Rattle.blorb.specs.Format.{size, placeOf}
+use Rattle.blorb.specs.Format.{size, placeOf, chunkOf}
 use Rattle.blorb.specs.Verdict.{Verdict, accept, refuse, _then_, verdict}
 use Rattle.blorb.specs.Rules.{plainRules}
-use Rattle.blorb.specs.Model.{Model, base, startAt, model, file}
+use Rattle.blorb.specs.Model.{Model, base, startOf, model, file}
 use Rattle.blorb.specs.Queries.{refAt, chunkAt, start, shared}
 use Rattle.blorb.specs.All.{All}
 use Rattle.blorb.proofs.AllLaws.{all-take}
-use Rattle.blorb.proofs.Sound.{W}
+use Rattle.blorb.specs.Sound.{W}
 use Rattle.blorb.specs.Bytes.{Byte}
 use Rattle.blorb.proofs.Checks.{then-accept, check-accept}
 use Rattle.blorb.proofs.Accept.{accept-short}
 use Rattle.blorb.proofs.ModelLaws.{length-file}
-use Rattle.edits.specs.Edit.{with-at, removed, replaced, given}
+use Rattle.edits.specs.Edit.{with-at, removed, replaced}
 use Rattle.edits.specs.Journal.{Rec, lastRec, wellFormed, fits, fits3, fits4, undo2, undo3, undo4, oldChunk}
 use Rattle.edits.specs.Run.{accepted, undoneFile, undoFault}
 use Rattle.edits.proofs.BoolLaws.{and-parts}
 use Rattle.edits.proofs.JudgedLaws.{chunk-in}
-use Rattle.edits.proofs.UndoJudged.{Stood, accepted-stood, fits1-facts, fits2-facts, undo1-removed, kind-1, kind-2, kind-3, kind-4}
+use Rattle.edits.proofs.UndoJudged.{AcceptedFile, accepted-facts, fits1-facts, fits2-facts, undo1-removed, kind-1, kind-2, kind-3, kind-4}
 use Rattle.edits.proofs.FitFacts.{size-is, fits3-in}
 use Rattle.blorb.specs.Format.{sizeOf}
 use Rattle.edits.proofs.UndoTold.{after-2, after-3, after-4}
@@ -44,7 +44,7 @@ pub record Ready (b : List ℕ) (l : ℕ) (j : List ℕ) (u k a s t : ℕ) (r : 
   pub unrefused : undoFault plainRules (length b) (length j) (take l b) l u (take u j) ≡ accept
   pub within : u ≤ length j
   pub stands : Stands b l k
-  pub stood : Stood (take l b)
+  pub file-facts : AcceptedFile (take l b)
   pub ends : Ends j u r
   pub fit : fits (lastRec (take u j)) (model (take l b)) ≡ true
   pub fine : verdict plainRules (undoneFile (take l b) (take u j)) ≡ accept
@@ -75,7 +75,7 @@ unfolding base
 index-in m = omega (arith, length-file m)
 
 start-behind : (m : Model) (k : ℕ) → 24 + 12 * length (m .refs) ≤ start m k
-unfolding start startAt base
+unfolding start startOf base
 start-behind m k = omega arith
 
 -- where the plan goes on
@@ -104,7 +104,7 @@ module _ (b : List ℕ) (l : ℕ) (j : List ℕ) (u k a s t : ℕ) (r : Record) 
       let len : length (take l b) ≡ l = length-take-le l b inside in
       let g : Go (length (model f .refs)) (chunkStart (lastRec q) (model f)) (chunkSize (lastRec q) (model f)) (length (undoneFile f q)) (numbersOf (lastRec q)) ≡ Go k a s t r = planned .1 in
       let n : numbersOf (lastRec q) ≡ r = cc in
-      let st = accepted-stood f (all-take Byte l b bytes) (h2 .0) in
+      let st = accepted-facts f (all-take Byte l b bytes) (h2 .0) in
       let count : k ≡ length (model f .refs) = cc in
       record {
         unrefused = planned .0;
@@ -116,7 +116,7 @@ module _ (b : List ℕ) (l : ℕ) (j : List ℕ) (u k a s t : ℕ) (r : Record) 
           index = omega (arith, count, index-in (model f), ap length (st .whole));
           short = omega (arith, accept-short plainRules f (h2 .0));
         };
-        stood = st;
+        file-facts = st;
         ends = good-ends j u r (leb-true u (length j) (lens .1)) (formed-last q (good .0) ∙ ap Good n);
         fit = good .1;
         fine = accepted-fine _ (test .1);
@@ -149,18 +149,17 @@ module _ (b : List ℕ) (l : ℕ) (j : List ℕ) (u k a s t : ℕ) (r : Record) 
       let e : u - 4 - (u - 4 - r .length) ≡ r .length = omega (arith, w .ends .room) in
       ap (λ (z : ℕ). take z (drop (u - 4 - r .length) j)) e ∙ sym (w .ends .lies)
 
-  old-is : given (r .sort) (take (u - 4 - (u - 4 - r .length)) (drop (u - 4 - r .length) j)) ≡ oldChunk (lastRec (take u j))
-  unfolding given
+  old-is : chunkOf (r .sort) (take (u - 4 - (u - 4 - r .length)) (drop (u - 4 - r .length) j)) ≡ oldChunk (lastRec (take u j))
   old-is = λ i. record { type = sym (w .ends .numbers) i .sort; body = body-is i }
 
   file-is : length (take l b) ≡ l
   file-is = length-take-le l b (w .stands .inside)
 
   whole-is : length (file (model (take l b))) ≡ l
-  whole-is = ap length (w .stood .whole) ∙ file-is
+  whole-is = ap length (w .file-facts .whole) ∙ file-is
 
   small : length (file (model (take l b))) < W
-  small = omega (arith, w .stood .short)
+  small = omega (arith, w .file-facts .short)
 
   after-short : length (undoneFile (take l b) (take u j)) ≤ 16777216
   after-short = accept-short plainRules (undoneFile (take l b) (take u j)) (w .fine)
@@ -172,7 +171,7 @@ module _ (b : List ℕ) (l : ℕ) (j : List ℕ) (u k a s t : ℕ) (r : Record) 
       let fit = sym (kind-1 rec m (kind-is 1 h) .0) ∙ w .fit in
       let p = fits1-facts rec m fit in
       let listed : rec .place < length (m .refs) = omega (arith, p .count) in
-      let there = chunk-in m (rec .place) (w .stood .sound) listed in
+      let there = chunk-in m (rec .place) (w .file-facts .sound) listed in
       let c : ℕ = refAt m (rec .place) .chunk in
       let ea : a ≡ start m c = w .at-is ∙ at-1 rec m (kind-is 1 h) .0 in
       let es : s ≡ size (chunkAt m c) = w .size-is ∙ at-1 rec m (kind-is 1 h) .1 in (
@@ -182,7 +181,7 @@ module _ (b : List ℕ) (l : ℕ) (j : List ℕ) (u k a s t : ℕ) (r : Record) 
           starts = ea ∙ ap (λ (z : ℕ). start m (refAt m z .chunk)) place-is;
           gone = es ∙ sym (ap (λ (z : Bool). cond z 0 (size (chunkAt m c))) (p .alone)) ∙ ap (λ (z : ℕ). cond (shared m z) 0 (size (chunkAt m (refAt m z .chunk)))) place-is;
           behind = omega (arith, ea, start-behind m c, w .stands .entries);
-          ends = omega (arith, ea, es, chunk-ends m c (w .stood .sound) there small, whole-is);
+          ends = omega (arith, ea, es, chunk-ends m c (w .file-facts .sound) there small, whole-is);
         },
       )
 
@@ -190,7 +189,7 @@ module _ (b : List ℕ) (l : ℕ) (j : List ℕ) (u k a s t : ℕ) (r : Record) 
   unfolding undoneFile
   written-added h =
       let fit = sym (kind-1 rec m (kind-is 1 h) .0) ∙ w .fit in
-      ap file (ap (removed m) (sym place-is) ∙ sym (undo1-removed rec m (w .stood .sound) fit) ∙ sym (kind-1 rec m (kind-is 1 h) .1))
+      ap file (ap (removed m) (sym place-is) ∙ sym (undo1-removed rec m (w .file-facts .sound) fit) ∙ sym (kind-1 rec m (kind-is 1 h) .1))
 
   -- kind 2
   pub back-replaced : (All Byte j) → r .kind ≡ 2
@@ -198,12 +197,12 @@ module _ (b : List ℕ) (l : ℕ) (j : List ℕ) (u k a s t : ℕ) (r : Record) 
   back-replaced bj h =
       let fit = sym (kind-2 rec m (kind-is 2 h) .0) ∙ w .fit in
       let p = fits2-facts rec m fit in
-      let there = chunk-in m (rec .place) (w .stood .sound) (p .inside) in
+      let there = chunk-in m (rec .place) (w .file-facts .sound) (p .inside) in
       let c : ℕ = refAt m (rec .place) .chunk in
       let ea : a ≡ start m c = w .at-is ∙ at-2 rec m (kind-is 2 h) .0 in
       let es : s ≡ size (chunkAt m c) = w .size-is ∙ at-2 rec m (kind-is 2 h) .1 in
       let to : l - s + (8 + (length d + length d % 2)) ≡ length (undoneFile (take l b) (take u j))
-      = (λ i. sym file-is i - (es ∙ size-is (chunkAt m c)) i + sizeOf (length (body-is i))) ∙ sym (after-2 (take l b) (take u j) (w .stood) (all-take Byte u j bj) (kind-is 2 h) fit) in (
+      = (λ i. sym file-is i - (es ∙ size-is (chunkAt m c)) i + sizeOf (length (body-is i))) ∙ sym (after-2 (take l b) (take u j) (w .file-facts) (all-take Byte u j bj) (kind-is 2 h) fit) in (
         w .stands,
         (
           record {
@@ -211,13 +210,13 @@ module _ (b : List ℕ) (l : ℕ) (j : List ℕ) (u k a s t : ℕ) (r : Record) 
             starts = ea ∙ ap (λ (z : ℕ). start m (refAt m z .chunk)) place-is;
             sized = es ∙ ap (λ (z : ℕ). size (chunkAt m (refAt m z .chunk))) place-is;
             behind = omega (arith, ea, start-behind m c, w .stands .entries);
-            ends = omega (arith, ea, es, chunk-ends m c (w .stood .sound) there small, whole-is);
+            ends = omega (arith, ea, es, chunk-ends m c (w .file-facts .sound) there small, whole-is);
           },
           (omega (arith, to, w .room), omega (arith, to, after-short)),
         ),
       )
 
-  pub written-replaced : r .kind ≡ 2 → file (replaced (model (take l b)) (refAt (model (take l b)) (r .place) .chunk) (given (r .sort) d)) ≡ undoneFile (take l b) (take u j)
+  pub written-replaced : r .kind ≡ 2 → file (replaced (model (take l b)) (refAt (model (take l b)) (r .place) .chunk) (chunkOf (r .sort) d)) ≡ undoneFile (take l b) (take u j)
   unfolding undoneFile undo2
   written-replaced h =
       (λ i. file (replaced m (refAt m (sym place-is i) .chunk) (old-is i))) ∙ sym (ap file (kind-2 rec m (kind-is 2 h) .1))
@@ -237,7 +236,7 @@ module _ (b : List ℕ) (l : ℕ) (j : List ℕ) (u k a s t : ℕ) (r : Record) 
     back-removed bj =
         let i = insertable3 b l k (w .stands) (all-take Byte l b bytes) rec fit-3 in
         let to : length (undoneFile (take l b) (take u j)) ≡ l + 12 + sizeOf (length d)
-        = after-3 (take l b) (take u j) (w .stood) (all-take Byte u j bj) (kind-is 3 h) ∙ (λ i. file-is i + 12 + sizeOf (length (sym body-is i))) in
+        = after-3 (take l b) (take u j) (w .file-facts) (all-take Byte u j bj) (kind-is 3 h) ∙ (λ i. file-is i + 12 + sizeOf (length (sym body-is i))) in
         (w .stands, (coe 0 1 (z. Insertable b l k (place-is z) (sym at-3-is z)) i, (omega (arith, to, w .room), omega (arith, to, after-short))))
 
     pub written-removed : file (undo3 (goneRec 3 (r .usage) (r .number) (r .place) a (r .sort) d) (model (take l b))) ≡ undoneFile (take l b) (take u j)
@@ -260,7 +259,7 @@ module _ (b : List ℕ) (l : ℕ) (j : List ℕ) (u k a s t : ℕ) (r : Record) 
     back-unlisted bj =
         let i = insertable4 b l k (w .stands) (all-take Byte l b bytes) rec fit-4 in
         let to : length (undoneFile (take l b) (take u j)) ≡ l + 12
-        = after-4 (take l b) (take u j) (w .stood) (all-take Byte u j bj) (kind-is 4 h) fit-4 ∙ ap (λ (z : ℕ). z + 12) file-is in
+        = after-4 (take l b) (take u j) (w .file-facts) (all-take Byte u j bj) (kind-is 4 h) fit-4 ∙ ap (λ (z : ℕ). z + 12) file-is in
         (w .stands, (coe 0 1 (z. Insertable b l k (place-is z) (sym at-4-is z)) i, (omega (arith, to, w .room), omega (arith, to, after-short))))
 
     -- its undo looks at neither type nor data

@@ -13,12 +13,12 @@ use Rattle.blorb.specs.Tags.{RIdx}
 use Rattle.blorb.specs.Format.{Chunk, size, chunkIn, chunkBytes, chunksBytes, isStart}
 use Rattle.blorb.specs.Verdict.{verdict}
 use Rattle.blorb.specs.Tags.{Pict, Rect, Fspc}
-use Rattle.blorb.specs.Rules.{plain, typeIn, plainRules}
+use Rattle.blorb.specs.Rules.{plainAllows, typeIn, plainRules}
 use Rattle.blorb.specs.Model.{Model, base, model, file}
 use Rattle.blorb.specs.Queries.{find, refAt, chunkAt, start, frontNumber}
 use Rattle.blorb.specs.All.{All}
-use Rattle.blorb.proofs.Sound.{W, Sound}
-use Rattle.blorb.proofs.Places.{size-pos, startAt-placeOf}
+use Rattle.blorb.specs.Sound.{W, Sound}
+use Rattle.blorb.proofs.Places.{size-pos, startOf-placeOf}
 use Rattle.blorb.proofs.Codec.{length-chunkBytes}
 use Rattle.blorb.specs.Bytes.{Byte}
 use Rattle.edits.specs.Journal.{Rec, lastRec, fits, fits1, fits2, oldChunk, oldPlace}
@@ -26,7 +26,7 @@ use Rattle.edits.specs.Run.{accepted, undoneFile}
 use Rattle.edits.proofs.BoolLaws.{and-parts, and-where}
 use Rattle.edits.proofs.JudgedLaws.{isFront}
 use Rattle.edits.proofs.InsertJudged.{entryTests, entry-new, entry-twice}
-use Rattle.edits.proofs.UndoJudged.{Stood, fits1-facts, fits2-facts, found-at, kind-1, kind-2, kind-4}
+use Rattle.edits.proofs.UndoJudged.{AcceptedFile, fits1-facts, fits2-facts, found-at, kind-1, kind-2, kind-4}
 use Rattle.edits.proofs.FitFacts.{size-is, told3, told4}
 use Rattle.blorb.specs.Format.{sizeOf}
 use Rattle.edits.proofs.UndoTold.{accepted2, accepted4, test-1, test-2, test-3, test-4, after-1, after-2, after-3, after-4}
@@ -36,7 +36,7 @@ use Rattle.editor.specs.declared.undoing.Undoing.{Undoing}
 use Rattle.editor.specs.declared.undoing.Undoing.the-variants.{Go}
 use Rattle.editor.specs.LastRecord.{numbersOf}
 use Rattle.reader.specs.Inspecting.{pieceOf, targetBy, targetOf, frontBy, frontOf, factsOf}
-use Rattle.editor.specs.UndoPlan.{chunkStart, chunkSize, goOf, fitting, fittingPlan, frontIs, entryFine, Begins, onPiece, fitsAdded, addedPlan, fitsReplaced, oldFine, replacedPlan, removedPlan, unlistedPlan}
+use Rattle.editor.specs.UndoPlan.{chunkStart, chunkSize, goOf, fitting, fittingPlan, frontIs, entryFine, ChunkInside, onPiece, fitsAdded, addedPlan, fitsReplaced, oldFine, replacedPlan, removedPlan, unlistedPlan}
 use Rattle.editor.proofs.ChunkAt.{drop-start, type-at, length-at, body-at}
 
 -- what the reader's answers mean
@@ -48,11 +48,11 @@ front-told m u n = go (typeIn Fspc (m .chunks))
     go true = refl
     go false = refl
 
-entry-told : (m : Model) (u n : ℕ) (c : Chunk) → entryFine u n (plain u c) (targetOf m u n) ≡ entryTests u n c (m .refs)
+entry-told : (m : Model) (u n : ℕ) (c : Chunk) → entryFine u n (plainAllows u c) (targetOf m u n) ≡ entryTests u n c (m .refs)
 unfolding targetOf
 entry-told m u n c = go (ltb (find u n (m .refs)) (length (m .refs))) refl
   where
-    go : (b : Bool) → ltb (find u n (m .refs)) (length (m .refs)) ≡ b → entryFine u n (plain u c) (targetBy b m (find u n (m .refs))) ≡ entryTests u n c (m .refs)
+    go : (b : Bool) → ltb (find u n (m .refs)) (length (m .refs)) ≡ b → entryFine u n (plainAllows u c) (targetBy b m (find u n (m .refs))) ≡ entryTests u n c (m .refs)
     go true e = sym (entry-twice u n c (m .refs) (ltb-true (find u n (m .refs)) (length (m .refs)) e))
     go false e = sym (entry-new u n c (m .refs) (ltb-false (find u n (m .refs)) (length (m .refs)) e))
 
@@ -95,7 +95,7 @@ chunk-ends m k s there small =
     omega (arith, e, size-pos (chunkAt m k))
 
 -- f: an accepted file; j: the journal bytes in use
-module _ (f j : List ℕ) (st : Stood f) (bytes : All Byte j) where
+module _ (f j : List ℕ) (st : AcceptedFile f) (bytes : All Byte j) where
   abbrev m : Model
   m = model f
 
@@ -159,7 +159,7 @@ module _ (f j : List ℕ) (st : Stood f) (bytes : All Byte j) where
       ∙ same-plan (b && (t && (leb (length f - sizeOf (p .length) + sizeOf (length (r .body))) 16777216 && oldFine (numbersOf r) (r .body) (frontOf m))))
       (Go (length (m .refs)) (p .start) (sizeOf (p .length)) (length f - sizeOf (p .length) + sizeOf (length (r .body))) (numbersOf r))
       ((λ i. b && (t && (leb (length f - sizeOf (p .length) + sizeOf (length (r .body))) 16777216 && (not (eqb (r .type) RIdx)
-      && (plain (r .usage) (oldChunk r) && not (front-told m (r .usage) (r .number) i && eqb (r .type) Rect))))))
+      && (plainAllows (r .usage) (oldChunk r) && not (front-told m (r .usage) (r .number) i && eqb (r .type) Rect))))))
       ∙ sym (and-assoc b t (accepted2 r m (length f) at)) ∙ sym (test-2 f j st bytes h))
       (λ ok. rest (sym (kind-2 r m h .0) ∙ the-fit ok))
     where
@@ -190,7 +190,7 @@ module _ (f j : List ℕ) (st : Stood f) (bytes : All Byte j) where
 
     starts : (start (model f) k ≡ lastRec j .start - 12) × (k < length (model f .chunks))
     unfolding start
-    starts = startAt-placeOf (r .start - 12) (base (length (m .refs))) (m .chunks) begins
+    starts = startOf-placeOf (r .start - 12) (base (length (m .refs))) (m .chunks) begins
 
     small : length (file (model f)) < W
     small = omega (arith, st .short)
@@ -217,16 +217,16 @@ module _ (f j : List ℕ) (st : Stood f) (bytes : All Byte j) where
       (λ ok. go-is _ _ _ (sym (at-4 r m h .0)) (sym (at-4 r m h .1)) (sym (after-4 f j st bytes h (sym (kind-4 r m h .0) ∙ the-fit ok))))
     where
       part : told4 (lastRec j) (model f) ≡ true
-          → (leb (length f + 12) 16777216 && (ltb (length (model f .refs)) 4096 && entryFine (lastRec j .usage) (lastRec j .number) (plain (lastRec j .usage) (chunkIn (drop (lastRec j .start - 12) f))) (targetOf (model f) (lastRec j .usage) (lastRec j .number))))
+          → (leb (length f + 12) 16777216 && (ltb (length (model f .refs)) 4096 && entryFine (lastRec j .usage) (lastRec j .number) (plainAllows (lastRec j .usage) (chunkIn (drop (lastRec j .start - 12) f))) (targetOf (model f) (lastRec j .usage) (lastRec j .number))))
           ≡ accepted4 (lastRec j) (model f) (length f)
       part fit =
           let s = and-parts (leb (r .place) (length (m .refs))) (isStart (r .start - 12) (base (length (m .refs))) (m .chunks)) fit .1 in
           λ i. leb (length f + 12) 16777216 && (below (length (m .refs)) 4096 i
-          && (ap (λ (z : Chunk). entryFine (r .usage) (r .number) (plain (r .usage) z) (targetOf m (r .usage) (r .number))) (read-there s) ∙ entry-told m (r .usage) (r .number) (c s)) i)
+          && (ap (λ (z : Chunk). entryFine (r .usage) (r .number) (plainAllows (r .usage) z) (targetOf m (r .usage) (r .number))) (read-there s) ∙ entry-told m (r .usage) (r .number) (c s)) i)
 
-  pub begins-there : Begins (told .begins) f (lastRec j .start - 12)
+  pub begins-there : ChunkInside (told .begins) f (lastRec j .start - 12)
   begins-there = go (isStart (r .start - 12) (base (length (m .refs))) (m .chunks)) refl
     where
-      go : (b : Bool) → isStart (lastRec j .start - 12) (base (length (model f .refs))) (model f .chunks) ≡ b → Begins b f (lastRec j .start - 12)
+      go : (b : Bool) → isStart (lastRec j .start - 12) (base (length (model f .refs))) (model f .chunks) ≡ b → ChunkInside b f (lastRec j .start - 12)
       go true e = begun e
       go false e = tt

@@ -10,9 +10,8 @@ use lib.Dec.{eqb, leb, ltb}
 use borrow.Author.Tests.{not-true, not-false, le-leb, lt-leb}
 use Rattle.blorb.specs.Bytes.{rd32}
 use Rattle.blorb.specs.Tags.{RIdx}
-use Rattle.blorb.specs.Format.{chunkIn}
-use Rattle.blorb.specs.Usages.{chunkOf}
-use Rattle.blorb.specs.Rules.{plain}
+use Rattle.blorb.specs.Format.{chunkIn, chunkOf}
+use Rattle.blorb.specs.Rules.{plainAllows}
 use Rattle.blorb.specs.Format.{sizeOf}
 use Rattle.editor.specs.declared.journal.Record.{Record}
 use Rattle.reader.specs.declared.Piece.{Piece}
@@ -21,7 +20,7 @@ use Rattle.reader.specs.declared.Target.{Target}
 use Rattle.reader.specs.declared.Target.the-variants as target
 use Rattle.editor.specs.declared.undoing.Undoing.{Undoing}
 use Rattle.editor.specs.declared.undoing.Undoing.the-variants.{Go, Not}
-use Rattle.editor.specs.UndoPlan.{fitting, onPiece, frontIs, entryFine, Begins, fitsAdded, addedPlan, fitsReplaced, oldFine, replacedPlan, fitsRemoved, removedPlan, unlistedPlan, roomy}
+use Rattle.editor.specs.UndoPlan.{fitting, onPiece, frontIs, entryFine, ChunkInside, fitsAdded, addedPlan, fitsReplaced, oldFine, replacedPlan, fitsRemoved, removedPlan, unlistedPlan, roomy}
 
 -- a test that the code found to hold or not
 pub not-fitting : (a b : Bool) (x : Undoing) → a ≡ b → not a ≡ true → Not 21 0 ≡ fitting b x
@@ -78,12 +77,12 @@ module _ (t : Facts) (l : ℕ) (r : Record) (d : List ℕ) (p : Piece) (a o : Bo
 
 -- kind 3: a is the test of place and start, e that of the entry, b whether rule 5 allows the record's chunk, n that chunk's size
 module _ (t : Facts) (l : ℕ) (r : Record) (d : List ℕ) (a b e : Bool) (n : ℕ) (ea : a ≡ fitsRemoved t l r)
-    (eb : b ≡ plain (r .usage) (chunkOf (r .sort) d)) (ee : e ≡ entryFine (r .usage) (r .number) b (t .target)) (en : n ≡ sizeOf (r .length)) where
+    (eb : b ≡ plainAllows (r .usage) (chunkOf (r .sort) d)) (ee : e ≡ entryFine (r .usage) (r .number) b (t .target)) (en : n ≡ sizeOf (r .length)) where
   abbrev removed-test : Bool
   removed-test = a && (leb (l + 12 + n) 16777216 && (not (eqb (r .sort) RIdx) && (ltb (t .count) 4096 && e)))
 
   removed-same : removed-test ≡ (fitsRemoved t l r && (leb (l + 12 + sizeOf (r .length)) 16777216
-      && (not (eqb (r .sort) RIdx) && (ltb (t .count) 4096 && entryFine (r .usage) (r .number) (plain (r .usage) (chunkOf (r .sort) d)) (t .target)))))
+      && (not (eqb (r .sort) RIdx) && (ltb (t .count) 4096 && entryFine (r .usage) (r .number) (plainAllows (r .usage) (chunkOf (r .sort) d)) (t .target)))))
   removed-same = λ i. ea i && (leb (l + 12 + en i) 16777216 && (not (eqb (r .sort) RIdx) && (ltb (t .count) 4096
       && (ee ∙ ap (λ (z : Bool). entryFine (r .usage) (r .number) z (t .target)) eb) i)))
 
@@ -110,22 +109,22 @@ unlisted-none t s r h = ap (λ (z : Bool). fitting z (Go (t .count) (r .start - 
     go true b c h = ap (λ (z : Bool). z && c) h
     go false b c h = refl
 
-pub begins-in : (b : Bool) (s : List ℕ) (x at : ℕ) → not b ≡ false → Begins b s at → x ≡ at → x + (8 + rd32 (drop (x + 4) s)) ≤ length s
+pub begins-in : (b : Bool) (s : List ℕ) (x at : ℕ) → not b ≡ false → ChunkInside b s at → x ≡ at → x + (8 + rd32 (drop (x + 4) s)) ≤ length s
 begins-in true s x at h g e = rw e g
 begins-in false s x at h g e = let z : _≡_ {A = ℕ} 0 1 = cc in absurd (omega arith)
 
 module _ (t : Facts) (s : List ℕ) (r : Record) (b e : Bool) (x : ℕ) (begun : not (t .begins) ≡ false) (ex : x ≡ r .start - 12)
-    (eb : b ≡ plain (r .usage) (chunkIn (drop x s))) (ee : e ≡ entryFine (r .usage) (r .number) b (t .target)) where
+    (eb : b ≡ plainAllows (r .usage) (chunkIn (drop x s))) (ee : e ≡ entryFine (r .usage) (r .number) b (t .target)) where
   abbrev unlisted-test : Bool
   unlisted-test = leb (r .place) (t .count) && (leb (length s + 12) 16777216 && (ltb (t .count) 4096 && e))
 
   unlisted-same : unlisted-test ≡ ((leb (r .place) (t .count) && t .begins) && (leb (length s + 12) 16777216 && (ltb (t .count) 4096
-      && entryFine (r .usage) (r .number) (plain (r .usage) (chunkIn (drop (r .start - 12) s))) (t .target))))
+      && entryFine (r .usage) (r .number) (plainAllows (r .usage) (chunkIn (drop (r .start - 12) s))) (t .target))))
   unlisted-same =
-      let eb′ = eb ∙ ap (λ (z : ℕ). plain (r .usage) (chunkIn (drop z s))) ex in
+      let eb′ = eb ∙ ap (λ (z : ℕ). plainAllows (r .usage) (chunkIn (drop z s))) ex in
       (λ i. sym (and-true (leb (r .place) (t .count))) i && (leb (length s + 12) 16777216 && (ltb (t .count) 4096 && (ee ∙ ap (λ (z : Bool). entryFine (r .usage) (r .number) z (t .target)) eb′) i)))
       ∙ ap (λ (z : Bool). (leb (r .place) (t .count) && z) && (leb (length s + 12) 16777216 && (ltb (t .count) 4096
-      && entryFine (r .usage) (r .number) (plain (r .usage) (chunkIn (drop (r .start - 12) s))) (t .target)))) (sym (not-false (t .begins) begun))
+      && entryFine (r .usage) (r .number) (plainAllows (r .usage) (chunkIn (drop (r .start - 12) s))) (t .target)))) (sym (not-false (t .begins) begun))
 
   pub unlisted-not : not (leb (r .place) (t .count) && (leb (length s + 12) 16777216 && (ltb (t .count) 4096 && e))) ≡ true → Not 21 0 ≡ unlistedPlan t s r
   unlisted-not h = not-fitting _ _ _ unlisted-same h

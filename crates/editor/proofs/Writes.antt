@@ -10,16 +10,16 @@ use lib.Seq.{take-at, drop-at, drop-drop, drop-append-add, drop-append-le, lengt
 use lib.Dec.{ltb}
 use Rattle.blorb.specs.Bytes.{be32, rd32}
 use Rattle.blorb.proofs.ByteLaws.{length-be32, rd32-be32}
-use Rattle.blorb.specs.Format.{Chunk, Entry, size, sized, entryBytes, entriesBytes, chunkBytes, chunksBytes, total}
+use Rattle.blorb.specs.Format.{Chunk, chunkOf, Entry, size, sized, entryBytes, entriesBytes, chunkBytes, chunksBytes, total}
 use Rattle.blorb.specs.Model.{Model, base, file}
-use Rattle.edits.specs.Edit.{given}
+use Rattle.edits.specs.Edit.{givenChunk}
 use Rattle.blorb.proofs.ModelLaws.{length-file}
 use Rattle.blorb.specs.All.{All}
 use Rattle.blorb.proofs.Codec.{EntryOk}
-use Rattle.edits.proofs.Starts.{moved}
+use Rattle.edits.specs.Starts.{moved}
 use Rattle.edits.specs.Run.{noted, written}
 use Rattle.edits.proofs.Noted.{noted-after, noted-over}
-use Rattle.editor.specs.Shift.{moved as slid}
+use Rattle.editor.specs.Shift.{slid}
 use Rattle.editor.specs.Moves.{startsMoved, relocated}
 use Rattle.editor.specs.declared.moves.Move.{Move}
 
@@ -28,9 +28,13 @@ pub file-length : (m : Model) → length (file m) ≡ 24 + 12 * length (m .refs)
 unfolding base
 file-length m = length-file m
 
-pub size-given : (t : ℕ) (d : List ℕ) → size (given t d) ≡ 8 + length d + length d % 2
-unfolding size sized given
-size-given t d = omega arith
+pub size-of : (t : ℕ) (d : List ℕ) → size (chunkOf t d) ≡ 8 + length d + length d % 2
+unfolding size sized
+size-of t d = omega arith
+
+pub size-given : (t : ℕ) (d : List ℕ) → size (givenChunk t d) ≡ 8 + length d + length d % 2
+unfolding givenChunk
+size-given t d = size-of t d
 
 pub entries-append : (a b : List Entry) → entriesBytes (a ++ b) ≡ entriesBytes a ++ entriesBytes b
 unfolding entriesBytes

@@ -12,7 +12,7 @@ use Rattle.blorb.specs.Model.{Model, model, base}
 use Rattle.edits.specs.Journal.{Rec}
 use Rattle.blorb.specs.Queries.{refAt, chunkAt, shared, find, start}
 use Rattle.edits.specs.Run.{State, Call, fault, step, noted}
-use Rattle.editor.specs.Shift.{moved as slid}
+use Rattle.editor.specs.Shift.{slid}
 use Rattle.reader.specs.declared.Piece.{Piece}
 use Rattle.reader.specs.Inspecting.{pieceOf}
 use Rattle.editor.specs.declared.Outcome.{Outcome}

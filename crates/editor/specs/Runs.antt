@@ -22,27 +22,27 @@ abbrev pub callOf : Turn → Call
 callOf t = t .call
 
 -- the answer as the ledger gives one: success or refusal, and L and U
-abbrev pub toldBy : Turn → edits.Answer
-toldBy t = record { result = verdictOf (t .answer .outcome); L = t .answer .len; U = t .answer .used }
+abbrev pub answerOf : Turn → edits.Answer
+answerOf t = record { result = verdictOf (t .answer .outcome); L = t .answer .len; U = t .answer .used }
 
 -- what the next call is lent and given: "Every call is lent the same two whole buffers and given the L and U last handed back."
-abbrev pub left : Turn → State
-left t = record { buffer = t .buffer; L = t .answer .len; journal = t .journal; U = t .answer .used }
+abbrev pub stateAfter : Turn → State
+stateAfter t = record { buffer = t .buffer; L = t .answer .len; journal = t .journal; U = t .answer .used }
 
 -- a run: each call keeps its contract in the state that the last one left
 abbrev pub Ran : State → List Turn → Type 0
 Ran s [] = Unit {0}
-Ran s (t ∷ ts) = Called s (t .call) (t .answer) (t .buffer) (t .journal) × Ran (left t) ts
+Ran s (t ∷ ts) = Called s (t .call) (t .answer) (t .buffer) (t .journal) × Ran (stateAfter t) ts
 
 -- the state after it
 abbrev pub endOf : State → List Turn → State
 endOf s [] = s
-endOf s (t ∷ ts) = endOf (left t) ts
+endOf s (t ∷ ts) = endOf (stateAfter t) ts
 
 -- demand 3 for a run of calls from state s: every answer and the state after it are the ledger's, which is told the starting file, both
 -- buffers' lengths and the calls
 pub record AsLedger (s : State) (ts : List Turn) : Type 0 where
-  pub answers-are : map toldBy ts ≡ ledgerAnswers plainRules (take (s .L) (s .buffer)) (length (s .buffer)) (length (s .journal)) [] (map callOf ts)
+  pub answers-are : map answerOf ts ≡ ledgerAnswers plainRules (take (s .L) (s .buffer)) (length (s .buffer)) (length (s .journal)) [] (map callOf ts)
   pub L-is : endOf s ts .L ≡ length (ledgerFile (take (s .L) (s .buffer)) (listAfter plainRules s (map callOf ts)))
   pub U-is : endOf s ts .U ≡ ledgerUsed (take (s .L) (s .buffer)) (listAfter plainRules s (map callOf ts))
   pub file-is : take (endOf s ts .L) (endOf s ts .buffer) ≡ ledgerFile (take (s .L) (s .buffer)) (listAfter plainRules s (map callOf ts))

@@ -2,23 +2,21 @@
 use mathlib.Core.Path.{_≡_}
 use Prim.Native.Nat.{ℕ, _+_, _-_, _≤_}
 use mathlib.Core.List.{List}
-use mathlib.Core.Bool.{Bool, true, false, _&&_, _||_, not}
+use mathlib.Core.Bool.{Bool, true, false, cond, _&&_, _||_, not}
 use lib.ListN.{length, take, drop}
 use lib.Dec.{eqb, leb, ltb}
 use Rattle.blorb.specs.Bytes.{rd32}
 use Rattle.blorb.specs.Tags.{RIdx}
-use Rattle.blorb.specs.Format.{size, chunkIn}
-use Rattle.blorb.specs.Usages.{chunkOf}
+use Rattle.blorb.specs.Format.{size, chunkIn, chunkOf}
 use Rattle.blorb.specs.Verdict.{Verdict, accept, refuse, verdict, knownUsage}
 use Rattle.blorb.specs.Tags.{Pict, Exec, Rect}
-use Rattle.blorb.specs.Rules.{plain, plainRules}
+use Rattle.blorb.specs.Rules.{plainAllows, plainRules}
 use Rattle.blorb.specs.Model.{Model, model}
 use Rattle.blorb.specs.Queries.{refAt, chunkAt, start}
 use Rattle.blorb.specs.All.{All}
 use Rattle.blorb.specs.Bytes.{Byte}
 use Rattle.edits.specs.Journal.{Rec, byKind, lastRec, fits}
 use Rattle.edits.specs.Run.{accepted, undoneFile, undoFault}
-use Rattle.edits.proofs.UndoJudged.{Stood}
 use Rattle.blorb.specs.Format.{sizeOf}
 use Rattle.editor.specs.declared.journal.Record.{Record}
 use Rattle.editor.specs.declared.journal.Last.{Last}
@@ -76,15 +74,20 @@ abbrev pub numbersIn : Last → Record
 numbersIn (Good r) = r
 numbersIn Bad = record { kind = 0; usage = 0; number = 0; place = 0; start = 0; sort = 0; length = 0 }
 
+-- the offset that the reader is asked about: only an undo of kinds 3 and 4 wants to know whether a chunk begins there
+abbrev pub askedAt : Record → ℕ
+askedAt r = cond (leb 3 (r .kind)) (r .start - 12) 0
+
 -- the well-formed last record r of the first u journal bytes, and what the reader tells of the accepted file in the first l bytes
-pub record Asked (b : List ℕ) (l : ℕ) (j : List ℕ) (u : ℕ) (r : Record) (t : Facts) : Type 0 where
+pub record UndoReady (b : List ℕ) (l : ℕ) (j : List ℕ) (u : ℕ) (r : Record) (t : Facts) : Type 0 where
   pub inside : l ≤ length b
   pub within : u ≤ length j
   pub short : l ≤ 16777216
-  pub stood : Stood (take l b)
+  pub file-bytes : All Byte (take l b)
+  pub fine : verdict plainRules (take l b) ≡ accept
   pub bytes : All Byte (take u j)
   pub last : lastOf (take u j) ≡ Good r
-  pub told : t ≡ factsOf (model (take l b)) (r .usage) (r .number) (r .start - 12)
+  pub facts-are : t ≡ factsOf (model (take l b)) (r .usage) (r .number) (askedAt r)
 
 -- the pair is that of the frontispiece's picture
 abbrev pub frontIs : Front → ℕ → ℕ → Bool
@@ -110,12 +113,13 @@ addedPlan t l r =
     onPiece (t .target) (λ p. fitting (fitsAdded p (t .count) l (r .place) && not (frontIs (t .front) (r .usage) (r .number)))
     (Go (t .count) (p .start) (sizeOf (p .length)) (l - (12 + sizeOf (p .length))) r))
 
--- kind 2, d being the record's data: the entry has the record's place, and its chunk, which no other entry has, starts where the record says
+-- kind 2: the entry has the record's place, and its chunk, which no other entry has, starts where the record says
 abbrev pub fitsReplaced : Piece → Record → Bool
 fitsReplaced p r = eqb (p .place) (r .place) && (eqb (p .start) (r .start) && not (p .shared))
 
+-- its old chunk, d being the record's data, is no index and one that rule 5 allows, and the frontispiece's picture doesn't become a 'Rect'
 abbrev pub oldFine : Record → List ℕ → Front → Bool
-oldFine r d f = not (eqb (r .sort) RIdx) && (plain (r .usage) (chunkOf (r .sort) d) && not (frontIs f (r .usage) (r .number) && eqb (r .sort) Rect))
+oldFine r d f = not (eqb (r .sort) RIdx) && (plainAllows (r .usage) (chunkOf (r .sort) d) && not (frontIs f (r .usage) (r .number) && eqb (r .sort) Rect))
 
 abbrev pub replacedPlan : Facts → ℕ → Record → List ℕ → Undoing
 replacedPlan t l r d =
@@ -129,19 +133,20 @@ fitsRemoved t l r = leb (r .place) (t .count) && (t .begins || eqb (r .start - 1
 abbrev pub removedFine : Facts → ℕ → Record → List ℕ → Bool
 removedFine t l r d =
     leb (l + 12 + sizeOf (r .length)) 16777216
-    && (not (eqb (r .sort) RIdx) && (ltb (t .count) 4096 && entryFine (r .usage) (r .number) (plain (r .usage) (chunkOf (r .sort) d)) (t .target)))
+    && (not (eqb (r .sort) RIdx) && (ltb (t .count) 4096 && entryFine (r .usage) (r .number) (plainAllows (r .usage) (chunkOf (r .sort) d)) (t .target)))
 
 abbrev pub removedPlan : Facts → ℕ → Record → List ℕ → Undoing
 removedPlan t l r d =
     fitting (fitsRemoved t l r && removedFine t l r d) (Go (t .count) (r .start - 12) 0 (l + 12 + sizeOf (r .length)) r)
 
--- kind 4: the same, but a chunk begins there; it is read in the file s
-abbrev pub Begins : Bool → List ℕ → ℕ → Type 0
-Begins true s at = at + (8 + rd32 (drop (at + 4) s)) ≤ length s
-Begins false s at = Unit {0}
+-- the header and data of a chunk that begins at `at` lie in the file s
+abbrev pub ChunkInside : Bool → List ℕ → ℕ → Type 0
+ChunkInside true s at = at + (8 + rd32 (drop (at + 4) s)) ≤ length s
+ChunkInside false s at = Unit {0}
 
+-- kind 4: as kind 3, but a chunk begins there; it is read in the file s
 abbrev pub unlistedPlan : Facts → List ℕ → Record → Undoing
 unlistedPlan t s r =
     fitting ((leb (r .place) (t .count) && t .begins) && (leb (length s + 12) 16777216 && (ltb (t .count) 4096
-    && entryFine (r .usage) (r .number) (plain (r .usage) (chunkIn (drop (r .start - 12) s))) (t .target))))
+    && entryFine (r .usage) (r .number) (plainAllows (r .usage) (chunkIn (drop (r .start - 12) s))) (t .target))))
     (Go (t .count) (r .start - 12) 0 (length s + 12) r)

@@ -16,7 +16,7 @@ ghost use Rattle.blorb.specs.Tags.{Exec, Pict, Rect};
 ghost use Rattle.blorb.specs.Model.{model};
 ghost use Rattle.edits.specs.Edit.{add, replace, remove};
 ghost use Rattle.edits.specs.Run.{hundred, editedFile};
-ghost use Rattle.edits.proofs.Starts.{fallen, behind};
+ghost use Rattle.edits.specs.Starts.{behind, fallen};
 ghost use Rattle.reader.specs.Inspecting.{targetOf, frontOf};
 ghost use Rattle.editor.specs.Called.{verdictOf};
 ghost use Rattle.editor.specs.Post.{Stands, Listed, Own};
@@ -132,8 +132,8 @@ pub(crate) fn remove_fault(
     }
 }
 
-// A frontispiece with number `q` loses its picture: it becomes a 'Rect'.
-pub(crate) fn spoils(usage: u32, number: u32, q: u32, kind: u32) -> bool
+// The picture of a frontispiece with number `q` becomes a 'Rect'.
+pub(crate) fn makes_rect(usage: u32, number: u32, q: u32, kind: u32) -> bool
     ensures { λ r. ⌜ r ≡ ((eqb usage Pict && eqb number q) && eqb kind Rect) ⌝ }
 {
     if is_picture(usage, number, q) {
@@ -188,7 +188,7 @@ pub(crate) fn replace_fault(
             start: at,
             number: q,
         } => {
-            if spoils(usage, number, q, kind) {
+            if makes_rect(usage, number, q, kind) {
                 let p = behind_start(at, piece.start, old, new as u32);
                 return refused(119, p as usize + 8);
             }

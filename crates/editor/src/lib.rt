@@ -420,7 +420,7 @@ pub fn remove(
     remove_entry(buf, len, jrn, used, u, number)
 }
 
-// The state that a run of edits begins with: the file's length, and the journal's.
+// The state that a run of edits begins with: the file's length, and U.
 pub struct Session {
     pub len: usize,
     pub used: usize,

@@ -5,9 +5,7 @@ ghost use mathlib.Core.List.{[], _∷_, _++_};
 ghost use lib.ListN.{length, replicate};
 ghost use Rattle.blorb.specs.Bytes.{be32};
 ghost use Rattle.edits.specs.Run.{noted};
-ghost use Rattle.blorb.specs.Format.{chunkBytes};
-ghost use Rattle.edits.specs.Edit.{given};
-ghost use Rattle.blorb.proofs.Parts.{front};
+ghost use Rattle.blorb.specs.Format.{chunkBytes, chunkOf, heading};
 ghost use Rattle.edits.specs.Journal.{recBytes};
 ghost use Rattle.editor.specs.Moves.{low4, turned, relocated, startsMoved, recordOf};
 
@@ -128,9 +126,9 @@ pub(crate) fn put_words(buf: &mut [u8], at: usize, a: u64, b: u64, c: u64)
 }
 
 // The 24 bytes before the entries, of a file with `n` entries and `t` bytes of chunks behind the index.
-pub(crate) fn put_front(buf: &mut [u8], n: u64, t: u64)
+pub(crate) fn put_heading(buf: &mut [u8], n: u64, t: u64)
     requires { ⌜ (24 ≤ length (now buf)) × ((n < 4294967296) × (t < 4294967296)) ⌝ }
-    ensures { λ _. ⌜ now (buf .exit) ≡ noted (now (buf .entry)) 0 (front n t) ⌝ }
+    ensures { λ _. ⌜ now (buf .exit) ≡ noted (now (buf .entry)) 0 (heading n t) ⌝ }
 {
     put_words(buf, 0, 0x464f524d, 16 + 12 * n + t, 0x49465253);
     put_words(buf, 12, 0x52496478, 4 + 12 * n, n);
@@ -139,7 +137,7 @@ pub(crate) fn put_front(buf: &mut [u8], n: u64, t: u64)
 // A chunk at `at`: type, length, data and, where the length is odd, a zero byte.
 pub(crate) fn put_chunk(buf: &mut [u8], at: usize, kind: u64, d: &[u8])
     requires { ⌜ at + (8 + (length (now d) + length (now d) % 2)) ≤ length (now buf) ⌝ }
-    ensures { λ _. ⌜ now (buf .exit) ≡ noted (now (buf .entry)) at (chunkBytes (given kind (now (d .entry)))) ⌝ }
+    ensures { λ _. ⌜ now (buf .exit) ≡ noted (now (buf .entry)) at (chunkBytes (chunkOf kind (now (d .entry)))) ⌝ }
 {
     let m = d.len();
     put32(buf, at, kind);

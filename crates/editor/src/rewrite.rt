@@ -5,12 +5,15 @@ ghost use mathlib.Core.Path.{_≡_};
 ghost use Prim.Native.Nat.{_+_, _-_, _*_, _%_, _≤_, _<_};
 ghost use mathlib.Core.List.{[]};
 ghost use lib.ListN.{length, take};
+ghost use Rattle.blorb.specs.Format.{chunkOf};
 ghost use Rattle.blorb.specs.Model.{model, file};
-ghost use Rattle.edits.specs.Edit.{add, removed, replaced, given};
+ghost use Rattle.edits.specs.Edit.{add, removed, replaced};
 ghost use Rattle.blorb.specs.Queries.{refAt};
 ghost use Rattle.edits.specs.Run.{written, editedFile};
 ghost use Rattle.editor.specs.Post.{Stands, closed, resized, Removable, Replaceable, Insertable, goneRec};
 ghost use Rattle.edits.specs.Journal.{undo3, undo4};
+ghost use Rattle.edits.specs.Starts.{behind};
+ghost use Rattle.editor.specs.Moves.{startsMoved};
 
 // The file with the new entry and chunk, written over the present one, which is accepted and has `count` entries: both go in at their ends.
 pub(crate) fn add_bytes(
@@ -64,7 +67,7 @@ pub(crate) fn remove_bytes(
     shift::shift_left(buf, 36 + 12 * i, start, 12);
     shift::shift_left(buf, start + size, len, 12 + size);
     moves::clear(buf, len - (12 + size), 12 + size);
-    moves::put_front(
+    moves::put_heading(
         buf,
         count as u64 - 1,
         (len - size - (24 + 12 * count)) as u64,
@@ -76,11 +79,36 @@ pub(crate) fn resize(buf: &mut [u8], at: usize, len: usize, old: usize, new: usi
     requires { ⌜ (at + old ≤ len) × ((len ≤ length (now buf)) × (len + (new - old) ≤ length (now buf))) ⌝ }
     ensures { λ _. ⌜ now (buf .exit) ≡ resized (now (buf .entry)) at len old new ⌝ }
 {
+    if old == new {
+        return;
+    }
     if old < new {
         shift::shift_right(buf, at + old, len, new - old);
         return;
     }
     close_gap(buf, at + new, len, old - new);
+}
+
+// The starts behind `start` move by what the part there grows or shrinks from `old` to `new` bytes.
+fn move_behind(buf: &mut [u8], count: usize, start: usize, old: usize, new: usize)
+    requires { ⌜ (24 + 12 * count ≤ length (now buf)) × ((start < 4294967296) × ((old < 4294967296) × (new < 4294967296))) ⌝ }
+    ensures { λ _. ⌜ now (buf .exit) ≡ startsMoved (behind start old new) count 24 (now (buf .entry)) ⌝ }
+{
+    if old == new {
+        return;
+    }
+    moves::move_starts(
+        buf,
+        24,
+        count,
+        moves::Move {
+            limit: start as u32,
+            grow: new as u32,
+            fall: old as u32,
+            plus: 0,
+            minus: 0,
+        },
+    );
 }
 
 // The file with another chunk in the place of entry `i`'s own, which has `old` bytes at `start`.
@@ -96,24 +124,13 @@ pub(crate) fn replace_bytes(
 )
     requires { ⌜ Stands (now buf) len count × (Replaceable (now buf) len count i start old × ((len - old + (8 + (length (now d) + length (now d) % 2)) ≤ length (now buf)) ×
         (len - old + (8 + (length (now d) + length (now d) % 2)) ≤ 16777216))) ⌝ }
-    ensures { λ _. ⌜ now (buf .exit) ≡ written (now (buf .entry)) len (file (replaced (model (take len (now (buf .entry)))) (refAt (model (take len (now (buf .entry)))) i .chunk) (given kind (now (d .entry))))) ⌝ }
+    ensures { λ _. ⌜ now (buf .exit) ≡ written (now (buf .entry)) len (file (replaced (model (take len (now (buf .entry)))) (refAt (model (take len (now (buf .entry)))) i .chunk) (chunkOf kind (now (d .entry))))) ⌝ }
 {
     let m = d.len();
     let new = 8 + (m + m % 2);
     resize(buf, start, len, old, new);
-    moves::move_starts(
-        buf,
-        24,
-        count,
-        moves::Move {
-            limit: start as u32,
-            grow: new as u32,
-            fall: old as u32,
-            plus: 0,
-            minus: 0,
-        },
-    );
-    moves::put_front(
+    move_behind(buf, count, start, old, new);
+    moves::put_heading(
         buf,
         count as u64,
         (len - (24 + 12 * count) - old + new) as u64,
@@ -121,7 +138,7 @@ pub(crate) fn replace_bytes(
     moves::put_chunk(buf, start, kind as u64, d);
 }
 
-// The file with a removed entry back at `place` in the index, and its chunk back at `at`.
+// The file with an entry put in at `place` in the index, and its chunk at `at`.
 pub(crate) fn insert_bytes(
     buf: &mut [u8],
     len: usize,
@@ -157,7 +174,7 @@ pub(crate) fn insert_bytes(
     moves::put_words(buf, entry, usage as u64, number as u64, at as u64 + 12);
     moves::put_chunk(buf, at + 12, kind as u64, d);
     let rest = len - (24 + 12 * count) + size;
-    moves::put_front(buf, count as u64 + 1, rest as u64);
+    moves::put_heading(buf, count as u64 + 1, rest as u64);
 }
 
 // The file with a removed entry back at `place` in the index. Its chunk stands, at `at` in the present file.
@@ -188,5 +205,5 @@ pub(crate) fn insert_entry(
     );
     shift::shift_right(buf, entry, len, 12);
     moves::put_words(buf, entry, usage as u64, number as u64, at as u64 + 12);
-    moves::put_front(buf, count as u64 + 1, (len - (24 + 12 * count)) as u64);
+    moves::put_heading(buf, count as u64 + 1, (len - (24 + 12 * count)) as u64);
 }

@@ -2,7 +2,7 @@
 ghost use mathlib.Core.Path.{_≡_};
 ghost use Prim.Native.Nat.{_+_, _-_, _≤_, _<_};
 ghost use lib.ListN.{length, take, drop};
-ghost use Rattle.editor.specs.Shift.{moved, laid};
+ghost use Rattle.editor.specs.Shift.{slid, laid};
 
 // The 1,024 bytes at `at`.
 fn load(s: &[u8], at: usize) -> [u8; 1024]
@@ -59,7 +59,7 @@ fn store_page(buf: &mut [u8], at: usize, t: [u8; 4096])
 // The bytes from `at` up to `len` go `k` further right, one by one.
 fn right_rest(buf: &mut [u8], at: usize, len: usize, k: usize)
     requires { ⌜ (at ≤ len) × (len + k ≤ length (now buf)) ⌝ }
-    ensures { λ _. ⌜ now (buf .exit) ≡ moved (now (buf .entry)) (at + k) at (len - at) ⌝ }
+    ensures { λ _. ⌜ now (buf .exit) ≡ slid (now (buf .entry)) (at + k) at (len - at) ⌝ }
 {
     let mut i = len;
     while at < i {
@@ -72,7 +72,7 @@ fn right_rest(buf: &mut [u8], at: usize, len: usize, k: usize)
 // The bytes from `at` up to `len` go `k` further left, one by one.
 fn left_rest(buf: &mut [u8], at: usize, len: usize, k: usize)
     requires { ⌜ (k ≤ at) × ((at ≤ len) × (len ≤ length (now buf))) ⌝ }
-    ensures { λ _. ⌜ now (buf .exit) ≡ moved (now (buf .entry)) (at - k) at (len - at) ⌝ }
+    ensures { λ _. ⌜ now (buf .exit) ≡ slid (now (buf .entry)) (at - k) at (len - at) ⌝ }
 {
     let mut i = at;
     while i < len {
@@ -95,10 +95,10 @@ fn copy_rest(buf: &mut [u8], at: usize, d: &[u8], from: usize)
     }
 }
 
-// The bytes from `at` up to `len` go `k` further right. All others stay.
-pub(crate) fn shift_right(buf: &mut [u8], at: usize, len: usize, k: usize)
+// The bytes from `at` up to `len` go `k` further right, by blocks.
+fn right_blocks(buf: &mut [u8], at: usize, len: usize, k: usize)
     requires { ⌜ (at ≤ len) × (len + k ≤ length (now buf)) ⌝ }
-    ensures { λ _. ⌜ now (buf .exit) ≡ moved (now (buf .entry)) (at + k) at (len - at) ⌝ }
+    ensures { λ _. ⌜ now (buf .exit) ≡ slid (now (buf .entry)) (at + k) at (len - at) ⌝ }
 {
     let mut i = len;
     while 1024 <= i - at {
@@ -109,10 +109,10 @@ pub(crate) fn shift_right(buf: &mut [u8], at: usize, len: usize, k: usize)
     right_rest(buf, at, i, k);
 }
 
-// The bytes from `at` up to `len` go `k` further left. All others stay.
-pub(crate) fn shift_left(buf: &mut [u8], at: usize, len: usize, k: usize)
+// The bytes from `at` up to `len` go `k` further left, by blocks.
+fn left_blocks(buf: &mut [u8], at: usize, len: usize, k: usize)
     requires { ⌜ (k ≤ at) × ((at ≤ len) × (len ≤ length (now buf))) ⌝ }
-    ensures { λ _. ⌜ now (buf .exit) ≡ moved (now (buf .entry)) (at - k) at (len - at) ⌝ }
+    ensures { λ _. ⌜ now (buf .exit) ≡ slid (now (buf .entry)) (at - k) at (len - at) ⌝ }
 {
     let mut i = at;
     while 1024 <= len - i {
@@ -121,6 +121,34 @@ pub(crate) fn shift_left(buf: &mut [u8], at: usize, len: usize, k: usize)
         i += 1024;
     }
     left_rest(buf, i, len, k);
+}
+
+// The bytes from `at` up to `len` go `k` further right, by pages. All others stay.
+pub(crate) fn shift_right(buf: &mut [u8], at: usize, len: usize, k: usize)
+    requires { ⌜ (at ≤ len) × (len + k ≤ length (now buf)) ⌝ }
+    ensures { λ _. ⌜ now (buf .exit) ≡ slid (now (buf .entry)) (at + k) at (len - at) ⌝ }
+{
+    let mut i = len;
+    while 4096 <= i - at {
+        i -= 4096;
+        let t = load_page(buf, i);
+        store_page(buf, i + k, t);
+    }
+    right_blocks(buf, at, i, k);
+}
+
+// The bytes from `at` up to `len` go `k` further left, by pages. All others stay.
+pub(crate) fn shift_left(buf: &mut [u8], at: usize, len: usize, k: usize)
+    requires { ⌜ (k ≤ at) × ((at ≤ len) × (len ≤ length (now buf))) ⌝ }
+    ensures { λ _. ⌜ now (buf .exit) ≡ slid (now (buf .entry)) (at - k) at (len - at) ⌝ }
+{
+    let mut i = at;
+    while 4096 <= len - i {
+        let t = load_page(buf, i);
+        store_page(buf, i - k, t);
+        i += 4096;
+    }
+    left_blocks(buf, i, len, k);
 }
 
 // The data at `at`, by blocks.
@@ -137,7 +165,7 @@ fn copy_blocks(buf: &mut [u8], at: usize, d: &[u8])
     copy_rest(buf, at + i, d, i);
 }
 
-// The data at `at`, by pages: a library's copy takes these at its full speed.
+// The data at `at`, by pages: the compiler turns each into one copy of the C library.
 pub(crate) fn copy_pages(buf: &mut [u8], at: usize, d: &[u8])
     requires { ⌜ at + length (now d) ≤ length (now buf) ⌝ }
     ensures { λ _. ⌜ now (buf .exit) ≡ laid (now (buf .entry)) at (now (d .entry)) (length (now (d .entry))) ⌝ }

@@ -16,13 +16,13 @@ ghost use Prim.Native.Nat.{_+_, _-_, _≤_};
 ghost use lib.ListN.{length, take, drop};
 ghost use Rattle.blorb.specs.Bytes.{rd32};
 ghost use Rattle.blorb.specs.Format.{chunkIn};
-ghost use Rattle.blorb.specs.Rules.{plain};
+ghost use Rattle.blorb.specs.Rules.{plainAllows};
 ghost use Rattle.blorb.specs.Verdict.{knownUsage};
 ghost use Rattle.edits.specs.Run.{written, undoneFile};
 ghost use Rattle.blorb.specs.Format.{sizeOf};
 ghost use Rattle.editor.specs.LastRecord.{lastOf};
 ghost use Rattle.editor.specs.declared.undoing.Undoing.the-variants.{Go};
-ghost use Rattle.editor.specs.UndoPlan.{undoPlan, fittingPlan, roomy, numbersIn, Asked, frontIs, entryFine, Begins, fitsAdded, addedPlan, fitsReplaced, oldFine, replacedPlan, fitsRemoved, removedPlan, unlistedPlan};
+ghost use Rattle.editor.specs.UndoPlan.{undoPlan, fittingPlan, roomy, numbersIn, askedAt, UndoReady, frontIs, entryFine, ChunkInside, fitsAdded, addedPlan, fitsReplaced, oldFine, replacedPlan, fitsRemoved, removedPlan, unlistedPlan};
 
 // What an undo goes on with: the file has `count` entries; the record's chunk stands, or goes in, at `at` and has `size` bytes
 // now; the file has `to` bytes after it.
@@ -207,7 +207,7 @@ fn plan_removed(facts: Facts, len: usize, r: Record, d: &[u8]) -> Undoing
 // Rule 5 for the chunk that begins at `at` of the file `s`.
 fn chunk_allowed(s: &[u8], at: usize, usage: u32) -> bool
     requires { ⌜ at + (8 + rd32 (drop (at + 4) (now s))) ≤ length (now s) ⌝ }
-    ensures { λ r. ⌜ r ≡ plain usage (chunkIn (drop at (now (s .entry)))) ⌝ }
+    ensures { λ r. ⌜ r ≡ plainAllows usage (chunkIn (drop at (now (s .entry)))) ⌝ }
 {
     let kind = blorb::be32_at(s, at);
     let m = blorb::be32_at(s, at + 4) as usize;
@@ -218,7 +218,7 @@ fn chunk_allowed(s: &[u8], at: usize, usage: u32) -> bool
 
 // Kind 4: the entry goes in; its chunk stands in the file `s`.
 fn plan_unlisted(s: &[u8], facts: Facts, r: Record) -> Undoing
-    requires { ⌜ (length (now s) ≤ 16777216) × Begins (facts .begins) (now s) (r .start - 12) ⌝ }
+    requires { ⌜ (length (now s) ≤ 16777216) × ChunkInside (facts .begins) (now s) (r .start - 12) ⌝ }
     ensures { λ x. ⌜ x ≡ unlistedPlan facts (now (s .entry)) r ⌝ }
 {
     let count = facts.count;
@@ -251,7 +251,7 @@ fn plan_unlisted(s: &[u8], facts: Facts, r: Record) -> Undoing
 
 // 21 of a well-formed last record `r`, or how its undo goes on, by its kind.
 fn plan_fitting(buf: &[u8], len: usize, jrn: &[u8], used: usize, facts: Facts, r: Record) -> Undoing
-    requires { ⌜ Asked (now buf) len (now jrn) used r facts ⌝ }
+    requires { ⌜ UndoReady (now buf) len (now jrn) used r facts ⌝ }
     ensures { λ x. ⌜ x ≡ fittingPlan (take len (now (buf .entry))) (take used (now (jrn .entry))) ⌝ }
 {
     let kind = r.kind;
@@ -319,6 +319,16 @@ fn last_numbers(jrn: &[u8], used: usize) -> Record
     }
 }
 
+// The offset to ask the reader about. Kinds 1 and 2 need none, and 0 spares the reader the walk to it.
+fn asked_offset(r: Record) -> usize
+    ensures { λ x. ⌜ x ≡ askedAt r ⌝ }
+{
+    if r.kind < 3 {
+        return 0;
+    }
+    less(r.start as usize, 12)
+}
+
 // An undo's refusal, or how it goes on.
 pub(crate) fn undo_plan(buf: &[u8], len: usize, jrn: &[u8], used: usize) -> Undoing
     ensures { λ r. ⌜ r ≡ undoPlan (now (buf .entry)) len (now (jrn .entry)) used ⌝ }
@@ -336,7 +346,7 @@ pub(crate) fn undo_plan(buf: &[u8], len: usize, jrn: &[u8], used: usize) -> Undo
         };
     }
     let r = last_numbers(jrn, used);
-    match reader::inspect(&buf[..len], r.usage, r.number, less(r.start as usize, 12)) {
+    match reader::inspect(&buf[..len], r.usage, r.number, asked_offset(r)) {
         Inspection::Refused { number, place } => Undoing::Not { number, place },
         Inspection::Whole(facts) => {
             if used == 0 {

@@ -14,7 +14,7 @@ use Rattle.blorb.specs.Verdict.{Rules, Verdict, accept, refuse, _then_, check, 
 use Rattle.blorb.specs.Model.{Model, base, file}
 use Rattle.edits.specs.Edit.{added}
 use Rattle.blorb.specs.All.{All}
-use Rattle.blorb.proofs.Sound.{RefOk, Sound}
+use Rattle.blorb.specs.Sound.{RefOk, Sound}
 use Rattle.blorb.proofs.Checks.{then-accept, check-accept, pass, accepts}
 use Rattle.blorb.proofs.VerdictLaws.{refsFault, modelFault, verdict-file}
 

@@ -11,7 +11,7 @@ use Rattle.blorb.specs.Format.{sized, size, total, chunkBytes, chunksBytes, fil
 use Rattle.blorb.specs.Verdict.{accept, _then_, check, secondIndex, verdict}
 use Rattle.blorb.specs.Rules.{plainRules, optional, chunkRules}
 use Rattle.blorb.specs.Model.{Model, file, model}
-use Rattle.blorb.proofs.Sound.{Sound}
+use Rattle.blorb.specs.Sound.{Sound}
 use Rattle.blorb.proofs.ModelLaws.{model-file}
 use Rattle.blorb.proofs.VerdictLaws.{refsFault, modelFault, verdict-file}
 use Rattle.edits.specs.Run.{noted}

@@ -12,13 +12,13 @@ use Rattle.blorb.specs.Bytes.{rd32}
 use Rattle.blorb.specs.Format.{Ref, Chunk, size, total}
 use Rattle.blorb.specs.Tags.{RIdx, tag}
 use Rattle.blorb.specs.Verdict.{Rules, Verdict, accept, refuse, _then_, check, noChunk, knownUsage, pairIn, refFault, verdict}
-use Rattle.blorb.specs.Rules.{plain, optional, plainRules}
+use Rattle.blorb.specs.Rules.{plainAllows, optional, plainRules}
 use Rattle.blorb.specs.Tags.{Pict, Snd, Data, Exec}
 use Rattle.blorb.specs.Model.{Model, base, file, model}
-use Rattle.edits.specs.Edit.{Edit, add, added, edited, given}
+use Rattle.edits.specs.Edit.{Edit, add, added, edited}
 use Rattle.blorb.specs.Queries.{find}
 use Rattle.blorb.specs.All.{All}
-use Rattle.blorb.proofs.Sound.{W, RefOk, Sound}
+use Rattle.blorb.specs.Sound.{W, RefOk, Sound}
 use Rattle.edits.specs.Run.{ArgsOk}
 use Rattle.blorb.specs.Bytes.{Byte}
 use Rattle.blorb.proofs.Accept.{accept-back}

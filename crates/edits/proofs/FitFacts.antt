@@ -13,13 +13,13 @@ use borrow.Author.Tests.{eqb-true, eq-eqb, leb-true, lt-ltb, ltb-true}
 use Rattle.blorb.specs.Format.{Chunk, size, sized, total, isStart, placeOf}
 use Rattle.blorb.specs.Verdict.{accept, noChunk}
 use Rattle.blorb.specs.Rules.{plainRules}
-use Rattle.blorb.specs.Model.{Model, base, startAt, file}
+use Rattle.blorb.specs.Model.{Model, base, startOf, file}
 use Rattle.blorb.specs.Queries.{find, refAt, chunkAt, shared, start}
-use Rattle.blorb.proofs.Sound.{Sound}
-use Rattle.blorb.proofs.Places.{size-pos, placeOf-startAt, startAt-placeOf}
+use Rattle.blorb.specs.Sound.{Sound}
+use Rattle.blorb.proofs.Places.{size-pos, placeOf-startOf, startOf-placeOf}
 use Rattle.blorb.proofs.ModelLaws.{length-file, total-take}
 use Rattle.blorb.proofs.VerdictLaws.{modelFault}
-use Rattle.edits.specs.Journal.{Rec, samePair, fits1, fits2, fits3, fits4, oldPlace}
+use Rattle.edits.specs.Journal.{Rec, hasPair, fits1, fits2, fits3, fits4, oldPlace}
 use Rattle.edits.proofs.FitLaws.{find-pair}
 use Rattle.edits.proofs.BoolLaws.{and-parts, same-test}
 use Rattle.edits.proofs.JudgedLaws.{chunk-in}
@@ -32,7 +32,7 @@ size-is c = refl
 
 -- the file's end is where a chunk behind the last would start
 pub start-end : (m : Model) → start m (length (m .chunks)) ≡ length (file m)
-unfolding start startAt
+unfolding start startOf
 start-end m = rw (take-length (m .chunks)) (sym (length-file m))
 
 -- a chunk is the last one if it ends where the file ends
@@ -52,11 +52,11 @@ last-total (c ∷ cs) (suc k) h e = ap suc (last-total cs k (le-of-suc-le-suc h)
 
 module _ (m : Model) (k : ℕ) (h : k < length (m .chunks)) where
   ends-last : suc k ≡ length (m .chunks) → start m k + size (chunkAt m k) ≡ length (file m)
-  unfolding start startAt
+  unfolding start startOf
   ends-last e = omega (arith, total-last (m .chunks) k h e, length-file m)
 
   last-ends : start m k + size (chunkAt m k) ≡ length (file m) → suc k ≡ length (m .chunks)
-  unfolding start startAt
+  unfolding start startOf
   last-ends e = last-total (m .chunks) k h (omega (arith, length-file m))
 
 -- kind 1, L being the file's length and i the place that the reader gives for the record's pair: there is such an entry, it has the record's place, it is the last one,
@@ -75,7 +75,7 @@ module _ (r : Rec) (m : Model) (s : Sound m) (ok : modelFault plainRules m ≡ a
   abbrev at : ℕ
   at = find (r .usage) (r .number) (m .refs)
 
-  pair-is : at < length (m .refs) → samePair r (refAt m at) ≡ true
+  pair-is : at < length (m .refs) → hasPair r (refAt m at) ≡ true
   pair-is h = let p = find-pair (r .usage) (r .number) (m .refs) h in rw (eq-eqb (refAt m at .usage) (r .usage) (p .0), eq-eqb (refAt m at .number) (r .number) (p .1))
 
   fits1-tells : fits1 r m ≡ true → told1 r m (length (file m)) at ≡ true
@@ -100,7 +100,7 @@ module _ (r : Rec) (m : Model) (s : Sound m) (ok : modelFault plainRules m ≡ a
       let l : at < length (m .refs) = ltb-true at (length (m .refs)) (a .0) in
       let n : length (m .refs) ≡ suc (r .place) = omega (arith, eqb-true (length (m .refs)) (r .place + 1) (c .0)) in
       let e : suc k ≡ length (m .chunks) = last-ends m k (chunk-in m at s l) (ap (λ (z : ℕ). start m k + z) (size-is (chunkAt m k)) ∙ eqb-true _ _ (d .0)) in
-      ap (λ (i : ℕ). eqb (length (m .refs)) (suc (r .place)) && samePair r (refAt m i) && eqb (suc (refAt m i .chunk)) (length (m .chunks)) && not (shared m i)) (sym (eqb-true at (r .place) (b .0)))
+      ap (λ (i : ℕ). eqb (length (m .refs)) (suc (r .place)) && hasPair r (refAt m i) && eqb (suc (refAt m i .chunk)) (length (m .chunks)) && not (shared m i)) (sym (eqb-true at (r .place) (b .0)))
       ∙ rw (eq-eqb (length (m .refs)) (suc (r .place)) n, pair-is l, eq-eqb (suc k) (length (m .chunks)) e, d .1)
 
   pub fits1-told : fits1 r m ≡ told1 r m (length (file m)) (find (r .usage) (r .number) (m .refs))
@@ -120,7 +120,7 @@ module _ (r : Rec) (m : Model) (s : Sound m) (ok : modelFault plainRules m ≡ a
       let b = and-parts (eqb at (r .place)) (eqb (start m k) (r .start) && not (shared m at)) (a .1) in
       let d = and-parts (eqb (start m k) (r .start)) (not (shared m at)) (b .1) in
       let l : at < length (m .refs) = ltb-true at (length (m .refs)) (a .0) in
-      ap (λ (i : ℕ). ltb i (length (m .refs)) && samePair r (refAt m i) && eqb (start m (refAt m i .chunk)) (r .start) && not (shared m i)) (sym (eqb-true at (r .place) (b .0)))
+      ap (λ (i : ℕ). ltb i (length (m .refs)) && hasPair r (refAt m i) && eqb (start m (refAt m i .chunk)) (r .start) && not (shared m i)) (sym (eqb-true at (r .place) (b .0)))
       ∙ rw (a .0, pair-is l, d .0, d .1)
 
   pub fits2-told : fits2 r m ≡ told2 r m (find (r .usage) (r .number) (m .refs))
@@ -155,7 +155,7 @@ module _ (r : Rec) (m : Model) where
     pub before : r .start - 12 ≤ length (file m)
 
   goes-in : r .place ≤ length (m .refs) → oldPlace r m ≤ length (m .chunks) → start m (oldPlace r m) ≡ r .start - 12 → GoesIn
-  unfolding start startAt base
+  unfolding start startOf base
   goes-in p c e = record {
     place-in = p;
     chunk-place = c;
@@ -167,7 +167,7 @@ module _ (r : Rec) (m : Model) where
   begin-in : r .place ≤ length (m .refs) → isStart (r .start - 12) (base (length (m .refs))) (m .chunks) ≡ true → GoesIn
   unfolding start
   begin-in p h =
-      let a = startAt-placeOf back (base (length (m .refs))) (m .chunks) h in
+      let a = startOf-placeOf back (base (length (m .refs))) (m .chunks) h in
       goes-in p (omega (arith, a .1)) (a .0)
 
   pub fits3-in : fits3 r m ≡ true → GoesIn
@@ -181,11 +181,11 @@ module _ (r : Rec) (m : Model) where
       go false e p h =
           let x : back ≡ start m (length (m .chunks)) = eqb-true back (start m (length (m .chunks))) h in
           let y : oldPlace r m ≡ length (m .chunks)
-          = ap (λ (z : ℕ). placeOf z (base (length (m .refs))) (m .chunks)) x ∙ (unfold start in placeOf-startAt (base (length (m .refs))) (m .chunks) (length (m .chunks)) (omega arith)) in
+          = ap (λ (z : ℕ). placeOf z (base (length (m .refs))) (m .chunks)) x ∙ (unfold start in placeOf-startOf (base (length (m .refs))) (m .chunks) (length (m .chunks)) (omega arith)) in
           goes-in p (omega arith) (ap (start m) y ∙ sym x)
 
   pub fits4-in : fits4 r m ≡ true → GoesIn × (oldPlace r m < length (m .chunks))
   unfolding fits4
   fits4-in fit =
       let a = and-parts (leb (r .place) (length (m .refs))) (isStart back (base (length (m .refs))) (m .chunks)) fit in
-      (begin-in (leb-true _ _ (a .0)) (a .1), startAt-placeOf back (base (length (m .refs))) (m .chunks) (a .1) .1)
+      (begin-in (leb-true _ _ (a .0)) (a .1), startOf-placeOf back (base (length (m .refs))) (m .chunks) (a .1) .1)

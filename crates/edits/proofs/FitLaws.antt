@@ -11,17 +11,17 @@ use lib.Dec.{eqb, leb, ltb}
 use borrow.Author.Tests.{eq-eqb, ne-eqb, eqb-true, eqb-false, ltb-true, ltb-false, le-leb, lt-leb, lt-ltb}
 use Rattle.blorb.specs.Format.{Ref, Chunk, Entry, size, sized, total, isStart, placeOf}
 use Rattle.blorb.specs.Verdict.{noChunk}
-use Rattle.blorb.specs.Model.{Model, base, startAt}
-use Rattle.edits.specs.Edit.{Edit, add, replace, remove, with-at, raise, lower, added, replaced, removed, removedBoth, removedEntry, edited, given}
+use Rattle.blorb.specs.Model.{Model, base, startOf}
+use Rattle.edits.specs.Edit.{Edit, add, replace, remove, with-at, raise, lower, added, replaced, removed, removedBoth, removedEntry, edited, givenChunk}
 use Rattle.blorb.specs.Queries.{find, uses, shared, refAt, noRef, chunkAt, without}
 use Rattle.edits.specs.Journal.{Rec, removal, recOf, oldChunk, oldRef, oldPlace, undo1, undo2, undo3, undo4, undone, fits, fits1, fits2, fits3, fits4}
 use Rattle.blorb.specs.Queries.{start}
 use Rattle.blorb.specs.All.{All}
 use Rattle.blorb.proofs.AllLaws.{all-getD, all-append, all-take, all-drop, all-set, all-map, all-imp}
-use Rattle.blorb.proofs.Sound.{W, RefOk, ChunkOk, Sound}
+use Rattle.blorb.specs.Sound.{W, RefOk, ChunkOk, Sound}
 use Rattle.edits.specs.Run.{ArgsOk}
 use Rattle.edits.proofs.Applies.{Applies}
-use Rattle.blorb.proofs.Places.{placeOf-startAt, isStart-startAt}
+use Rattle.blorb.proofs.Places.{placeOf-startOf, isStart-startOf}
 use Rattle.edits.proofs.UndoLaws.{undo-add, undo-replace, undo-remove, undo-remove-entry, entry-start, length-without, length-remaining, remove-start, or-false}
 
 -- the entry that find gives is the one sought
@@ -72,7 +72,7 @@ or-true false = refl
 
 -- a replaced chunk starts where it did
 pub start-replaced : (m : Model) (k : ℕ) (c : Chunk) → start (replaced m k c) k ≡ start m k
-unfolding start startAt replaced
+unfolding start startOf replaced
 start-replaced m k c = rw (take-set-le k (m .chunks) k c (omega arith))
 
 fit-replace : (m : Model) (u n i : ℕ) (c : Chunk) (t : ℕ) (b : List ℕ) → i < length (m .refs) → refAt m i .usage ≡ u → refAt m i .number ≡ n → shared m i ≡ false
@@ -88,12 +88,12 @@ fit-replace m u n i c t b h p q alone =
     )
 
 -- old start less 12: a chunk's beginning, or the end
-old-fits : (at : ℕ) (cs : List Chunk) (k : ℕ) → k ≤ length cs → (isStart (startAt at cs k) at cs || eqb (startAt at cs k) (startAt at cs (length cs))) ≡ true
+old-fits : (at : ℕ) (cs : List Chunk) (k : ℕ) → k ≤ length cs → (isStart (startOf at cs k) at cs || eqb (startOf at cs k) (startOf at cs (length cs))) ≡ true
 old-fits at cs k h = go (eqb k (length cs)) refl
   where
-    go : (b : Bool) → eqb k (length cs) ≡ b → (isStart (startAt at cs k) at cs || eqb (startAt at cs k) (startAt at cs (length cs))) ≡ true
-    go true e = rw (eqb-true k (length cs) e, eq-eqb (startAt at cs (length cs)) (startAt at cs (length cs)) refl) (or-true (isStart (startAt at cs (length cs)) at cs))
-    go false e = rw (isStart-startAt at cs k (omega (arith, eqb-false k (length cs) e)))
+    go : (b : Bool) → eqb k (length cs) ≡ b → (isStart (startOf at cs k) at cs || eqb (startOf at cs k) (startOf at cs (length cs))) ≡ true
+    go true e = rw (eqb-true k (length cs) e, eq-eqb (startOf at cs (length cs)) (startOf at cs (length cs)) refl) (or-true (isStart (startOf at cs (length cs)) at cs))
+    go false e = rw (isStart-startOf at cs k (omega (arith, eqb-false k (length cs) e)))
 
 fit-remove : (m : Model) (i u n : ℕ) → i < length (m .refs) → refAt m i .chunk < length (m .chunks)
     → fits3 (removal false m u n i) (removedBoth m i (refAt m i .chunk)) ≡ true
@@ -109,7 +109,7 @@ fit-remove-entry m i u n h valid =
     rw (
       le-leb i (length (without i (m .refs))) (omega (arith, length-without i (m .refs) h)),
       entry-start m i h valid,
-      isStart-startAt (base (length (without i (m .refs)))) (m .chunks) (refAt m i .chunk) valid,
+      isStart-startOf (base (length (without i (m .refs)))) (m .chunks) (refAt m i .chunk) valid,
     )
 
 valid-at : (m : Model) (i : ℕ) → Sound m → i < length (m .refs) → refAt m i .chunk < length (m .chunks)
@@ -125,12 +125,12 @@ removal-back m i false e s h = (fit-remove m i (refAt m i .usage) (refAt m i .nu
 
 pub edit-back : (m : Model) (e : Edit) → Sound m → Applies m e → (fits (recOf m e) (edited m e) ≡ true) × (undone (recOf m e) (edited m e) ≡ m)
 unfolding fits undone recOf edited undo2 removed replaced
-edit-back m (add u n t d) s a = (fit-add m u n (given t d) 0 [] s, undo-add m u n (given t d))
+edit-back m (add u n t d) s a = (fit-add m u n (givenChunk t d) 0 [] s, undo-add m u n (givenChunk t d))
 edit-back m (replace u n t d) s a =
     let i : ℕ = find u n (m .refs) in
     let p = find-pair u n (m .refs) (a .0) in (
-      fit-replace m u n i (given t d) (chunkAt m (refAt m i .chunk) .type) (chunkAt m (refAt m i .chunk) .body) (a .0) (p .0) (p .1) (a .1),
-      undo-replace m (refAt m i .chunk) (given t d),
+      fit-replace m u n i (givenChunk t d) (chunkAt m (refAt m i .chunk) .type) (chunkAt m (refAt m i .chunk) .body) (a .0) (p .0) (p .1) (a .1),
+      undo-replace m (refAt m i .chunk) (givenChunk t d),
     )
 edit-back m (remove u n) s a =
     let i : ℕ = find u n (m .refs) in
@@ -175,14 +175,18 @@ sound-removed m i false e s h =
       chunks-ok = all-without ChunkOk k (m .chunks) (s .chunks-ok);
     }
 
-given-ok : (t : ℕ) (d : List ℕ) → t < W → ChunkOk (given t d)
-unfolding given
+given-ok : (t : ℕ) (d : List ℕ) → t < W → ChunkOk (givenChunk t d)
+unfolding givenChunk
 given-ok t d h = record { type-fits = h }
 
+pub replaced-sound : (m : Model) (k : ℕ) (c : Chunk) → Sound m → ChunkOk c → Sound (replaced m k c)
+unfolding replaced
+replaced-sound m k c s ok = record { refs-ok = rw length-set (s .refs-ok); chunks-ok = all-set ChunkOk (m .chunks) k c (s .chunks-ok) ok }
+
 pub edit-sound : (m : Model) (e : Edit) → Sound m → ArgsOk e → Applies m e → Sound (edited m e)
-unfolding edited added replaced removed
+unfolding edited added removed
 edit-sound m (add u n t d) s a ap =
-    let c : Chunk = given t d in
+    let c : Chunk = givenChunk t d in
     let l : length (m .chunks ++ (c ∷ [])) ≡ suc (length (m .chunks)) = simp length-append (omega arith) in
     record {
       refs-ok = rw l (all-append (RefOk (suc (length (m .chunks)))) (m .refs) (record { usage = u; number = n; chunk = length (m .chunks) } ∷ [])
@@ -190,8 +194,5 @@ edit-sound m (add u n t d) s a ap =
           (record { usage-fits = a .0; number-fits = a .1; chunk-there = omega arith }, tt));
       chunks-ok = all-append ChunkOk (m .chunks) (c ∷ []) (s .chunks-ok) (given-ok t d (a .2), tt);
     }
-edit-sound m (replace u n t d) s a ap =
-    let c : Chunk = given t d in
-    let k : ℕ = refAt m (find u n (m .refs)) .chunk in
-    record { refs-ok = rw length-set (s .refs-ok); chunks-ok = all-set ChunkOk (m .chunks) k c (s .chunks-ok) (given-ok t d (a .2)) }
+edit-sound m (replace u n t d) s a ap = replaced-sound m (refAt m (find u n (m .refs)) .chunk) (givenChunk t d) s (given-ok t d (a .2))
 edit-sound m (remove u n) s a ap = sound-removed m (find u n (m .refs)) (shared m (find u n (m .refs))) refl s ap

@@ -14,8 +14,8 @@ use Rattle.blorb.specs.Format.{Ref, Chunk, size, total}
 use Rattle.blorb.specs.Tags.{RIdx}
 use Rattle.blorb.specs.Verdict.{Rules, Verdict, accept, refuse, _then_, check, noChunk, pairIn, refFault, knownUsage}
 use Rattle.blorb.specs.Tags.{Pict, Rect, RelN, Fspc}
-use Rattle.blorb.specs.Rules.{plain, picture, typeIn, single, chunkRule, chunkRules, optional, plainRules}
-use Rattle.blorb.specs.Model.{startAt}
+use Rattle.blorb.specs.Rules.{plainAllows, picture, typeIn, single, chunkRule, chunkRules, optional, plainRules}
+use Rattle.blorb.specs.Model.{startOf}
 use Rattle.blorb.specs.Queries.{find, noRef, without, uses}
 use Rattle.edits.specs.Edit.{with-at}
 use Rattle.blorb.proofs.Checks.{then-accept, check-accept, pass, accepts, holds-last}
@@ -225,25 +225,25 @@ front-none rs all at (c ∷ cs) h =
     let q = or-false (eqb (c .type) Fspc) (typeIn Fspc cs) h in
     accepts _ _ (ap (λ (b : Bool). cond b (check (picture (rd32 (c .body)) all rs) 19 (at + 8)) accept) (q .0)) ∙ front-none rs all (at + size c) cs (q .1)
 
-next-start : (at : ℕ) (c : Chunk) (cs : List Chunk) (j : ℕ) → startAt (at + size c) cs j ≡ startAt at (c ∷ cs) (suc j)
-unfolding startAt total
+next-start : (at : ℕ) (c : Chunk) (cs : List Chunk) (j : ℕ) → startOf (at + size c) cs j ≡ startOf at (c ∷ cs) (suc j)
+unfolding startOf total
 next-start at c cs j = omega arith
 
-first-start : (at : ℕ) (cs : List Chunk) → at ≡ startAt at cs 0
-unfolding startAt total
+first-start : (at : ℕ) (cs : List Chunk) → at ≡ startOf at cs 0
+unfolding startOf total
 first-start at cs = omega arith
 
 -- only the frontispiece is judged
 pub front-shape : (rs : List Ref) (all : List Chunk) (at : ℕ) (cs : List Chunk) → Once cs
-    → frontFault rs all at cs ≡ cond (typeIn Fspc cs) (check (picture (frontNumber cs) all rs) 19 (startAt at cs (frontPlace cs) + 8)) accept
+    → frontFault rs all at cs ≡ cond (typeIn Fspc cs) (check (picture (frontNumber cs) all rs) 19 (startOf at cs (frontPlace cs) + 8)) accept
 unfolding frontFault frontOne typeIn frontPlace
 front-shape rs all at [] o = refl
 front-shape rs all at (c ∷ cs) o = go (eqb (c .type) Fspc) refl (o .0) (front-shape rs all (at + size c) cs (o .1))
   where
     go : (b : Bool) → eqb (c .type) Fspc ≡ b → (eqb (c .type) Fspc ≡ true → typeIn Fspc cs ≡ false)
-        → frontFault rs all (at + size c) cs ≡ cond (typeIn Fspc cs) (check (picture (frontNumber cs) all rs) 19 (startAt (at + size c) cs (frontPlace cs) + 8)) accept
+        → frontFault rs all (at + size c) cs ≡ cond (typeIn Fspc cs) (check (picture (frontNumber cs) all rs) 19 (startOf (at + size c) cs (frontPlace cs) + 8)) accept
         → cond b (check (picture (rd32 (c .body)) all rs) 19 (at + 8)) accept then frontFault rs all (at + size c) cs
-        ≡ cond (b || typeIn Fspc cs) (check (picture (rd32 (getD (c ∷ cs) (cond b 0 (suc (frontPlace cs))) noChunk .body)) all rs) 19 (startAt at (c ∷ cs) (cond b 0 (suc (frontPlace cs))) + 8)) accept
+        ≡ cond (b || typeIn Fspc cs) (check (picture (rd32 (getD (c ∷ cs) (cond b 0 (suc (frontPlace cs))) noChunk .body)) all rs) 19 (startOf at (c ∷ cs) (cond b 0 (suc (frontPlace cs))) + 8)) accept
     go true e f ih =
         ap (λ (v : Verdict). check (picture (rd32 (c .body)) all rs) 19 (at + 8) then v) (front-none rs all (at + size c) cs (f e)) ∙ then-end _
         ∙ ap (λ (p : ℕ). check (picture (rd32 (c .body)) all rs) 19 (p + 8)) (first-start at (c ∷ cs))
@@ -251,18 +251,18 @@ front-shape rs all at (c ∷ cs) o = go (eqb (c .type) Fspc) refl (o .0) (front-
 
 -- RULE 7 AFTER AN EDIT: 17 and 18 can't hold; 19 holds just where the frontispiece's picture is not there, at the place of the frontispiece in the new file
 pub optional-like : (at at′ : ℕ) (rs rs′ : List Ref) (a b : List Chunk) → Like a b → optional at rs a ≡ accept
-    → optional at′ rs′ b ≡ cond (typeIn Fspc a) (check (picture (frontNumber a) b rs′) 19 (startAt at′ b (frontPlace b) + 8)) accept
+    → optional at′ rs′ b ≡ cond (typeIn Fspc a) (check (picture (frontNumber a) b rs′) 19 (startOf at′ b (frontPlace b) + 8)) accept
 unfolding optional
 optional-like at at′ rs rs′ a b l h =
     rules-front rs rs′ a b [] [] at at′ l (record { release = refl; front = refl }) h
     ∙ front-shape rs′ b at′ b (like-once l (once rs a [] at a h))
-    ∙ (λ i. cond (like-type l i) (check (picture (rd32 (like-front l i .body)) b rs′) 19 (startAt at′ b (frontPlace b) + 8)) accept)
+    ∙ (λ i. cond (like-type l i) (check (picture (rd32 (like-front l i .body)) b rs′) 19 (startOf at′ b (frontPlace b) + 8)) accept)
 
 -- an accepted file's frontispiece has its picture
 pub front-picture : (at : ℕ) (rs : List Ref) (cs : List Chunk) → optional at rs cs ≡ accept → typeIn Fspc cs ≡ true → picture (frontNumber cs) cs rs ≡ true
 front-picture at rs cs h e =
     let s = sym (optional-like at at rs rs cs cs (like-self cs) h) ∙ h in
-    check-accept _ _ _ (ap (λ (b : Bool). cond b (check (picture (frontNumber cs) cs rs) 19 (startAt at cs (frontPlace cs) + 8)) accept) (sym e) ∙ s)
+    check-accept _ _ _ (ap (λ (b : Bool). cond b (check (picture (frontNumber cs) cs rs) 19 (startOf at cs (frontPlace cs) + 8)) accept) (sym e) ∙ s)
 
 -- ---- the frontispiece's picture
 -- no pair stands twice
@@ -374,7 +374,7 @@ pub optional-replaced : (R : Rules) (at at′ : ℕ) (cs : List Chunk) (rs : Lis
     → optional at′ rs (set cs (getD rs (find u n rs) noRef .chunk) c)
     ≡ cond (typeIn Fspc cs)
     (check (not ((eqb u Pict && eqb n (frontNumber cs)) && eqb (c .type) Rect)) 19
-    (startAt at′ (set cs (getD rs (find u n rs) noRef .chunk) c) (frontPlace (set cs (getD rs (find u n rs) noRef .chunk) c)) + 8))
+    (startOf at′ (set cs (getD rs (find u n rs) noRef .chunk) c) (frontPlace (set cs (getD rs (find u n rs) noRef .chunk) c)) + 8))
     accept
 optional-replaced R at at′ cs rs u n c ok seven found alone there o p =
     optional-like at at′ rs rs cs (set cs (getD rs (find u n rs) noRef .chunk) c) (like-set cs (getD rs (find u n rs) noRef .chunk) c there o p) seven
@@ -384,7 +384,7 @@ optional-replaced R at at′ cs rs u n c ok seven found alone there o p =
     new = set cs (getD rs (find u n rs) noRef .chunk) c
 
     go : (b : Bool) → typeIn Fspc cs ≡ b → (b ≡ true → picture (frontNumber cs) new rs ≡ not ((eqb u Pict && eqb n (frontNumber cs)) && eqb (c .type) Rect))
-        → cond b (check (picture (frontNumber cs) new rs) 19 (startAt at′ new (frontPlace new) + 8)) accept
-        ≡ cond b (check (not ((eqb u Pict && eqb n (frontNumber cs)) && eqb (c .type) Rect)) 19 (startAt at′ new (frontPlace new) + 8)) accept
-    go true e f = ap (λ (b : Bool). check b 19 (startAt at′ new (frontPlace new) + 8)) (f refl)
+        → cond b (check (picture (frontNumber cs) new rs) 19 (startOf at′ new (frontPlace new) + 8)) accept
+        ≡ cond b (check (not ((eqb u Pict && eqb n (frontNumber cs)) && eqb (c .type) Rect)) 19 (startOf at′ new (frontPlace new) + 8)) accept
+    go true e f = ap (λ (b : Bool). check b 19 (startOf at′ new (frontPlace new) + 8)) (f refl)
     go false e f = refl

@@ -12,12 +12,12 @@ use Rattle.blorb.specs.Format.{Ref, Chunk, size, total}
 use Rattle.blorb.specs.Tags.{RIdx}
 use Rattle.blorb.specs.Verdict.{Rules, accept, noChunk, pairIn, refFault, secondIndex, knownUsage, verdict}
 use Rattle.blorb.specs.Tags.{Pict, Exec, Rect, Fspc}
-use Rattle.blorb.specs.Rules.{plain, picture, typeIn, optional, plainRules}
+use Rattle.blorb.specs.Rules.{plainAllows, picture, typeIn, optional, plainRules}
 use Rattle.blorb.specs.Model.{Model, base, file}
 use Rattle.blorb.specs.Queries.{find, frontNumber}
 use Rattle.blorb.specs.All.{All}
 use Rattle.blorb.proofs.AllLaws.{all-append, all-take, all-drop, all-map}
-use Rattle.blorb.proofs.Sound.{W, RefOk, ChunkOk, Sound}
+use Rattle.blorb.specs.Sound.{W, RefOk, ChunkOk, Sound}
 use Rattle.blorb.proofs.Checks.{then-accept, check-accept, pass}
 use Rattle.blorb.proofs.ModelLaws.{length-file}
 use Rattle.blorb.proofs.VerdictLaws.{refsFault, modelFault}
@@ -121,10 +121,10 @@ second-with at at′ (x ∷ cs) (suc k) c ok =
 
 -- 12 and 14 to 16 of an entry (u, n) on chunk c, rs being the others
 abbrev pub entryTests : ℕ → ℕ → Chunk → List Ref → Bool
-entryTests u n c rs = knownUsage u && (plain u c && ((not (eqb u Exec) || eqb n 0) && not (pairIn u n rs)))
+entryTests u n c rs = knownUsage u && (plainAllows u c && ((not (eqb u Exec) || eqb n 0) && not (pairIn u n rs)))
 
 -- the last of them by the place that the reader gives for the pair
-pub entry-new : (u n : ℕ) (c : Chunk) (rs : List Ref) → length rs ≤ find u n rs → entryTests u n c rs ≡ (knownUsage u && (plain u c && (not (eqb u Exec) || eqb n 0)))
+pub entry-new : (u n : ℕ) (c : Chunk) (rs : List Ref) → length rs ≤ find u n rs → entryTests u n c rs ≡ (knownUsage u && (plainAllows u c && (not (eqb u Exec) || eqb n 0)))
 entry-new u n c rs h =
     let e : pairIn u n rs ≡ false = pair-found u n rs ∙ le-ltb (find u n rs) (length rs) h in
     rw (e, and-true (not (eqb u Exec) || eqb n 0))
@@ -132,7 +132,7 @@ entry-new u n c rs h =
 pub entry-twice : (u n : ℕ) (c : Chunk) (rs : List Ref) → find u n rs < length rs → entryTests u n c rs ≡ false
 entry-twice u n c rs h =
     let e : pairIn u n rs ≡ true = pair-found u n rs ∙ lt-ltb (find u n rs) (length rs) h in
-    rw e (none (knownUsage u) (plain u c) (not (eqb u Exec) || eqb n 0))
+    rw e (none (knownUsage u) (plainAllows u c) (not (eqb u Exec) || eqb n 0))
   where
     none : (a b c : Bool) → a && (b && (c && false)) ≡ false
     none true true true = refl
@@ -145,7 +145,7 @@ entry-tests : (cs : List Chunk) (i : ℕ) (x : Ref) (rs : List Ref) → refsFaul
 unfolding pairIn
 entry-tests cs i x rs ok =
     refs-with plainRules cs x [] 24 i rs ok
-    ∙ turn (knownUsage (x .usage)) (plain (x .usage) (getD cs (x .chunk) noChunk)) (not (eqb (x .usage) Exec) || eqb (x .number) 0) (not (pairIn (x .usage) (x .number) rs))
+    ∙ turn (knownUsage (x .usage)) (plainAllows (x .usage) (getD cs (x .chunk) noChunk)) (not (eqb (x .usage) Exec) || eqb (x .number) 0) (not (pairIn (x .usage) (x .number) rs))
   where
     turn : (a b c d : Bool) → (a && (b && c)) && d ≡ a && (b && (c && d))
     turn true true c d = refl
@@ -240,13 +240,13 @@ module _ (m : Model) (i k u n : ℕ) (c : Chunk) (s : Sound m) (ok : modelFault 
       let e : accepted (refsFault plainRules cs′ [] 24 (with-at i x up)) ≡ entryTests u n c (m .refs)
       = entry-tests cs′ i x up (refs-raise plainRules (m .chunks) k c [] 24 (m .refs) here ∙ p .entries-fine)
       ∙ rw (getD-with-same k c (m .chunks) noChunk here, pair-raise k u n (m .refs)) in
-      let q : plain u c ≡ true → accepted (optional at′ (with-at i x up) cs′) ≡ true
+      let q : plainAllows u c ≡ true → accepted (optional at′ (with-at i x up) cs′) ≡ true
       = λ pl. front-stays at at′ (m .refs) (with-at i x up) (m .chunks) cs′ (like-with (m .chunks) k c (plain-plain u c pl)) (p .seven)
       (λ h. picture-with (frontNumber (m .chunks)) cs′ i x up (picture-raise (frontNumber (m .chunks)) (m .chunks) k c (m .refs) here ∙ h)) in
       accepted-file (inserted m i k u n c) (inserted-sound hu hn ht)
       ∙ rw (inserted-length, inserted-count, second-with at at′ (m .chunks) k c (p .no-second), e)
       (ap (λ (b : Bool). leb (length (file m) + 12 + size c) 16777216 && (not (eqb (c .type) RIdx) && (leb (suc (length (m .refs))) 4096 && b)))
-      (last (knownUsage u) (plain u c) ((not (eqb u Exec) || eqb n 0) && not (pairIn u n (m .refs))) (accepted (optional at′ (with-at i x up) cs′)) q))
+      (last (knownUsage u) (plainAllows u c) ((not (eqb u Exec) || eqb n 0) && not (pairIn u n (m .refs))) (accepted (optional at′ (with-at i x up) cs′)) q))
     where
       last : (a b c z : Bool) → (b ≡ true → z ≡ true) → (a && (b && c)) && z ≡ a && (b && c)
       last true true c z f = rw (f refl) (and-true c)

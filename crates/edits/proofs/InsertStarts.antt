@@ -11,13 +11,14 @@ use lib.Dec.{eqb, leb, ltb}
 use borrow.Author.Tests.{le-leb, lt-leb, leb-true, leb-false, eqb-true}
 use Rattle.blorb.specs.Format.{Ref, Chunk, Entry, size, total, isStart, placeOf}
 use Rattle.blorb.specs.Verdict.{noChunk}
-use Rattle.blorb.specs.Model.{Model, base, startAt, entryOf}
+use Rattle.blorb.specs.Model.{Model, base, startOf, entryOf}
 use Rattle.blorb.specs.Queries.{start}
 use Rattle.edits.specs.Edit.{with-at, raise}
 use Rattle.edits.specs.Journal.{Rec, oldChunk, oldPlace, oldRef, undo3, undo4, fits3, fits4}
-use Rattle.blorb.proofs.Places.{size-pos, startAt-placeOf, placeOf-startAt}
+use Rattle.blorb.proofs.Places.{size-pos, startOf-placeOf, placeOf-startOf}
 use Rattle.blorb.proofs.ModelLaws.{entries}
-use Rattle.edits.proofs.Starts.{moved, total-more, total-mono}
+use Rattle.edits.specs.Starts.{moved}
+use Rattle.edits.proofs.Starts.{total-more, total-mono}
 
 -- one element more
 module _ {A : Type 0} where
@@ -47,8 +48,8 @@ abbrev pub risen : ℕ → ℕ → ℕ → ℕ
 risen s a t = cond (leb s t) (t + (12 + a)) (t + 12)
 
 rose : (n : ℕ) (cs : List Chunk) (k : ℕ) (c : Chunk) (j : ℕ) → k ≤ length cs
-    → startAt (base (suc n)) (with-at k c cs) (cond (leb k j) (suc j) j) ≡ risen (startAt (base n) cs k) (size c) (startAt (base n) cs j)
-unfolding startAt base
+    → startOf (base (suc n)) (with-at k c cs) (cond (leb k j) (suc j) j) ≡ risen (startOf (base n) cs k) (size c) (startOf (base n) cs j)
+unfolding startOf base
 rose n cs k c j h = go (leb k j) refl
   where
     go : (b : Bool) → leb k j ≡ b
@@ -61,8 +62,8 @@ rose n cs k c j h = go (leb k j) refl
         rw (lt-leb (24 + 12 * n + total (take k cs)) (24 + 12 * n + total (take j cs)) (omega (arith, total-more cs j k (omega arith) lt, size-pos (getD cs j noChunk))), take-with cs k c j h (omega arith)) (omega arith)
 
 -- the new chunk itself starts where the next one did, 12 further
-rose-own : (n : ℕ) (cs : List Chunk) (k : ℕ) (c : Chunk) → k ≤ length cs → startAt (base (suc n)) (with-at k c cs) k ≡ startAt (base n) cs k + 12
-unfolding startAt base
+rose-own : (n : ℕ) (cs : List Chunk) (k : ℕ) (c : Chunk) → k ≤ length cs → startOf (base (suc n)) (with-at k c cs) k ≡ startOf (base n) cs k + 12
+unfolding startOf base
 rose-own n cs k c h = rw (take-with cs k c k h (omega arith)) (omega arith)
 
 pub place-inside : (s at : ℕ) (cs : List Chunk) → placeOf s at cs ≤ length cs
@@ -81,8 +82,8 @@ unfolding undo3 start entryOf raise
 starts-inserted m r e =
     let f : Ref → Entry = entryOf (base (suc n)) cs′ in
     let l : length (with-at (r .place) x (map (raise k) (m .refs))) ≡ suc n = length-with (r .place) x (map (raise k) (m .refs)) ∙ ap suc (length-map (m .refs) (raise k)) in
-    let e′ : r .start - 12 ≡ startAt (base n) (m .chunks) k = omega arith in
-    let own : startAt (base (suc n)) cs′ k ≡ r .start = rose-own n (m .chunks) k (oldChunk r) inside ∙ sym e in
+    let e′ : r .start - 12 ≡ startOf (base n) (m .chunks) k = omega arith in
+    let own : startOf (base (suc n)) cs′ k ≡ r .start = rose-own n (m .chunks) k (oldChunk r) inside ∙ sym e in
     ap (λ (z : ℕ). map (entryOf (base z) cs′) (with-at (r .place) x (map (raise k) (m .refs)))) l
     ∙ map-with f (r .place) x (map (raise k) (m .refs))
     ∙ (λ i. with-at (r .place) (record { usage = r .usage; number = r .number; start = own i }) (all (m .refs) i))
@@ -103,7 +104,7 @@ starts-inserted m r e =
     inside : oldPlace r m ≤ length (m .chunks)
     inside = place-inside (r .start - 12) (base (length (m .refs))) (m .chunks)
 
-    all : (rs : List Ref) → map (entryOf (base (suc n)) cs′) (map (raise k) rs) ≡ map (moved (risen (startAt (base n) (m .chunks) k) (size (oldChunk r)))) (map (entryOf (base n) (m .chunks)) rs)
+    all : (rs : List Ref) → map (entryOf (base (suc n)) cs′) (map (raise k) rs) ≡ map (moved (risen (startOf (base n) (m .chunks) k) (size (oldChunk r)))) (map (entryOf (base n) (m .chunks)) rs)
     all [] = refl
     all (y ∷ rs) = λ i. record { usage = y .usage; number = y .number; start = rose n (m .chunks) k (oldChunk r) (y .chunk) inside i } ∷ all rs i
 
@@ -113,7 +114,7 @@ pub starts-relisted : (m : Model) (r : Rec) → r .start ≡ start m (oldPlace r
 unfolding undo4 start entryOf
 starts-relisted m r e =
     let l : length (with-at (r .place) x (m .refs)) ≡ suc n = length-with (r .place) x (m .refs) in
-    let own : startAt (base (suc n)) (m .chunks) (oldPlace r m) ≡ r .start = grown (oldPlace r m) ∙ sym e in
+    let own : startOf (base (suc n)) (m .chunks) (oldPlace r m) ≡ r .start = grown (oldPlace r m) ∙ sym e in
     ap (λ (z : ℕ). map (entryOf (base z) (m .chunks)) (with-at (r .place) x (m .refs))) l
     ∙ map-with (entryOf (base (suc n)) (m .chunks)) (r .place) x (m .refs)
     ∙ (λ i. with-at (r .place) (record { usage = r .usage; number = r .number; start = own i }) (all (m .refs) i))
@@ -124,8 +125,8 @@ starts-relisted m r e =
     x : Ref
     x = oldRef r m
 
-    grown : (j : ℕ) → startAt (base (suc n)) (m .chunks) j ≡ startAt (base n) (m .chunks) j + 12
-    grown j = unfold startAt base in omega arith
+    grown : (j : ℕ) → startOf (base (suc n)) (m .chunks) j ≡ startOf (base n) (m .chunks) j + 12
+    grown j = unfold startOf base in omega arith
 
     all : (rs : List Ref) → map (entryOf (base (suc n)) (m .chunks)) rs ≡ map (moved (λ t. t + 12)) (map (entryOf (base n) (m .chunks)) rs)
     all [] = refl
@@ -136,8 +137,8 @@ fit-parts : (a b : Bool) → a && b ≡ true → (a ≡ true) × (b ≡ true)
 fit-parts true b h = (refl, h)
 fit-parts false b h = let z : _≡_ {A = Bool} false true = h in (h, cc)
 
-further : (n : ℕ) (cs : List Chunk) (k s : ℕ) → startAt (base n) cs k ≡ s - 12 → s ≡ startAt (base n) cs k + 12
-unfolding startAt base
+further : (n : ℕ) (cs : List Chunk) (k s : ℕ) → startOf (base n) cs k ≡ s - 12 → s ≡ startOf (base n) cs k + 12
+unfolding startOf base
 further n cs k s e = omega arith
 
 pub fit3 : (m : Model) (r : Rec) → fits3 r m ≡ true → (r .place ≤ length (m .refs)) × (r .start ≡ start m (oldPlace r m) + 12)
@@ -147,22 +148,22 @@ fit3 m r h = (leb-true (r .place) (length (m .refs)) (p .0), go (isStart (r .sta
     at : ℕ
     at = base (length (m .refs))
 
-    p : (leb (r .place) (length (m .refs)) ≡ true) × ((isStart (r .start - 12) (base (length (m .refs))) (m .chunks) || eqb (r .start - 12) (startAt (base (length (m .refs))) (m .chunks) (length (m .chunks)))) ≡ true)
-    p = fit-parts (leb (r .place) (length (m .refs))) (isStart (r .start - 12) (base (length (m .refs))) (m .chunks) || eqb (r .start - 12) (startAt (base (length (m .refs))) (m .chunks) (length (m .chunks)))) h
+    p : (leb (r .place) (length (m .refs)) ≡ true) × ((isStart (r .start - 12) (base (length (m .refs))) (m .chunks) || eqb (r .start - 12) (startOf (base (length (m .refs))) (m .chunks) (length (m .chunks)))) ≡ true)
+    p = fit-parts (leb (r .place) (length (m .refs))) (isStart (r .start - 12) (base (length (m .refs))) (m .chunks) || eqb (r .start - 12) (startOf (base (length (m .refs))) (m .chunks) (length (m .chunks)))) h
 
-    back : startAt at (m .chunks) (oldPlace r m) ≡ r .start - 12 → r .start ≡ startAt at (m .chunks) (oldPlace r m) + 12
+    back : startOf at (m .chunks) (oldPlace r m) ≡ r .start - 12 → r .start ≡ startOf at (m .chunks) (oldPlace r m) + 12
     back e = further (length (m .refs)) (m .chunks) (oldPlace r m) (r .start) e
 
-    go : (b : Bool) → isStart (r .start - 12) at (m .chunks) ≡ b → b || eqb (r .start - 12) (startAt at (m .chunks) (length (m .chunks))) ≡ true → r .start ≡ startAt at (m .chunks) (oldPlace r m) + 12
-    go true e q = back (startAt-placeOf (r .start - 12) at (m .chunks) e .0)
+    go : (b : Bool) → isStart (r .start - 12) at (m .chunks) ≡ b → b || eqb (r .start - 12) (startOf at (m .chunks) (length (m .chunks))) ≡ true → r .start ≡ startOf at (m .chunks) (oldPlace r m) + 12
+    go true e q = back (startOf-placeOf (r .start - 12) at (m .chunks) e .0)
     go false e q =
-        let z : r .start - 12 ≡ startAt at (m .chunks) (length (m .chunks)) = eqb-true (r .start - 12) (startAt at (m .chunks) (length (m .chunks))) q in
-        let k : oldPlace r m ≡ length (m .chunks) = ap (λ (i : ℕ). placeOf i at (m .chunks)) z ∙ placeOf-startAt at (m .chunks) (length (m .chunks)) (omega arith) in
-        back (ap (startAt at (m .chunks)) k ∙ sym z)
+        let z : r .start - 12 ≡ startOf at (m .chunks) (length (m .chunks)) = eqb-true (r .start - 12) (startOf at (m .chunks) (length (m .chunks))) q in
+        let k : oldPlace r m ≡ length (m .chunks) = ap (λ (i : ℕ). placeOf i at (m .chunks)) z ∙ placeOf-startOf at (m .chunks) (length (m .chunks)) (omega arith) in
+        back (ap (startOf at (m .chunks)) k ∙ sym z)
 
 pub fit4 : (m : Model) (r : Rec) → fits4 r m ≡ true → (r .place ≤ length (m .refs)) × (r .start ≡ start m (oldPlace r m) + 12)
 unfolding fits4 start
 fit4 m r h =
     let p = fit-parts (leb (r .place) (length (m .refs))) (isStart (r .start - 12) (base (length (m .refs))) (m .chunks)) h in
-    let e : startAt (base (length (m .refs))) (m .chunks) (oldPlace r m) ≡ r .start - 12 = startAt-placeOf (r .start - 12) (base (length (m .refs))) (m .chunks) (p .1) .0 in
+    let e : startOf (base (length (m .refs))) (m .chunks) (oldPlace r m) ≡ r .start - 12 = startOf-placeOf (r .start - 12) (base (length (m .refs))) (m .chunks) (p .1) .0 in
     (leb-true (r .place) (length (m .refs)) (p .0), further (length (m .refs)) (m .chunks) (oldPlace r m) (r .start) e)

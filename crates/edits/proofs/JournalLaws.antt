@@ -10,7 +10,7 @@ use lib.Dec.{eqb, leb, ltb}
 use borrow.Author.Tests.{eq-eqb, le-leb}
 use Rattle.blorb.specs.Bytes.{be32, rd32}
 use Rattle.blorb.proofs.ByteLaws.{length-be32, rd32-be32}
-use Rattle.blorb.proofs.Sound.{W}
+use Rattle.blorb.specs.Sound.{W}
 use Rattle.edits.specs.Journal.{Rec, recBody, recBytes, trailer, recIn, lastBody, lastRec, zeros, wellFormed}
 
 pub record RecOk (r : Rec) : Type 0 where

@@ -14,7 +14,7 @@ use Rattle.blorb.specs.Rules.{typeIn, optional, plainRules}
 use Rattle.blorb.specs.Model.{Model, base, file}
 use Rattle.blorb.specs.Queries.{find, noRef, frontNumber}
 use Rattle.blorb.proofs.AllLaws.{all-getD}
-use Rattle.blorb.proofs.Sound.{RefOk, Sound}
+use Rattle.blorb.specs.Sound.{RefOk, Sound}
 use Rattle.blorb.proofs.Checks.{then-accept, check-accept}
 use Rattle.blorb.proofs.VerdictLaws.{refsFault, modelFault, verdict-file}
 use Rattle.edits.specs.Run.{accepted}

@@ -11,7 +11,7 @@ use lib.Dec.{eqb, leb}
 use borrow.Author.Tests.{ne-eqb, le-leb, lt-leb, leb-true}
 use Rattle.blorb.specs.Bytes.{rd32}
 use Rattle.blorb.proofs.ByteLaws.{rd32-at}
-use Rattle.edits.specs.Journal.{Rec, trailer, recIn, lastBody, lastRec, zeros, wellFormed}
+use Rattle.edits.specs.Journal.{Rec, trailer, recIn, lastBody, lastRec, zeros, wellFormed, kindRule}
 use Rattle.edits.proofs.BoolLaws.{and-parts}
 
 -- a part of a first part
@@ -36,10 +36,6 @@ rd32-part at k l h =
     rd32-at (take k l) at
     ∙ rw (getD-take k l at 0 (omega arith), getD-take k l (at + 1) 0 (omega arith), getD-take k l (at + 2) 0 (omega arith), getD-take k l (at + 3) 0 (omega arith))
     (sym (rd32-at l at))
-
--- 01: "the kind is 1 to 4 and the fields named zero are zero", kind by kind
-abbrev pub kindRule : ℕ → ℕ → ℕ → ℕ → Bool
-kindRule k s t m = cond (eqb k 1) (eqb s 0 && (eqb t 0 && eqb m 0)) (cond (eqb k 4) (eqb t 0 && eqb m 0) (eqb k 2 || eqb k 3))
 
 pub kind-rule : (r : Rec) → (leb 1 (r .kind) && leb (r .kind) 4 && zeros r) ≡ kindRule (r .kind) (r .start) (r .type) (length (r .body))
 unfolding zeros

@@ -15,7 +15,7 @@ use Rattle.blorb.specs.Model.{Model}
 use Rattle.blorb.specs.Queries.{find, noRef, refAt, chunkAt, without, uses, shared}
 use Rattle.edits.specs.Edit.{lower, added, replaced, removed, removedBoth, removedEntry}
 use Rattle.blorb.specs.All.{All}
-use Rattle.blorb.proofs.Sound.{RefOk, Sound}
+use Rattle.blorb.specs.Sound.{RefOk, Sound}
 use Rattle.blorb.proofs.Checks.{then-accept, check-accept}
 use Rattle.edits.proofs.UndoLaws.{or-false}
 use Rattle.blorb.proofs.VerdictLaws.{refsFault}

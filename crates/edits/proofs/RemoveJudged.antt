@@ -15,7 +15,7 @@ use Rattle.blorb.specs.Rules.{picture, typeIn, optional, plainRules}
 use Rattle.blorb.specs.Model.{Model, base, file}
 use Rattle.blorb.specs.Queries.{find, noRef, refAt, chunkAt, without, uses, shared, frontNumber}
 use Rattle.blorb.proofs.AllLaws.{all-getD}
-use Rattle.blorb.proofs.Sound.{RefOk, Sound}
+use Rattle.blorb.specs.Sound.{RefOk, Sound}
 use Rattle.blorb.proofs.Checks.{then-accept, check-accept, pass}
 use Rattle.blorb.proofs.VerdictLaws.{refsFault, modelFault}
 use Rattle.edits.specs.Edit.{remove, edited, lower, removed, removedBoth}

@@ -9,20 +9,20 @@ use lib.ListN.{length, set}
 use lib.Dec.{eqb, leb}
 use borrow.Author.Tests.{le-leb}
 use Rattle.blorb.specs.Tags.{RIdx}
-use Rattle.blorb.specs.Format.{Chunk, size}
+use Rattle.blorb.specs.Format.{Chunk, size, chunkOf}
 use Rattle.blorb.specs.Verdict.{Verdict, accept, _then_, check, noChunk, secondIndex, verdict}
 use Rattle.blorb.specs.Tags.{Pict, Rect, Fspc}
-use Rattle.blorb.specs.Rules.{plain, typeIn, optional, plainRules}
+use Rattle.blorb.specs.Rules.{plainAllows, typeIn, optional, plainRules}
 use Rattle.blorb.specs.Model.{Model, base, file}
 use Rattle.blorb.specs.Queries.{find, refAt, chunkAt, shared, frontNumber}
-use Rattle.blorb.proofs.Sound.{W, Sound}
+use Rattle.blorb.specs.Sound.{W, Sound}
 use Rattle.blorb.proofs.Checks.{then-accept, check-accept, pass}
 use Rattle.blorb.proofs.ModelLaws.{length-file, size-getD}
 use Rattle.blorb.proofs.VerdictLaws.{refsFault, modelFault}
-use Rattle.edits.specs.Edit.{replace, edited, replaced, given}
+use Rattle.edits.specs.Edit.{replaced}
 use Rattle.edits.specs.Run.{accepted}
 use Rattle.edits.proofs.AddVerdict.{second-any, then-end}
-use Rattle.edits.proofs.FitLaws.{edit-sound, find-pair}
+use Rattle.edits.proofs.FitLaws.{replaced-sound, find-pair}
 use Rattle.edits.proofs.Lengths.{length-replaced}
 use Rattle.edits.proofs.ReplaceVerdict.{refs-replaced}
 use Rattle.edits.proofs.RuleSeven.{plain-plain}
@@ -49,14 +49,14 @@ module _ (m : Model) (u n t : ℕ) (d : List ℕ) (s : Sound m) (ok : modelFault
   abbrev own : ℕ
   own = refAt m (find u n (m .refs)) .chunk
 
-  front-replaced : plain u (given t d) ≡ true
-      → accepted (optional (base (length (m .refs))) (m .refs) (set (m .chunks) own (given t d))) ≡ not (isFront (m .chunks) u n && eqb t Rect)
-  unfolding shared given
+  front-replaced : plainAllows u (chunkOf t d) ≡ true
+      → accepted (optional (base (length (m .refs))) (m .refs) (set (m .chunks) own (chunkOf t d))) ≡ not (isFront (m .chunks) u n && eqb t Rect)
+  unfolding shared
   front-replaced pl =
       let p = model-parts m ok in
       let there = chunk-in m place s h in
-      ap accepted (optional-replaced plainRules (base (length (m .refs))) (base (length (m .refs))) (m .chunks) (m .refs) u n (given t d) (p .entries-fine) (p .seven) h alone there
-      (chunk-plain (m .chunks) [] 24 (m .refs) place (p .entries-fine) h) (plain-plain u (given t d) pl))
+      ap accepted (optional-replaced plainRules (base (length (m .refs))) (base (length (m .refs))) (m .chunks) (m .refs) u n (chunkOf t d) (p .entries-fine) (p .seven) h alone there
+      (chunk-plain (m .chunks) [] 24 (m .refs) place (p .entries-fine) h) (plain-plain u (chunkOf t d) pl))
       ∙ accepted-front (typeIn Fspc (m .chunks)) (not ((eqb u Pict && eqb n (frontNumber (m .chunks))) && eqb t Rect)) _
       ∙ turn (typeIn Fspc (m .chunks)) (eqb u Pict && eqb n (frontNumber (m .chunks))) (eqb t Rect)
     where
@@ -66,30 +66,29 @@ module _ (m : Model) (u n t : ℕ) (d : List ℕ) (s : Sound m) (ok : modelFault
       turn true false c = refl
       turn false b c = refl
 
-  pub replaced-length : length (file (replaced m own (given t d))) ≡ length (file m) - size (chunkAt m own) + size (given t d)
+  pub replaced-length : length (file (replaced m own (chunkOf t d))) ≡ length (file m) - size (chunkAt m own) + size (chunkOf t d)
   replaced-length =
       let there = chunk-in m place s h in
-      omega (arith, length-replaced m own (given t d) there, size-getD (m .chunks) own noChunk there, length-file m)
+      omega (arith, length-replaced m own (chunkOf t d) there, size-getD (m .chunks) own noChunk there, length-file m)
 
-  pub replaced-accepted : u < W → n < W → t < W → accepted (verdict plainRules (file (replaced m own (given t d))))
-      ≡ (leb (length (file m) - size (chunkAt m own) + size (given t d)) 16777216 && (not (eqb t RIdx) && (plain u (given t d) && not (isFront (m .chunks) u n && eqb t Rect))))
-  unfolding edited
-  replaced-accepted hu hn ht =
+  pub replaced-accepted : t < W → accepted (verdict plainRules (file (replaced m own (chunkOf t d))))
+      ≡ (leb (length (file m) - size (chunkAt m own) + size (chunkOf t d)) 16777216 && (not (eqb t RIdx) && (plainAllows u (chunkOf t d) && not (isFront (m .chunks) u n && eqb t Rect))))
+  replaced-accepted ht =
       let p = model-parts m ok in
       let there = chunk-in m place s h in
-      let x : Model = replaced m own (given t d) in
-      let sd : Sound x = edit-sound m (replace u n t d) s (hu, hn, ht) (h, alone) in
+      let x : Model = replaced m own (chunkOf t d) in
+      let sd : Sound x = replaced-sound m own (chunkOf t d) s (record { type-fits = ht }) in
       let a : accepted (secondIndex (base (length (x .refs))) (x .chunks)) ≡ not (eqb t RIdx)
-      = (unfold replaced given in second-set (base (length (m .refs))) (base (length (m .refs))) (m .chunks) own (given t d) there (p .no-second)) in
+      = (unfold replaced in second-set (base (length (m .refs))) (base (length (m .refs))) (m .chunks) own (chunkOf t d) there (p .no-second)) in
       let few : length (x .refs) ≤ 4096 = (unfold replaced in p .few) in
-      let b : accepted (refsFault plainRules (x .chunks) [] 24 (x .refs)) ≡ plain u (given t d)
+      let b : accepted (refsFault plainRules (x .chunks) [] 24 (x .refs)) ≡ plainAllows u (chunkOf t d)
       = (unfold replaced shared in
-      ap accepted (refs-replaced plainRules (m .chunks) own (given t d) there [] 24 (m .refs) place h refl alone (p .entries-fine))
-      ∙ accepted-check (plain (refAt m place .usage) (given t d)) 14 (24 + 12 * place)
-      ∙ ap (λ (z : ℕ). plain z (given t d)) (find-pair u n (m .refs) h .0)) in
-      let q : plain u (given t d) ≡ true → accepted (optional (base (length (x .refs))) (x .refs) (x .chunks)) ≡ not (isFront (m .chunks) u n && eqb t Rect)
+      ap accepted (refs-replaced plainRules (m .chunks) own (chunkOf t d) there [] 24 (m .refs) place h refl alone (p .entries-fine))
+      ∙ accepted-check (plainAllows (refAt m place .usage) (chunkOf t d)) 14 (24 + 12 * place)
+      ∙ ap (λ (z : ℕ). plainAllows z (chunkOf t d)) (find-pair u n (m .refs) h .0)) in
+      let q : plainAllows u (chunkOf t d) ≡ true → accepted (optional (base (length (x .refs))) (x .refs) (x .chunks)) ≡ not (isFront (m .chunks) u n && eqb t Rect)
       = λ pl. (unfold replaced in front-replaced pl) in
       accepted-file x sd
       ∙ rw (replaced-length, a, le-leb (length (x .refs)) 4096 few, b)
-      (ap (λ (z : Bool). leb (length (file m) - size (chunkAt m own) + size (given t d)) 16777216 && (not (eqb t RIdx) && z))
-      (and-where (plain u (given t d)) (accepted (optional (base (length (x .refs))) (x .refs) (x .chunks))) (not (isFront (m .chunks) u n && eqb t Rect)) q))
+      (ap (λ (z : Bool). leb (length (file m) - size (chunkAt m own) + size (chunkOf t d)) 16777216 && (not (eqb t RIdx) && z))
+      (and-where (plainAllows u (chunkOf t d)) (accepted (optional (base (length (x .refs))) (x .refs) (x .chunks))) (not (isFront (m .chunks) u n && eqb t Rect)) q))

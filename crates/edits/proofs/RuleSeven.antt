@@ -14,9 +14,9 @@ use Rattle.blorb.specs.Format.{Ref, Chunk, size, total}
 use Rattle.blorb.specs.Tags.{RIdx}
 use Rattle.blorb.specs.Verdict.{Rules, Verdict, accept, refuse, _then_, check, noChunk}
 use Rattle.blorb.specs.Tags.{Pict, Snd, Data, Exec, Rect, RelN, Fspc}
-use Rattle.blorb.specs.Rules.{plain, oneOf, picture, typeIn, single, chunkRule, chunkRules, optional, plainRules}
+use Rattle.blorb.specs.Rules.{plainAllows, oneOf, picture, typeIn, single, chunkRule, chunkRules, optional, plainRules}
 use Rattle.blorb.specs.All.{All}
-use Rattle.blorb.proofs.Sound.{RefOk, Sound}
+use Rattle.blorb.specs.Sound.{RefOk, Sound}
 use Rattle.blorb.proofs.Checks.{then-accept, check-accept, pass, accepts, holds-last}
 use Rattle.edits.proofs.AddVerdict.{then-assoc, then-end}
 
@@ -94,25 +94,25 @@ optional-added at at′ rs cs x c ok p h =
 
 -- what rule 5 allows is neither 'RelN' nor 'Fspc'
 -- a test that a given type fails
-no-type : (t : ℕ) (u : ℕ) (c : Chunk) → c .type ≡ t → plain u (record { type = t; body = c .body }) ≡ false → plain u c ≡ false
+no-type : (t : ℕ) (u : ℕ) (c : Chunk) → c .type ≡ t → plainAllows u (record { type = t; body = c .body }) ≡ false → plainAllows u c ≡ false
 no-type t u c e h = rw e h
 
 and-none : (a : Bool) → a && false ≡ false
 and-none true = refl
 and-none false = refl
 
-not-plain : (u : ℕ) (b : List ℕ) → (plain u (record { type = RelN; body = b }) ≡ false) × (plain u (record { type = Fspc; body = b }) ≡ false)
-unfolding plain oneOf
+not-plain : (u : ℕ) (b : List ℕ) → (plainAllows u (record { type = RelN; body = b }) ≡ false) × (plainAllows u (record { type = Fspc; body = b }) ≡ false)
+unfolding plainAllows oneOf
 not-plain u b = (rw (and-none (eqb u Pict), and-none (eqb u Snd), and-none (eqb u Data), and-none (eqb u Exec)), rw (and-none (eqb u Pict), and-none (eqb u Snd), and-none (eqb u Data), and-none (eqb u Exec)))
 
-other-type : (t u : ℕ) (c : Chunk) → plain u (record { type = t; body = c .body }) ≡ false → plain u c ≡ true → eqb (c .type) t ≡ false
+other-type : (t u : ℕ) (c : Chunk) → plainAllows u (record { type = t; body = c .body }) ≡ false → plainAllows u c ≡ true → eqb (c .type) t ≡ false
 other-type t u c bad h = go (eqb (c .type) t) refl
   where
     go : (b : Bool) → eqb (c .type) t ≡ b → b ≡ false
     go false e = refl
     go true e =
-        let q : plain u c ≡ false = ap (λ (z : ℕ). plain u (record { type = z; body = c .body })) (eqb-true (c .type) t e) ∙ bad in
+        let q : plainAllows u c ≡ false = ap (λ (z : ℕ). plainAllows u (record { type = z; body = c .body })) (eqb-true (c .type) t e) ∙ bad in
         cc
 
-pub plain-plain : (u : ℕ) (c : Chunk) → plain u c ≡ true → Plain c
+pub plain-plain : (u : ℕ) (c : Chunk) → plainAllows u c ≡ true → Plain c
 plain-plain u c h = record { no-release = other-type RelN u c (not-plain u (c .body) .0) h; no-front = other-type Fspc u c (not-plain u (c .body) .1) h }

@@ -10,14 +10,14 @@ use lib.Dec.{eqb, leb, ltb}
 use borrow.Author.Tests.{eq-eqb, ne-eqb, le-leb, leb-true, ltb-true, not-true}
 use Rattle.blorb.specs.Format.{Chunk, Entry}
 use Rattle.blorb.specs.Verdict.{Rules, Verdict, accept, refuse, _then_, check, verdict, noChunk}
-use Rattle.blorb.specs.Model.{Model, model, file, startAt, base}
+use Rattle.blorb.specs.Model.{Model, model, file, startOf, base}
 use Rattle.edits.specs.Edit.{Edit, add, replace, remove, edited}
 use Rattle.blorb.specs.Queries.{find, shared, refAt, noRef, chunkAt}
 use Rattle.edits.specs.Journal.{Rec, recOf, recBytes, removal, lastRec, wellFormed, fits, undone, zeros}
 use Rattle.blorb.specs.Queries.{start}
 use Rattle.blorb.specs.All.{All}
 use Rattle.blorb.proofs.AllLaws.{all-getD}
-use Rattle.blorb.proofs.Sound.{W, RefOk, ChunkOk, Sound}
+use Rattle.blorb.specs.Sound.{W, RefOk, ChunkOk, Sound}
 use Rattle.edits.specs.Run.{ArgsOk}
 use Rattle.edits.proofs.Applies.{Applies}
 use Rattle.edits.proofs.FitLaws.{edit-back, edit-sound}
@@ -64,7 +64,7 @@ hundred-accept (refuse k p) h = cc
 -- the record of an edit is well formed
 module _ (m : Model) (s : Sound m) (small : length (file m) ≤ 16777216) where
   start-small : (k : ℕ) → start m k < W
-  unfolding start startAt
+  unfolding start startOf
   start-small k = omega (arith, total-take k (m .chunks), length-file m)
 
   place-small : (i : ℕ) → i ≤ length (m .refs) → i < W

@@ -11,19 +11,16 @@ use lib.Dec.{eqb, leb, ltb}
 use borrow.Author.Tests.{eq-eqb, ne-eqb, eqb-true, eqb-false, ltb-true, ltb-false, le-leb, lt-leb, lt-ltb, le-ltb}
 use Rattle.blorb.specs.Format.{Ref, Chunk, Entry, size, sized, total, isStart, placeOf}
 use Rattle.blorb.specs.Verdict.{noChunk}
-use Rattle.blorb.specs.Model.{Model, base, startAt, entryOf}
+use Rattle.blorb.specs.Model.{Model, base, startOf, entryOf}
 use Rattle.blorb.specs.Queries.{uses, shared, refAt, noRef, chunkAt, without}
 use Rattle.edits.specs.Edit.{lower, added, replaced, removedBoth, removedEntry}
+use Rattle.edits.specs.Starts.{moved, behind, fallen}
 use Rattle.blorb.specs.Queries.{start}
 use Rattle.blorb.specs.All.{All}
-use Rattle.blorb.proofs.Sound.{RefOk, ChunkOk, Sound}
+use Rattle.blorb.specs.Sound.{RefOk, ChunkOk, Sound}
 use Rattle.blorb.proofs.Places.{size-pos}
 use Rattle.edits.proofs.UndoLaws.{length-without, length-remaining, or-false}
 use Rattle.blorb.proofs.ModelLaws.{entries}
-
--- an entry's start becomes f of it
-abbrev pub moved : (ℕ → ℕ) → Entry → Entry
-moved f e = record { usage = e .usage; number = e .number; start = f (e .start) }
 
 -- two ways to number the same entries give starts that differ by f, if the places do
 moved-all : (f : ℕ → ℕ) (g : Ref → Ref) (P : Ref → Type 0) (at at′ : ℕ) (cs cs′ : List Chunk) (rs : List Ref)
@@ -63,8 +60,8 @@ total-mono [] (suc j) (suc k) h = omega arith
 total-mono (x ∷ cs) (suc j) (suc k) h = omega (arith, total-mono cs j k (le-of-suc-le-suc h))
 
 -- add: all old starts grow by 12
-grown : (n : ℕ) (cs : List Chunk) (c : Chunk) (j : ℕ) → j ≤ length cs → startAt (base (suc n)) (cs ++ (c ∷ [])) j ≡ startAt (base n) cs j + 12
-unfolding startAt base
+grown : (n : ℕ) (cs : List Chunk) (c : Chunk) (j : ℕ) → j ≤ length cs → startOf (base (suc n)) (cs ++ (c ∷ [])) j ≡ startOf (base n) cs j + 12
+unfolding startOf base
 grown n cs c j h = rw (take-append-le j cs (c ∷ []) h) (omega arith)
 
 pub starts-added : (m : Model) (u n : ℕ) (c : Chunk) → Sound m
@@ -82,13 +79,9 @@ starts-added m u n c s =
     rw (l, map-append (entryOf (base (suc k)) cs) (m .refs) (x ∷ []), old)
     λ i. map (moved (λ s. s + 12)) (entries m) ++ (record { usage = u; number = n; start = grown k (m .chunks) c (length (m .chunks)) (omega arith) i } ∷ [])
 
--- the starts behind s move by b - a
-abbrev pub behind : ℕ → ℕ → ℕ → ℕ → ℕ
-behind s a b t = cond (ltb s t) (t + b - a) t
-
 pub shifted : (at : ℕ) (cs : List Chunk) (k : ℕ) (c : Chunk) (j : ℕ) → k < length cs
-    → startAt at (set cs k c) j ≡ behind (startAt at cs k) (size (getD cs k noChunk)) (size c) (startAt at cs j)
-unfolding startAt
+    → startOf at (set cs k c) j ≡ behind (startOf at cs k) (size (getD cs k noChunk)) (size c) (startOf at cs j)
+unfolding startOf
 shifted at cs k c j h = go (ltb k j) refl
   where
     go : (b : Bool) → ltb k j ≡ b → at + total (take j (set cs k c)) ≡ behind (at + total (take k cs)) (size (getD cs k noChunk)) (size c) (at + total (take j cs))
@@ -106,7 +99,7 @@ starts-replaced m k c h = all (m .refs)
     at : ℕ
     at = base (length (m .refs))
 
-    all : (rs : List Ref) → map (entryOf at (set (m .chunks) k c)) rs ≡ map (moved (behind (startAt at (m .chunks) k) (size (chunkAt m k)) (size c))) (map (entryOf at (m .chunks)) rs)
+    all : (rs : List Ref) → map (entryOf at (set (m .chunks) k c)) rs ≡ map (moved (behind (startOf at (m .chunks) k) (size (chunkAt m k)) (size c))) (map (entryOf at (m .chunks)) rs)
     all [] = refl
     all (r ∷ rs) = λ i. record { usage = r .usage; number = r .number; start = shifted at (m .chunks) k c (r .chunk) h i } ∷ all rs i
 
@@ -122,12 +115,9 @@ total-without (x ∷ cs) zero j h b = omega arith
 total-without (x ∷ cs) (suc k) zero h b = absurd (not-suc-le-zero b)
 total-without (x ∷ cs) (suc k) (suc j) h b = omega (arith, total-without cs k j (le-of-suc-le-suc h) (le-of-suc-le-suc b))
 
-abbrev pub fallen : ℕ → ℕ → ℕ → ℕ
-fallen s a t = cond (ltb s t) (t - (12 + a)) (t - 12)
-
 pub fell : (n : ℕ) (cs : List Chunk) (k : ℕ) (r : Ref) → k < length cs → eqb (r .chunk) k ≡ false
-    → startAt (base n) (without k cs) (lower k r .chunk) ≡ fallen (startAt (base (suc n)) cs k) (size (getD cs k noChunk)) (startAt (base (suc n)) cs (r .chunk))
-unfolding startAt base lower
+    → startOf (base n) (without k cs) (lower k r .chunk) ≡ fallen (startOf (base (suc n)) cs k) (size (getD cs k noChunk)) (startOf (base (suc n)) cs (r .chunk))
+unfolding startOf base lower
 fell n cs k r h ne = go (r .chunk) (ltb k (r .chunk)) refl ne
   where
     B : ℕ
@@ -165,8 +155,24 @@ starts-removed m i h valid alone =
     n = length (without i (m .refs))
 
     all : (rs : List Ref) → uses k rs ≡ false → map (entryOf (base n) (without k (m .chunks))) (map (lower k) rs)
-        ≡ map (moved (fallen (startAt (base (suc n)) (m .chunks) k) (size (chunkAt m k)))) (map (entryOf (base (suc n)) (m .chunks)) rs)
+        ≡ map (moved (fallen (startOf (base (suc n)) (m .chunks) k) (size (chunkAt m k)))) (map (entryOf (base (suc n)) (m .chunks)) rs)
     all [] u = refl
     all (r ∷ rs) u =
         let p = or-false (eqb (r .chunk) k) (uses k rs) u in
         λ j. record { usage = r .usage; number = r .number; start = fell n (m .chunks) k r valid (p .0) j } ∷ all rs (p .1) j
+
+-- "A shared chunk stays and every start falls by 12"
+pub starts-unlisted : (m : Model) (i : ℕ) → i < length (m .refs) → entries (removedEntry m i) ≡ map (moved (λ t. t - 12)) (without i (entries m))
+unfolding removedEntry entryOf startOf base
+starts-unlisted m i h =
+    rw (← map-without (entryOf (base (length (m .refs))) (m .chunks)) i (m .refs), ← length-without i (m .refs) h)
+    (all (without i (m .refs)))
+  where
+    n : ℕ
+    n = length (without i (m .refs))
+
+    all : (rs : List Ref) → map (entryOf (base n) (m .chunks)) rs ≡ map (moved (λ t. t - 12)) (map (entryOf (base (suc n)) (m .chunks)) rs)
+    all [] = refl
+    all (r ∷ rs) =
+        let less : 24 + 12 * n + total (take (r .chunk) (m .chunks)) ≡ 24 + 12 * suc n + total (take (r .chunk) (m .chunks)) - 12 = omega arith in
+        λ z. record { usage = r .usage; number = r .number; start = less z } ∷ all rs z

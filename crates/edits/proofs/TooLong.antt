@@ -1,4 +1,5 @@
--- 101: an edit whose file would pass the limit is refused with 101 at 0 before any other 100 + k, 24 and 25, whatever the buffer and its arguments.
+-- 101: an edit whose file would pass the limit is refused with 101 at 0 before any other 100 + k, 24 and 25,
+-- where 20, the reader's number, 22 and 23 do not apply.
 use mathlib.Core.Path.{_≡_, ap, _∙_}
 use Prim.Native.Nat.{ℕ, _≤_, _<_}
 use mathlib.Core.List.{List}

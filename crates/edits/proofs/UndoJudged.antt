@@ -11,20 +11,20 @@ use Rattle.blorb.specs.Format.{isStart, placeOf, Ref, Chunk, size}
 use Rattle.blorb.specs.Tags.{RIdx}
 use Rattle.blorb.specs.Verdict.{accept, noChunk, verdict}
 use Rattle.blorb.specs.Tags.{Rect}
-use Rattle.blorb.specs.Rules.{plain, picture, plainRules}
+use Rattle.blorb.specs.Rules.{plainAllows, picture, plainRules}
 use Rattle.blorb.specs.Model.{Model, base, model, file}
-use Rattle.blorb.specs.Queries.{find, noRef, refAt, chunkAt, without, shared, start}
+use Rattle.blorb.specs.Queries.{find, refAt, chunkAt, without, shared, start}
 use Rattle.blorb.specs.All.{All}
-use Rattle.blorb.proofs.AllLaws.{all-getD, all-take}
-use Rattle.blorb.proofs.Sound.{W, RefOk, Sound}
-use Rattle.blorb.proofs.Places.{startAt-placeOf}
+use Rattle.blorb.proofs.AllLaws.{all-take}
+use Rattle.blorb.specs.Sound.{W, RefOk, Sound}
+use Rattle.blorb.proofs.Places.{startOf-placeOf}
 use Rattle.blorb.specs.Bytes.{Byte}
 use Rattle.blorb.proofs.Accept.{accept-back}
 use Rattle.blorb.proofs.Checks.{then-accept}
 use Rattle.blorb.proofs.ModelLaws.{length-file, size-getD}
 use Rattle.blorb.proofs.VerdictLaws.{verdict-file, modelFault}
-use Rattle.edits.specs.Edit.{replace, edited, lower, replaced, removed, removedBoth, given}
-use Rattle.edits.specs.Journal.{Rec, samePair, fits, fits1, fits2, fits3, fits4, undone, undo1, undo2, undo3, undo4, oldChunk, oldRef, oldPlace}
+use Rattle.edits.specs.Edit.{lower, replaced, removed, removedBoth}
+use Rattle.edits.specs.Journal.{Rec, hasPair, fits, fits1, fits2, fits3, fits4, undone, undo1, undo2, undo3, undo4, oldChunk, oldRef, oldPlace}
 use Rattle.edits.specs.Run.{accepted}
 use Rattle.edits.proofs.Lengths.{length-replaced}
 use Rattle.edits.proofs.BoolLaws.{and-parts}
@@ -47,9 +47,9 @@ fits1-facts r m h =
     let e : Ref = refAt m (r .place) in
     let a : Bool = eqb (length (m .refs)) (suc (r .place)) in
     let b : Bool = eqb (suc (e .chunk)) (length (m .chunks)) in
-    let p3 = and-parts (a && samePair r e && b) (not (shared m (r .place))) h in
-    let p2 = and-parts (a && samePair r e) b (p3 .0) in
-    let p1 = and-parts a (samePair r e) (p2 .0) in
+    let p3 = and-parts (a && hasPair r e && b) (not (shared m (r .place))) h in
+    let p2 = and-parts (a && hasPair r e) b (p3 .0) in
+    let p1 = and-parts a (hasPair r e) (p2 .0) in
     let p0 = and-parts (eqb (e .usage) (r .usage)) (eqb (e .number) (r .number)) (p1 .1) in
     record {
       count = eqb-true _ _ (p1 .0);
@@ -115,9 +115,9 @@ fits2-facts r m h =
     let e : Ref = refAt m (r .place) in
     let a : Bool = ltb (r .place) (length (m .refs)) in
     let b : Bool = eqb (start m (e .chunk)) (r .start) in
-    let p3 = and-parts (a && samePair r e && b) (not (shared m (r .place))) h in
-    let p2 = and-parts (a && samePair r e) b (p3 .0) in
-    let p1 = and-parts a (samePair r e) (p2 .0) in
+    let p3 = and-parts (a && hasPair r e && b) (not (shared m (r .place))) h in
+    let p2 = and-parts (a && hasPair r e) b (p3 .0) in
+    let p1 = and-parts a (hasPair r e) (p2 .0) in
     let p0 = and-parts (eqb (e .usage) (r .usage)) (eqb (e .number) (r .number)) (p1 .1) in
     record {
       inside = ltb-true _ _ (p1 .0);
@@ -135,12 +135,6 @@ found-at r m ok h u n =
     (rw (eq-eqb (refAt m (r .place) .usage) (r .usage) u, eq-eqb (refAt m (r .place) .number) (r .number) n))
 
 module _ (r : Rec) (m : Model) (s : Sound m) (ok : modelFault plainRules m ≡ accept) (fit : fits2 r m ≡ true) where
-  pub undo2-replaced : undo2 r m ≡ edited m (replace (r .usage) (r .number) (r .type) (r .body))
-  unfolding undo2 edited given
-  undo2-replaced =
-      let f = fits2-facts r m fit in
-      ap (λ (i : ℕ). replaced m (refAt m i .chunk) (oldChunk r)) (sym (found-at r m ok (f .inside) (f .usage-is) (f .number-is)))
-
   pub undo2-length : length (file (undo2 r m)) ≡ length (file m) - size (chunkAt m (refAt m (r .place) .chunk)) + size (oldChunk r)
   unfolding undo2
   undo2-length =
@@ -151,20 +145,17 @@ module _ (r : Rec) (m : Model) (s : Sound m) (ok : modelFault plainRules m ≡ a
   -- accepted if it is short enough, the old chunk is no index and one that rule 5 allows, and the frontispiece's picture doesn't become a 'Rect'
   pub undo2-accepted : r .type < W → accepted (verdict plainRules (file (undo2 r m)))
       ≡ (leb (length (file m) - size (chunkAt m (refAt m (r .place) .chunk)) + size (oldChunk r)) 16777216
-      && (not (eqb (r .type) RIdx) && (plain (r .usage) (oldChunk r) && not (isFront (m .chunks) (r .usage) (r .number) && eqb (r .type) Rect))))
-  unfolding undo2 given
+      && (not (eqb (r .type) RIdx) && (plainAllows (r .usage) (oldChunk r) && not (isFront (m .chunks) (r .usage) (r .number) && eqb (r .type) Rect))))
+  unfolding undo2
   undo2-accepted ht =
       let f = fits2-facts r m fit in
       let e : find (r .usage) (r .number) (m .refs) ≡ r .place = found-at r m ok (f .inside) (f .usage-is) (f .number-is) in
-      let g : RefOk (length (m .chunks)) (refAt m (r .place)) = all-getD (RefOk (length (m .chunks))) (m .refs) (r .place) noRef (s .refs-ok) (f .inside) in
-      let hu : r .usage < W = omega (arith, g .usage-fits, f .usage-is) in
-      let hn : r .number < W = omega (arith, g .number-fits, f .number-is) in
       let h : find (r .usage) (r .number) (m .refs) < length (m .refs) = rw e (f .inside) in
       let al : shared m (find (r .usage) (r .number) (m .refs)) ≡ false = rw e (f .alone) in
       ap (λ (i : ℕ). accepted (verdict plainRules (file (replaced m (refAt m i .chunk) (oldChunk r))))) (sym e)
-      ∙ replaced-accepted m (r .usage) (r .number) (r .type) (r .body) s ok h al hu hn ht
+      ∙ replaced-accepted m (r .usage) (r .number) (r .type) (r .body) s ok h al ht
       ∙ ap (λ (i : ℕ). leb (length (file m) - size (chunkAt m (refAt m i .chunk)) + size (oldChunk r)) 16777216
-      && (not (eqb (r .type) RIdx) && (plain (r .usage) (oldChunk r) && not (isFront (m .chunks) (r .usage) (r .number) && eqb (r .type) Rect)))) e
+      && (not (eqb (r .type) RIdx) && (plainAllows (r .usage) (oldChunk r) && not (isFront (m .chunks) (r .usage) (r .number) && eqb (r .type) Rect)))) e
 
 -- ---- kinds 3 and 4
 pub place-le : (x at : ℕ) (cs : List Chunk) → placeOf x at cs ≤ length cs
@@ -193,7 +184,7 @@ module _ (r : Rec) (m : Model) (s : Sound m) (ok : modelFault plainRules m ≡ a
     fits4-start = and-parts (leb (r .place) (length (m .refs))) (isStart (r .start - 12) (base (length (m .refs))) (m .chunks)) fit .1
 
     old-ok : RefOk (length (m .chunks)) (oldRef r m)
-    old-ok = record { usage-fits = hu; number-fits = hn; chunk-there = startAt-placeOf (r .start - 12) (base (length (m .refs))) (m .chunks) fits4-start .1 }
+    old-ok = record { usage-fits = hu; number-fits = hn; chunk-there = startOf-placeOf (r .start - 12) (base (length (m .refs))) (m .chunks) fits4-start .1 }
 
     pub undo4-length : length (file (undo4 r m)) ≡ length (file m) + 12
     unfolding undo4
@@ -222,14 +213,14 @@ unfolding fits undone
 kind-4 r m h = (rw h, rw h)
 
 -- an accepted file's model is as the laws above want it
-pub record Stood (f : List ℕ) : Type 0 where
+pub record AcceptedFile (f : List ℕ) : Type 0 where
   pub sound : Sound (model f)
   pub judged : modelFault plainRules (model f) ≡ accept
   pub whole : file (model f) ≡ f
   pub short : length (file (model f)) ≤ 16777216
 
-pub accepted-stood : (f : List ℕ) → All Byte f → verdict plainRules f ≡ accept → Stood f
-accepted-stood f bytes fine =
+pub accepted-facts : (f : List ℕ) → All Byte f → verdict plainRules f ≡ accept → AcceptedFile f
+accepted-facts f bytes fine =
     let g = accept-back plainRules f bytes fine in
     let old = sym (verdict-file plainRules (model f) (g .1)) ∙ ap (verdict plainRules) (g .0) ∙ fine in
     record { sound = g .1; judged = then-accept _ _ old .1; whole = g .0; short = omega (arith, ap length (g .0), g .2) }

@@ -11,12 +11,12 @@ use lib.Dec.{eqb, leb, ltb}
 use borrow.Author.Tests.{eq-eqb, ne-eqb, eqb-true, eqb-false, ltb-true, ltb-false, le-leb, lt-leb}
 use Rattle.blorb.specs.Format.{Ref, Chunk, Entry, size, sized, total, isStart, placeOf}
 use Rattle.blorb.specs.Verdict.{noChunk}
-use Rattle.blorb.specs.Model.{Model, base, startAt}
+use Rattle.blorb.specs.Model.{Model, base, startOf}
 use Rattle.edits.specs.Edit.{Edit, add, replace, remove, with-at, raise, lower, added, replaced, removedBoth, removedEntry}
 use Rattle.blorb.specs.Queries.{find, uses, shared, refAt, noRef, chunkAt, without}
 use Rattle.edits.specs.Journal.{Rec, removal, oldChunk, oldRef, oldPlace, undo1, undo2, undo3, undo4}
 use Rattle.blorb.specs.Queries.{start}
-use Rattle.blorb.proofs.Places.{placeOf-startAt, isStart-startAt}
+use Rattle.blorb.proofs.Places.{placeOf-startOf, isStart-startOf}
 
 module _ {A : Type 0} where
   pub take-snoc : (l : List A) (x : A) → take (length (l ++ (x ∷ [])) - 1) (l ++ (x ∷ [])) ≡ l
@@ -67,8 +67,8 @@ raise-lowers k (r ∷ rs) h =
     λ i. raise-lower k r (p .0) i ∷ raise-lowers k rs (p .1) i
 
 -- where a chunk was, its old start less 12 is where the next one now begins
-old-start : (n : ℕ) (cs : List Chunk) (k : ℕ) → k < length cs → startAt (base (suc n)) cs k - 12 ≡ startAt (base n) (without k cs) k
-unfolding startAt base
+old-start : (n : ℕ) (cs : List Chunk) (k : ℕ) → k < length cs → startOf (base (suc n)) cs k - 12 ≡ startOf (base n) (without k cs) k
+unfolding startOf base
 old-start n cs k h = rw (take-without k cs h) (omega arith)
 
 pub length-remaining : (m : Model) (i k : ℕ) → i < length (m .refs) → suc (length (removedBoth m i k .refs)) ≡ length (m .refs)
@@ -77,7 +77,7 @@ length-remaining m i k h = rw length-map (length-without i (m .refs) h)
 
 -- kind 3
 module _ (m : Model) (i : ℕ) (inside : i < length (m .refs)) (valid : refAt m i .chunk < length (m .chunks)) where
-  pub remove-start : start m (refAt m i .chunk) - 12 ≡ startAt (base (length (removedBoth m i (refAt m i .chunk) .refs))) (without (refAt m i .chunk) (m .chunks)) (refAt m i .chunk)
+  pub remove-start : start m (refAt m i .chunk) - 12 ≡ startOf (base (length (removedBoth m i (refAt m i .chunk) .refs))) (without (refAt m i .chunk) (m .chunks)) (refAt m i .chunk)
   unfolding start
   remove-start = rw (← length-remaining m i (refAt m i .chunk) inside) (old-start (length (removedBoth m i (refAt m i .chunk) .refs)) (m .chunks) (refAt m i .chunk) valid)
 
@@ -87,23 +87,23 @@ module _ (m : Model) (i : ℕ) (inside : i < length (m .refs)) (valid : refAt m 
       let k : ℕ = refAt m i .chunk in
       rw (
         remove-start,
-        placeOf-startAt (base (length (removedBoth m i k .refs))) (without k (m .chunks)) k (omega (arith, length-without k (m .chunks) valid)),
+        placeOf-startOf (base (length (removedBoth m i k .refs))) (without k (m .chunks)) k (omega (arith, length-without k (m .chunks) valid)),
         raise-lowers k (without i (m .refs)) alone,
       )
       λ j. record { refs = with-without i (m .refs) noRef inside j; chunks = with-without k (m .chunks) noChunk valid j }
 
 -- kind 4: the chunk stays, and its old start less 12 is its start now
-same-place : (n : ℕ) (cs : List Chunk) (k : ℕ) → startAt (base (suc n)) cs k - 12 ≡ startAt (base n) cs k
-unfolding startAt base
+same-place : (n : ℕ) (cs : List Chunk) (k : ℕ) → startOf (base (suc n)) cs k - 12 ≡ startOf (base n) cs k
+unfolding startOf base
 same-place n cs k = omega arith
 
 module _ (m : Model) (i : ℕ) (inside : i < length (m .refs)) (valid : refAt m i .chunk < length (m .chunks)) where
-  pub entry-start : start m (refAt m i .chunk) - 12 ≡ startAt (base (length (without i (m .refs)))) (m .chunks) (refAt m i .chunk)
+  pub entry-start : start m (refAt m i .chunk) - 12 ≡ startOf (base (length (without i (m .refs)))) (m .chunks) (refAt m i .chunk)
   unfolding start
   entry-start = rw (← length-without i (m .refs) inside) (same-place (length (without i (m .refs))) (m .chunks) (refAt m i .chunk))
 
   pub undo-remove-entry : undo4 (removal true m (refAt m i .usage) (refAt m i .number) i) (removedEntry m i) ≡ m
   unfolding undo4 removal removedEntry
   undo-remove-entry =
-      rw (entry-start, placeOf-startAt (base (length (without i (m .refs)))) (m .chunks) (refAt m i .chunk) (omega arith))
+      rw (entry-start, placeOf-startOf (base (length (without i (m .refs)))) (m .chunks) (refAt m i .chunk) (omega arith))
       λ j. record { refs = with-without i (m .refs) noRef inside j; chunks = m .chunks }

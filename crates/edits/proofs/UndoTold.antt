@@ -11,12 +11,12 @@ use Rattle.blorb.specs.Bytes.{rd32}
 use Rattle.blorb.specs.Tags.{RIdx}
 use Rattle.blorb.specs.Verdict.{verdict}
 use Rattle.blorb.specs.Tags.{Rect}
-use Rattle.blorb.specs.Rules.{plain, plainRules}
+use Rattle.blorb.specs.Rules.{plainAllows, plainRules}
 use Rattle.blorb.specs.Model.{Model, model, file}
 use Rattle.blorb.specs.Queries.{find, refAt, chunkAt}
 use Rattle.blorb.specs.All.{All}
 use Rattle.blorb.proofs.AllLaws.{all-take, all-drop}
-use Rattle.blorb.proofs.Sound.{W}
+use Rattle.blorb.specs.Sound.{W}
 use Rattle.blorb.specs.Bytes.{Byte}
 use Rattle.blorb.proofs.Accept.{rd32-small}
 use Rattle.edits.specs.Journal.{Rec, trailer, recIn, lastBody, lastRec, fits, fits1, fits2, fits4, undo2, oldChunk, oldPlace}
@@ -24,7 +24,7 @@ use Rattle.edits.specs.Run.{accepted, undoneFile}
 use Rattle.edits.proofs.BoolLaws.{and-where}
 use Rattle.edits.proofs.JudgedLaws.{isFront}
 use Rattle.edits.proofs.InsertJudged.{entryTests}
-use Rattle.edits.proofs.UndoJudged.{Stood, kind-1, kind-2, kind-3, kind-4, fits2-facts, found-at, undo1-length, undo1-accepted, undo2-length, undo2-accepted, undo3-length, undo3-accepted, undo4-length, undo4-accepted}
+use Rattle.edits.proofs.UndoJudged.{AcceptedFile, kind-1, kind-2, kind-3, kind-4, fits2-facts, found-at, undo1-length, undo1-accepted, undo2-length, undo2-accepted, undo3-length, undo3-accepted, undo4-length, undo4-accepted}
 use Rattle.edits.proofs.FitFacts.{size-is, told1, told2, told3, told4, fits1-told, fits2-told, fits3-told, fits4-told}
 
 -- a record read from bytes has numbers of 32 bits
@@ -46,7 +46,7 @@ length2 r m L i = L - sizeOf (length (chunkAt m (refAt m i .chunk) .body)) + siz
 abbrev pub accepted2 : Rec → Model → ℕ → ℕ → Bool
 accepted2 r m L i =
     leb (length2 r m L i) 16777216
-    && (not (eqb (r .type) RIdx) && (plain (r .usage) (oldChunk r) && not (isFront (m .chunks) (r .usage) (r .number) && eqb (r .type) Rect)))
+    && (not (eqb (r .type) RIdx) && (plainAllows (r .usage) (oldChunk r) && not (isFront (m .chunks) (r .usage) (r .number) && eqb (r .type) Rect)))
 
 abbrev pub accepted3 : Rec → Model → ℕ → Bool
 accepted3 r m L =
@@ -56,7 +56,7 @@ accepted3 r m L =
 abbrev pub accepted4 : Rec → Model → ℕ → Bool
 accepted4 r m L = leb (L + 12) 16777216 && (leb (suc (length (m .refs))) 4096 && entryTests (r .usage) (r .number) (chunkAt m (oldPlace r m)) (m .refs))
 
-module _ (f j : List ℕ) (st : Stood f) (bytes : All Byte j) where
+module _ (f j : List ℕ) (st : AcceptedFile f) (bytes : All Byte j) where
   abbrev m : Model
   m = model f
 
@@ -98,7 +98,7 @@ module _ (f j : List ℕ) (st : Stood f) (bytes : All Byte j) where
           let i : at ≡ r .place = found-at r m (st .judged) (p .inside) (p .usage-is) (p .number-is) in
           undo2-accepted r m (st .sound) (st .judged) fit (last-small j bytes .2)
           ∙ (λ z. leb (same-length z - size-is (chunkAt m (refAt m (r .place) .chunk)) z + size-is (oldChunk r) z) 16777216
-          && (not (eqb (r .type) RIdx) && (plain (r .usage) (oldChunk r) && not (isFront (m .chunks) (r .usage) (r .number) && eqb (r .type) Rect))))
+          && (not (eqb (r .type) RIdx) && (plainAllows (r .usage) (oldChunk r) && not (isFront (m .chunks) (r .usage) (r .number) && eqb (r .type) Rect))))
           ∙ ap (accepted2 r m (length f)) (sym i)
 
   pub test-3 : lastRec j .kind ≡ 3 → (fits (lastRec j) (model f) && accepted (verdict plainRules (undoneFile f j)))

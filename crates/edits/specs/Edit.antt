@@ -5,7 +5,7 @@ use mathlib.Core.List.{List, [], _∷_, _++_, map}
 use mathlib.Core.Bool.{Bool, true, false, cond, _&&_, _||_, not}
 use lib.ListN.{length, getD, take, drop, set}
 use lib.Dec.{eqb, leb, ltb}
-use Rattle.blorb.specs.Format.{Ref, Chunk, Entry}
+use Rattle.blorb.specs.Format.{Ref, Chunk, chunkOf, Entry}
 use Rattle.blorb.specs.Verdict.{noChunk}
 use Rattle.blorb.specs.Model.{Model}
 use Rattle.blorb.specs.Queries.{without, find, refAt, shared}
@@ -48,11 +48,11 @@ unfoldable pub removed : Model → ℕ → Model
 removed m i = cond (shared m i) (removedEntry m i) (removedBoth m i (refAt m i .chunk))
 
 -- the chunk that the arguments of add and replace describe
-unfoldable pub given : ℕ → List ℕ → Chunk
-given t d = record { type = t; body = d }
+unfoldable pub givenChunk : ℕ → List ℕ → Chunk
+givenChunk t d = chunkOf t d
 
 -- what the file holds after an edit: "All other chunks keep their bytes and order."
 unfoldable pub edited : Model → Edit → Model
-edited m (add u n t d) = added m u n (given t d)
-edited m (replace u n t d) = replaced m (refAt m (find u n (m .refs)) .chunk) (given t d)
+edited m (add u n t d) = added m u n (givenChunk t d)
+edited m (replace u n t d) = replaced m (refAt m (find u n (m .refs)) .chunk) (givenChunk t d)
 edited m (remove u n) = removed m (find u n (m .refs))

@@ -5,9 +5,9 @@ use mathlib.Core.Bool.{Bool, true, false, cond, _&&_, _||_, not}
 use lib.ListN.{length, getD, take, drop, set}
 use lib.Dec.{eqb, leb, ltb}
 use Rattle.blorb.specs.Bytes.{be32, rd32}
-use Rattle.blorb.specs.Format.{Ref, Chunk, Entry, isStart, placeOf, total}
+use Rattle.blorb.specs.Format.{Ref, Chunk, chunkOf, Entry, isStart, placeOf, total}
 use Rattle.blorb.specs.Queries.{start}
-use Rattle.blorb.specs.Model.{Model, base, startAt}
+use Rattle.blorb.specs.Model.{Model, base, startOf}
 use Rattle.edits.specs.Edit.{Edit, add, replace, remove, with-at, raise, replaced}
 use Rattle.blorb.specs.Queries.{find, uses, shared, refAt, chunkAt, without}
 
@@ -79,20 +79,24 @@ wellFormed j =
     && eqb (25 + rd32 (drop 21 (lastBody j))) (trailer j)
     && leb 1 (lastRec j .kind) && leb (lastRec j .kind) 4 && zeros (lastRec j)
 
--- the record fits this file
-abbrev pub samePair : Rec → Ref → Bool
-samePair r e = eqb (e .usage) (r .usage) && eqb (e .number) (r .number)
+-- "the kind is 1 to 4 and the fields named zero are zero", kind by kind, as the code asks it of kind, start, type and m (proofs/LastLaws, kind-rule)
+abbrev pub kindRule : ℕ → ℕ → ℕ → ℕ → Bool
+kindRule k s t m = cond (eqb k 1) (eqb s 0 && (eqb t 0 && eqb m 0)) (cond (eqb k 4) (eqb t 0 && eqb m 0) (eqb k 2 || eqb k 3))
+
+-- the entry has the record's pair
+abbrev pub hasPair : Rec → Ref → Bool
+hasPair r e = eqb (e .usage) (r .usage) && eqb (e .number) (r .number)
 
 -- "kind 1, the last entry has that place, usage and number, and its chunk is last in the file and unshared"
 unfoldable pub fits1 : Rec → Model → Bool
 fits1 r m =
-    eqb (length (m .refs)) (suc (r .place)) && samePair r (refAt m (r .place))
+    eqb (length (m .refs)) (suc (r .place)) && hasPair r (refAt m (r .place))
     && eqb (suc (refAt m (r .place) .chunk)) (length (m .chunks)) && not (shared m (r .place))
 
 -- "kind 2, the entry at that place has that usage, number and start, and its chunk is unshared"
 unfoldable pub fits2 : Rec → Model → Bool
 fits2 r m =
-    ltb (r .place) (length (m .refs)) && samePair r (refAt m (r .place))
+    ltb (r .place) (length (m .refs)) && hasPair r (refAt m (r .place))
     && eqb (start m (refAt m (r .place) .chunk)) (r .start) && not (shared m (r .place))
 
 -- "kind 3, place is at most the count and start − 12 is a chunk's beginning behind the index, or the file's end". Under 12 the difference is 0,
@@ -109,6 +113,7 @@ fits4 r m = leb (r .place) (length (m .refs)) && isStart (r .start - 12) (base (
 abbrev pub byKind {ℓ} : {A : Type ℓ} → ℕ → A → A → A → A → A
 byKind k a b c d = cond (eqb k 1) a (cond (eqb k 2) b (cond (eqb k 3) c d))
 
+-- the record fits this file
 unfoldable pub fits : Rec → Model → Bool
 fits r m = byKind (r .kind) (fits1 r m) (fits2 r m) (fits3 r m) (fits4 r m)
 
@@ -117,7 +122,7 @@ unfoldable pub undo1 : Model → Model
 undo1 m = record { refs = take (length (m .refs) - 1) (m .refs); chunks = take (length (m .chunks) - 1) (m .chunks) }
 
 abbrev pub oldChunk : Rec → Chunk
-oldChunk r = record { type = r .type; body = r .body }
+oldChunk r = chunkOf (r .type) (r .body)
 
 abbrev pub oldPlace : Rec → Model → ℕ
 oldPlace r m = placeOf (r .start - 12) (base (length (m .refs))) (m .chunks)

@@ -1,4 +1,5 @@
 pub mod Edit
+pub mod Starts
 pub mod Journal
 pub mod Run
 pub mod Demand3

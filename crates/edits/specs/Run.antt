@@ -22,13 +22,13 @@ pub data Call : Type 0 where
   edit : Edit → Call
   undo : Call
 
--- the arguments are numbers of 32 bits
+-- an edit's usage, number and type are numbers of 32 bits
 abbrev pub ArgsOk : Edit → Type 0
 ArgsOk (add u n t d) = (u < 4294967296) × (n < 4294967296) × (t < 4294967296)
 ArgsOk (replace u n t d) = (u < 4294967296) × (n < 4294967296) × (t < 4294967296)
 ArgsOk (remove u n) = (u < 4294967296) × (n < 4294967296)
 
--- a call's arguments are numbers of 32 bits
+-- and so a call's; an undo has no arguments
 abbrev pub CallOk : Call → Type 0
 CallOk (edit e) = ArgsOk e
 CallOk undo = Unit {0}
@@ -155,11 +155,12 @@ module _ (R : Rules) where
   unfoldable pub step : State → Call → State
   step s c = answered (fault s c) s (after s c)
 
-  -- the answers of a run, and the state after it
+  -- the state after a run
   unfoldable pub run : State → List Call → State
   run s [] = s
   run s (c ∷ cs) = run (step s c) cs
 
+  -- the answers of a run
   unfoldable pub answers : State → List Call → List Answer
   answers s [] = []
   answers s (c ∷ cs) = record { result = fault s c; L = step s c .L; U = step s c .U } ∷ answers (step s c) cs

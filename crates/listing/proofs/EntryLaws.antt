@@ -14,7 +14,7 @@ use Rattle.blorb.specs.Format.{Entry, Chunk, Ref, refOf, entryIn, entriesIn}
 use Rattle.blorb.specs.Verdict.{accept, pairIn, refFault, entriesFault}
 use Rattle.blorb.specs.Rules.{plainRules}
 use Rattle.blorb.proofs.Checks.{then-accept, check-accept}
-use Rattle.reader.specs.Walk.{chunkAt, chunksFrom}
+use Rattle.reader.specs.Walk.{chunkFrom, chunksFrom}
 use Rattle.reader.specs.Entries.{usageAt, numberAt, startAt, place, entriesFrom, earlier}
 use Rattle.reader.specs.Reading.{indexOf, readOf, hitIn, noEntry, lookupOf}
 use Rattle.reader.specs.declared.Reading.the-variants.{Accepted}
@@ -80,7 +80,7 @@ module _ (f : List ℕ) (count : ℕ) (g : Good f count) (i : ℕ) (l : i < coun
 -- so every line of an accepted file's listing is printed, with the type and the data length of the chunk at the entry's start
 pub entry-found : (f : List ℕ) (l count i : ℕ) → readOf f ≡ Accepted l count → i < count
     → lookupOf f (getD (indexOf f) i noEntry .usage) (getD (indexOf f) i noEntry .number)
-    ≡ Found (chunkAt f (getD (indexOf f) i noEntry .start) .type) (getD (indexOf f) i noEntry .start + 8) (length (chunkAt f (getD (indexOf f) i noEntry .start) .body))
+    ≡ Found (chunkFrom f (getD (indexOf f) i noEntry .start) .type) (getD (indexOf f) i noEntry .start + 8) (length (chunkFrom f (getD (indexOf f) i noEntry .start) .body))
 unfolding lookupOf entriesFrom earlier
 entry-found f l count i e h =
     let g = accepted f l count e in

@@ -33,7 +33,7 @@ module _ (f : List ℕ) (count : ℕ) (g : Good f count) where
   line-of : (i : ℕ) → i < count → lineBy (getD (indexOf f) i noEntry) (lookupOf f (getD (indexOf f) i noEntry .usage) (getD (indexOf f) i noEntry .number)) ≡ lineAt f (place i)
   line-of i l = rw (listed-at f count g i l, found-at f count g i l) (sym (line-is f (place i)))
 
-  lines-on : (i : ℕ) → i < count → linesOf f (take (i + 1) (indexOf f)) ≡ linesOf f (take i (indexOf f)) ++ lineAt f (place i)
+  pub lines-on : (i : ℕ) → i < count → linesOf f (take (i + 1) (indexOf f)) ≡ linesOf f (take i (indexOf f)) ++ lineAt f (place i)
   lines-on i l =
       let h : i < length (indexOf f) = rw (g .many) l in
       rw (add-one i, take-suc (indexOf f) i noEntry h) (lines-snoc f (take i (indexOf f)) (getD (indexOf f) i noEntry) ∙ ap (λ (t : List ℕ). linesOf f (take i (indexOf f)) ++ t) (line-of i l))

@@ -1,19 +1,29 @@
 -- What the listing's definitions come to: decimal numbers mean what they print, every listing fits its room, and longer input is refused.
-use mathlib.Core.Path.{_≡_, refl, _∙_}
+use mathlib.Core.Path.{_≡_, refl, ap, _∙_}
 use Prim.Native.Nat.{ℕ, zero, suc, _+_, _*_, _-_, _/_, _%_, _^_, _≤_, _<_}
 use mathlib.Core.List.{List, [], _∷_, _++_}
 use mathlib.Core.Bool.{Bool, true, false}
 use native.Mathlib.Omega.{arith}
-use lib.ListN.{length, getD, length-append}
+use native.Mathlib.Numerals.{add-one}
+use lib.ListN.{length, getD, take, drop, length-append}
+use lib.Seq.{take-all}
 use lib.Dec.{ltb, leb}
 use borrow.Author.Tests.{lt-ltb, ltb-false, lt-leb}
-use Rattle.reader.specs.Reading.{readOf}
+use Rattle.blorb.specs.Bytes.{rd32, Byte}
+use Rattle.blorb.specs.All.{All}
+use Rattle.blorb.proofs.AllLaws.{all-drop}
+use Rattle.blorb.proofs.ByteLaws.{length-be32}
+use Rattle.blorb.proofs.Accept.{rd32-small}
+use Rattle.reader.specs.Entries.{startAt, place}
+use Rattle.reader.specs.Reading.{indexOf, readOf}
 use Rattle.reader.specs.declared.Reading.{Reading}
 use Rattle.reader.specs.declared.Reading.the-variants.{Accepted, Refused}
-use Rattle.reader.proofs.AskLaws.{accepted}
+use Rattle.reader.proofs.AskLaws.{Good, accepted}
 use Rattle.listing.specs.Text.{text, digit, lastDigit, digitsOf, decimal}
-use Rattle.listing.specs.Listing.{refusedLine, pickReading, inputReading, inputListing, roomBy, inputRoom}
-use Rattle.listing.proofs.TextLaws.{tenth}
+use Rattle.listing.specs.Listing.{headLine, refusedLine, linesOf, listingBy, listingOf, pickReading, inputReading, inputListing, roomBy, roomFor, inputRoom}
+use Rattle.listing.specs.InPlace.{fieldsAt, chunkText, lineAt}
+use Rattle.listing.proofs.TextLaws.{tenth, decimal-20, decimal-10}
+use Rattle.listing.proofs.ListLaws.{lines-on}
 
 -- the number that digits print, behind the number that those before them do
 abbrev pub valueFrom : ℕ → List ℕ → ℕ
@@ -66,6 +76,51 @@ decimal-first n z h = first 19 n z (omega arith)
 pub longer : (f : List ℕ) → 65536 < length f → inputListing f ≡ text "refused 1 at 0\n"
 unfolding inputListing inputReading refusedLine decimal
 longer f h = rw (lt-leb (length f) 65536 h)
+
+-- every listing fits the room that is asked for it
+head-room : (size count : ℕ) → length (headLine size count) ≤ 64
+unfolding headLine
+head-room size count = simp length-append (omega (arith, decimal-20 size, decimal-20 count))
+
+refused-room : (number place : ℕ) → length (refusedLine number place) ≤ 64
+unfolding refusedLine
+refused-room number place = simp length-append (omega (arith, decimal-20 number, decimal-20 place))
+
+module _ (f : List ℕ) (bytes : All Byte f) where
+  digits : (p : ℕ) → length (decimal (rd32 (drop p f))) ≤ 10
+  digits p = decimal-10 (rd32 (drop p f)) (rd32-small (drop p f) (all-drop Byte p f bytes))
+
+  line-room : (p : ℕ) → length (lineAt f p) ≤ 48
+  unfolding lineAt fieldsAt chunkText
+  line-room p = simp (length-append, length-be32) (omega (arith, digits (p + 4), digits (p + 8), digits (startAt f p + 4)))
+
+  lines-room : (count : ℕ) → Good f count → (i : ℕ) → i ≤ count → length (linesOf f (take i (indexOf f))) ≤ 48 * i
+  unfolding linesOf
+  lines-room count g zero h = omega arith
+  lines-room count g (suc i) h =
+      let on : length (linesOf f (take (i + 1) (indexOf f))) ≡ length (linesOf f (take i (indexOf f))) + length (lineAt f (place i))
+      = ap length (lines-on f count g i (omega arith)) ∙ length-append (linesOf f (take i (indexOf f))) (lineAt f (place i)) in
+      rw (← add-one i) (omega (arith, on, line-room (place i), lines-room count g i (omega arith)))
+
+  listing-go : (v : Reading) → readOf f ≡ v → length (listingBy f v) ≤ roomBy v
+  listing-go (Accepted l n) e =
+      let g = accepted f l n e in
+      let whole : take n (indexOf f) ≡ indexOf f = take-all n (indexOf f) (omega (arith, g .many)) in
+      let lines : length (linesOf f (indexOf f)) ≤ 48 * n = rw whole at (lines-room n g n (omega arith)) in
+      simp length-append (omega (arith, head-room l n, lines))
+  listing-go (Refused k p) e = refused-room k p
+
+  pub listing-fits : length (listingOf f) ≤ roomFor f
+  unfolding listingOf roomFor
+  listing-fits = listing-go (readOf f) refl
+
+  pub input-fits : length (inputListing f) ≤ inputRoom f
+  unfolding inputListing inputRoom inputReading
+  input-fits = go (leb (length f) 65536)
+    where
+      go : (b : Bool) → length (listingBy f (pickReading b (readOf f) (Refused 1 0))) ≤ roomBy (pickReading b (readOf f) (Refused 1 0))
+      go true = listing-go (readOf f) refl
+      go false = refused-room 1 0
 
 -- the most room that an input asks for: 4,096 entries
 input-go : (f : List ℕ) (v : Reading) → readOf f ≡ v → roomBy v ≤ 196672

@@ -57,7 +57,7 @@ inputReading f = pickReading (leb (length f) 65536) (readOf f) (Refused 1 0)
 unfoldable pub inputListing : List ℕ → List ℕ
 inputListing f = listingBy f (inputReading f)
 
--- the bytes that a buffer must have: 64 for the first line and 48 for each entry's, which is enough for every listing
+-- the bytes that a buffer must have: 64 for the first line and 48 for each entry's, which is enough for every listing (proofs/Sense, listing-fits)
 abbrev pub roomBy : Reading → ℕ
 roomBy (Accepted size count) = 64 + 48 * count
 roomBy (Refused number place) = 64

@@ -1,4 +1,4 @@
-// The lister at work: standard input in, its listing out.
+// The lister's reading and writing: standard input in, its listing out.
 use libc::STDIN_FILENO;
 use libc::STDOUT_FILENO;
 use listing::Listed;

@@ -13,7 +13,7 @@ use Rattle.blorb.specs.Bytes.{rd32}
 use Rattle.blorb.specs.Format.{Entry, Ref, refOf, Chunk, size, chunkIn, entryIn, entriesIn}
 use Rattle.blorb.specs.Verdict.{Verdict, accept, refuse, _then_, entriesFault, knownUsage}
 use Rattle.blorb.specs.Rules.{plainRules, plainVerdict, optional}
-use Rattle.reader.specs.Walk.{chunkAt, nextAt, skipAt, chunksFrom, walkFrom, firstFault}
+use Rattle.reader.specs.Walk.{chunkFrom, nextAt, skipAt, chunksFrom, walkFrom, firstFault}
 use Rattle.blorb.specs.Verdict.{headFault}
 use Rattle.blorb.proofs.Checks.{then-accept, check-accept}
 use Rattle.reader.proofs.ChunkLaws.{fine, Fine}
@@ -31,8 +31,8 @@ use Rattle.reader.specs.declared.entries.Hit.{Hit}
 use Rattle.reader.specs.declared.entries.Hit.the-variants.{At, Nothing}
 use Rattle.reader.specs.declared.Looked.{Looked}
 use Rattle.reader.specs.declared.Looked.the-variants.{Found, Refused as Missing}
-use Rattle.reader.specs.Reading.{indexOf, readBy, readOf, givenBy, noEntry, entryBy, askedBy, entryOf, hitIn, foundBy, lookedBy, lookupOf}
-use Rattle.reader.specs.Optional.{optionalFault, Judged}
+use Rattle.reader.specs.Reading.{indexOf, readBy, readOf, givenBy, noEntry, entryBy, askedBy, askedOf, hitIn, foundBy, lookedBy, lookupOf}
+use Rattle.reader.specs.Optional.{optionalFault, EntriesPassed}
 use Rattle.reader.specs.Passed.{Passed, modelAt}
 use Rattle.blorb.specs.Model.{model}
 use Rattle.blorb.proofs.Accept.{accept-short}
@@ -58,7 +58,7 @@ good f h =
     let count : ℕ = rd32 (drop 20 f) in
     let a6 = then-accept _ _ (sym (v5 f (a1 .0) (a2 .0) (a3 .0) (skipAt f 12) refl (a4 .0) (a5 .0) count refl) ∙ h) in
     let is : indexOf f ≡ entriesIn count (drop 24 f) = index-of f (a1 .0) (a2 .0) (a3 .0) (skipAt f 12) refl (a4 .0) (a5 .0) count refl (a6 .0) in
-    let j : Judged f count = is-judged f (a1 .0) (a2 .0) (a3 .0) (skipAt f 12) refl (a4 .0) (a5 .0) count refl (a6 .0) in
+    let j : EntriesPassed f count = is-judged f (a1 .0) (a2 .0) (a3 .0) (skipAt f 12) refl (a4 .0) (a5 .0) count refl (a6 .0) in
     record {
       verdict = h;
       passed = record { judged = j; optional = sym (optional-is f count (j .walks) (j .entries)) ∙ a6 .1; short = accept-short plainRules f h };
@@ -89,17 +89,17 @@ module _ (f : List ℕ) where
   refused-as k p e = read-no (plainVerdict f) k p (length f) (length (indexOf f)) e
 
 module _ (f : List ℕ) (i : ℕ) where
-  pub entry-no : (k p : ℕ) → plainVerdict f ≡ refuse k p → Withheld k p ≡ entryOf f i
-  unfolding entryOf
+  pub entry-no : (k p : ℕ) → plainVerdict f ≡ refuse k p → Withheld k p ≡ askedOf f i
+  unfolding askedOf
   entry-no k p e = rw e
 
   module _ (n : ℕ) (g : Good f n) where
-    pub entry-22 : n ≤ i → Withheld 22 0 ≡ entryOf f i
-    unfolding entryOf
+    pub entry-22 : n ≤ i → Withheld 22 0 ≡ askedOf f i
+    unfolding askedOf
     entry-22 l = rw (g .verdict, g .many, le-ltb i n l)
 
-    pub entry-there : i < n → givenBy (usageOf (usageAt f (place i))) (numberAt f (place i)) (startAt f (place i)) (place i) ≡ entryOf f i
-    unfolding entryOf entryIn
+    pub entry-there : i < n → givenBy (usageOf (usageAt f (place i))) (numberAt f (place i)) (startAt f (place i)) (place i) ≡ askedOf f i
+    unfolding askedOf entryIn
     entry-there l =
         rw (g .verdict, g .many, lt-ltb i n l, g .index, entry-getD f n i 24 noEntry l, drop-drop 4 (place i) f, drop-drop 8 (place i) f)
 
@@ -120,7 +120,7 @@ module _ (f : List ℕ) (u n : ℕ) where
     unfolding chunkIn
     look-found x t m e et em =
         let b = hit-begun f count u n x (g .passed .judged) e in
-        let l : length (chunkAt f x .body) ≡ m = fine f x (b .0) (b .1) .bodied ∙ sym em in
+        let l : length (chunkFrom f x .body) ≡ m = fine f x (b .0) (b .1) .bodied ∙ sym em in
         sym (look-on ∙ rw (e, l, ← et))
 
 -- the part that a lookup names lies in the file
@@ -129,7 +129,7 @@ part-go f u n count t a m g (At x) e q =
     let b = hit-begun f count u n x (g .passed .judged) e in
     let i = fine f x (b .0) (b .1) in
     let ea : x + 8 ≡ a = cc in
-    let em : length (chunkAt f x .body) ≡ m = cc in
+    let em : length (chunkFrom f x .body) ≡ m = cc in
     omega (arith, i .inside, i .next, i .bodied)
 part-go f u n count t a m g Nothing e q = let z : _≡_ {A = ℕ} 0 1 = cc in absurd (omega arith)
 
@@ -145,10 +145,10 @@ part-in f u n t a m q = look-go f u n t a m (plainVerdict f) refl q
 
 -- an entry by the numbers that the code has read
 module _ (f : List ℕ) (i n : ℕ) (g : Good f n) (l : i < n) (u : ℕ) (eu : u ≡ usageAt f (place i)) where
-  pub entry-unknown : usageOf u ≡ Unknown → Withheld 12 (place i) ≡ entryOf f i
+  pub entry-unknown : usageOf u ≡ Unknown → Withheld 12 (place i) ≡ askedOf f i
   entry-unknown e = rw (rw eu at e) at (entry-there f i n g l)
 
-  pub entry-known : (k : Usage) (a x : ℕ) → usageOf u ≡ Is k → a ≡ numberAt f (place i) → x ≡ startAt f (place i) → Given (record { usage = k; number = a; start = x }) ≡ entryOf f i
+  pub entry-known : (k : Usage) (a x : ℕ) → usageOf u ≡ Is k → a ≡ numberAt f (place i) → x ≡ startAt f (place i) → Given (record { usage = k; number = a; start = x }) ≡ askedOf f i
   entry-known k a x e ea ex =
       let q : usageOf (usageAt f (place i)) ≡ Is k = rw eu at e in
       (λ j. Given (record { usage = k; number = ea j; start = ex j })) ∙ (rw q at (entry-there f i n g l))
@@ -167,6 +167,6 @@ not-unknown u (Is x) e h = (x, e)
 not-unknown u Unknown e h = let n : knownUsage u ≡ false = known-not u e in let z : _≡_ {A = ℕ} 0 1 = cc in absurd (omega arith)
 
 pub given-as : (f : List ℕ) (i : ℕ) → plainVerdict f ≡ accept → i < length (indexOf f) → (x : Usage) → usageOf (getD (indexOf f) i noEntry .usage) ≡ Is x
-    → entryOf f i ≡ Given (record { usage = x; number = getD (indexOf f) i noEntry .number; start = getD (indexOf f) i noEntry .start })
-unfolding entryOf
+    → askedOf f i ≡ Given (record { usage = x; number = getD (indexOf f) i noEntry .number; start = getD (indexOf f) i noEntry .start })
+unfolding askedOf
 given-as f i h l x e = rw (h, lt-ltb i (length (indexOf f)) l, e)

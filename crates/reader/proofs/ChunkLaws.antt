@@ -9,13 +9,13 @@ use lib.ListN.{length, getD, take, drop, length-take, length-drop, drop-of-lengt
 use lib.Seq.{drop-drop, drop-cons, length-take-le, getD-drop, getD-take}
 use lib.Dec.{eqb, leb, ltb}
 use borrow.Author.Tests.{eq-eqb, ne-eqb, eqb-true, eqb-false, le-leb, lt-leb, leb-true, leb-false, lt-ltb, le-ltb, ltb-true, ltb-false}
-use Rattle.reader.specs.Plain.{ordinaryType, allPlain, Along}
+use Rattle.reader.specs.Ordinary.{ordinaryType, allOrdinary, Along}
 use Rattle.blorb.specs.Tags.{RelN, Fspc}
 use Rattle.blorb.specs.Bytes.{rd32}
 use Rattle.blorb.specs.Tags.{FORM, IFRS, RIdx}
 use Rattle.blorb.specs.Format.{Chunk, Entry, sized, size, chunkIn, chunksIn, chunksOf, isStart, placeOf}
 use Rattle.blorb.specs.Verdict.{Rules, Verdict, accept, refuse, _then_, check, chunkFault, walkFault, noChunk, secondIndex, layoutFault, restFault, verdict}
-use Rattle.reader.specs.Walk.{chunkAt, nextAt, chunksFrom, walkFrom, skipAt, firstFault, Reached}
+use Rattle.reader.specs.Walk.{chunkFrom, nextAt, chunksFrom, walkFrom, skipAt, firstFault, Reached}
 use Rattle.blorb.specs.Verdict.{headFault}
 use Rattle.blorb.proofs.Checks.{then-accept, check-accept, pass, stop, holds-last, fails-last, accepts, refuses, and-both}
 
@@ -92,7 +92,7 @@ module _ (f : List ℕ) (at : ℕ) where
       walk-same (length f) (suc (length f)) at (drop at f) dropped l ∙ walk-one (length f) at (drop at f) z
       ∙ ap (λ (d : List ℕ). chunkFault at (drop at f) then walkFault (length f) (at + n) d) (drop-drop n at f)
 
-  pub chunks-on : at < length f → chunksFrom f at ≡ chunkAt f at ∷ chunksFrom f (at + sized (rd32 (drop 4 (drop at f))))
+  pub chunks-on : at < length f → chunksFrom f at ≡ chunkFrom f at ∷ chunksFrom f (at + sized (rd32 (drop 4 (drop at f))))
   unfolding chunksFrom
   chunks-on h =
       let n : ℕ = sized (rd32 (drop 4 (drop at f))) in
@@ -106,10 +106,10 @@ pub record Fine (f : List ℕ) (at : ℕ) : Type 0 where
   pub header : at + 8 ≤ length f
   pub past : at + 8 ≤ nextAt f at
   pub inside : nextAt f at ≤ length f
-  pub bodied : length (chunkAt f at .body) ≡ rd32 (drop (at + 4) f)
+  pub bodied : length (chunkFrom f at .body) ≡ rd32 (drop (at + 4) f)
   pub next : skipAt f at ≡ nextAt f at
   pub rest : walkFrom f (nextAt f at) ≡ accept
-  pub chunks : chunksFrom f at ≡ chunkAt f at ∷ chunksFrom f (nextAt f at)
+  pub chunks : chunksFrom f at ≡ chunkFrom f at ∷ chunksFrom f (nextAt f at)
 
 body-length : (s : List ℕ) (m : ℕ) → m ≡ rd32 (drop 4 s) → 8 + m ≤ length s → length (chunkIn s .body) ≡ m
 unfolding chunkIn
@@ -127,7 +127,7 @@ fine f at h w =
     let l8 : 8 ≤ length (drop at f) = leb-true _ _ (check-accept _ _ _ (q .0)) in
     let lm : 8 + (m + m % 2) ≤ length (drop at f) = leb-true _ _ (check-accept _ _ _ (r .0)) in
     let ld : length (drop at f) ≡ length f - at = length-drop at f in
-    let b : length (chunkAt f at .body) ≡ m = body-length (drop at f) m refl (omega arith) in
+    let b : length (chunkFrom f at .body) ≡ m = body-length (drop at f) m refl (omega arith) in
     let n2 : at + sized m ≡ nextAt f at = rw b refl in
     record {
       header = omega arith;
@@ -136,7 +136,7 @@ fine f at h w =
       bodied = b ∙ e;
       next = rw (← e) n2;
       rest = rw n2 at (p .1);
-      chunks = chunks-on f at h ∙ ap (λ (k : ℕ). chunkAt f at ∷ chunksFrom f k) n2;
+      chunks = chunks-on f at h ∙ ap (λ (k : ℕ). chunkFrom f at ∷ chunksFrom f k) n2;
     }
 
 -- 1 to 5, by facts on the bytes
@@ -272,7 +272,7 @@ module _ (f : List ℕ) (x at : ℕ) where
 -- induction over the chunks of a file that the walk accepts
 module _ (f : List ℕ) (P : ℕ → List Chunk → Type 0)
     (none : (at : ℕ) → length f ≤ at → P at [])
-    (more : (at : ℕ) → at < length f → walkFrom f at ≡ accept → Fine f at → P (nextAt f at) (chunksFrom f (nextAt f at)) → P at (chunkAt f at ∷ chunksFrom f (nextAt f at))) where
+    (more : (at : ℕ) → at < length f → walkFrom f at ≡ accept → Fine f at → P (nextAt f at) (chunksFrom f (nextAt f at)) → P at (chunkFrom f at ∷ chunksFrom f (nextAt f at))) where
   upto : (k at : ℕ) → length f ≤ at + k → walkFrom f at ≡ accept → P at (chunksFrom f at)
   upto zero at l w = let e : length f ≤ at = omega arith in rw (chunks-end f at e) (none at e)
   upto (suc k) at l w = go (ltb at (length f)) refl (λ n m. upto k n m)
@@ -289,7 +289,7 @@ module _ (f : List ℕ) (P : ℕ → List Chunk → Type 0)
 
 -- a start's chunk
 pub record Begun (f : List ℕ) (x : ℕ) (c : Chunk) : Type 0 where
-  pub chunk : c ≡ chunkAt f x
+  pub chunk : c ≡ chunkFrom f x
   pub below : x < length f
   pub walks : walkFrom f x ≡ accept
 
@@ -305,7 +305,7 @@ begun f x at w =
     by-test : (a : ℕ) → a < length f → walkFrom f a ≡ accept → (cs : List Chunk) (b : Bool) → eqb x a ≡ b
         → (isStart x (nextAt f a) cs ≡ true → Begun f x (getD cs (placeOf x (nextAt f a) cs) noChunk))
         → b || isStart x (nextAt f a) cs ≡ true
-        → Begun f x (getD (chunkAt f a ∷ cs) (cond b 0 (suc (placeOf x (nextAt f a) cs))) noChunk)
+        → Begun f x (getD (chunkFrom f a ∷ cs) (cond b 0 (suc (placeOf x (nextAt f a) cs))) noChunk)
     by-test a h v cs true t ih e =
         let q : x ≡ a = eqb-true x a t in record { chunk = rw q refl; below = omega arith; walks = rw q v }
     by-test a h v cs false t ih e = ih e
@@ -331,7 +331,7 @@ resume f g at w =
     by-test : (a : ℕ) → Fine f a → (b : Bool) → eqb g a ≡ b
         → (isStart g (nextAt f a) (chunksFrom f (nextAt f a)) ≡ true → (x : ℕ) → g ≤ x → isStart x (nextAt f a) (chunksFrom f (nextAt f a)) ≡ isStart x g (chunksFrom f g))
         → b || isStart g (nextAt f a) (chunksFrom f (nextAt f a)) ≡ true
-        → (x : ℕ) → g ≤ x → isStart x a (chunkAt f a ∷ chunksFrom f (nextAt f a)) ≡ isStart x g (chunksFrom f g)
+        → (x : ℕ) → g ≤ x → isStart x a (chunkFrom f a ∷ chunksFrom f (nextAt f a)) ≡ isStart x g (chunksFrom f g)
     by-test a i true t ih e x l = ap (λ (cs : List Chunk). isStart x a cs) (sym (i .chunks)) ∙ ap (λ (k : ℕ). isStart x k (chunksFrom f k)) (sym (eqb-true g a t))
     by-test a i false t ih e x l =
         let n : nextAt f a ≤ g = start-ge g (nextAt f a) (chunksFrom f (nextAt f a)) e in
@@ -341,21 +341,21 @@ resume f g at w =
 pub reached-again : (f : List ℕ) (base g x : ℕ) → Reached f base g → Reached f g x → g ≤ x → Reached f base x
 reached-again f base g x r s l y m = r y (omega arith) ∙ s y m
 
--- chunks that are plain
+-- chunks that are ordinary
 module _ (f : List ℕ) (at : ℕ) where
-  pub plain-end : length f ≤ at → allPlain (chunksFrom f at) ≡ true
-  unfolding allPlain
-  plain-end h = rw (chunks-end f at h)
+  pub ordinary-end : length f ≤ at → allOrdinary (chunksFrom f at) ≡ true
+  unfolding allOrdinary
+  ordinary-end h = rw (chunks-end f at h)
 
-  plain-on : at < length f → allPlain (chunksFrom f at) ≡ ordinaryType (rd32 (drop at f)) && allPlain (chunksFrom f (skipAt f at))
-  unfolding allPlain chunkIn sized
-  plain-on h = rw (chunks-on f at h, drop-drop 4 at f)
+  ordinary-on : at < length f → allOrdinary (chunksFrom f at) ≡ ordinaryType (rd32 (drop at f)) && allOrdinary (chunksFrom f (skipAt f at))
+  unfolding allOrdinary chunkIn sized
+  ordinary-on h = rw (chunks-on f at h, drop-drop 4 at f)
 
-  pub plain-next : (t : ℕ) (p : Bool) → at < length f → t ≡ rd32 (drop at f) → p && ordinaryType t ≡ true → (p ≡ true) × (allPlain (chunksFrom f at) ≡ allPlain (chunksFrom f (skipAt f at)))
-  plain-next t p h e o =
+  pub ordinary-next : (t : ℕ) (p : Bool) → at < length f → t ≡ rd32 (drop at f) → p && ordinaryType t ≡ true → (p ≡ true) × (allOrdinary (chunksFrom f at) ≡ allOrdinary (chunksFrom f (skipAt f at)))
+  ordinary-next t p h e o =
       let q = and-both _ _ o in
       let z : ordinaryType (rd32 (drop at f)) ≡ true = rw (← e) (q .1) in
-      (q .0, plain-on h ∙ rw z)
+      (q .0, ordinary-on h ∙ rw z)
 
 -- a walk that goes on by one chunk
 pub along-next : (f : List ℕ) (from at n t : ℕ) (p o : Bool) → at < length f → chunkFault at (drop at f) ≡ accept → t ≡ rd32 (drop at f) → o ≡ ordinaryType t → n ≡ skipAt f at
@@ -363,8 +363,17 @@ pub along-next : (f : List ℕ) (from at n t : ℕ) (p o : Bool) → at < length
 along-next f from at n t p o h e q k w a =
     rw (w, k) (record {
       rest = walk-next f at h e ∙ a .rest;
-      ordinary = λ z. let b = plain-next f at t p h q z in sym (b .1) ∙ a .ordinary (b .0);
+      ordinary = λ z. let b = ordinary-next f at t p h q z in sym (b .1) ∙ a .ordinary (b .0);
     })
+
+-- by one ordinary chunk
+pub along-on : (f : List ℕ) (from at n t : ℕ) (p : Bool) → at < length f → chunkFault at (drop at f) ≡ accept → t ≡ rd32 (drop at f) → ordinaryType t ≡ true → n ≡ skipAt f at
+    → Along f from at p → Along f from n p
+along-on f from at n t p h e q k w a = rw (and-true p) at (along-next f from at n t p true h e q (sym k) w a)
+  where
+    and-true : (b : Bool) → b && true ≡ b
+    and-true true = refl
+    and-true false = refl
 
 not-or : (a b : Bool) → not (a || b) ≡ true → (a ≡ false) × (b ≡ false)
 not-or true b e = let z : _≡_ {A = ℕ} 0 1 = cc in absurd (omega arith)
@@ -381,13 +390,13 @@ ordinary-not t e =
     let b = neither (eqb t RelN) (eqb t Fspc) (a .1) in
     (a .0, b .0, b .1)
 
-pub unplain : (v : Bool) → false ≡ true → v ≡ true
-unplain v e = let z : _≡_ {A = ℕ} 0 1 = cc in absurd (omega arith)
+pub no-ordinary : (v : Bool) → false ≡ true → v ≡ true
+no-ordinary v e = let z : _≡_ {A = ℕ} 0 1 = cc in absurd (omega arith)
 
-pub plain-second : (cs : List Chunk) (at : ℕ) → allPlain cs ≡ true → secondIndex at cs ≡ accept
-unfolding allPlain secondIndex
-plain-second [] at e = refl
-plain-second (c ∷ cs) at e =
-    let q = and-both (ordinaryType (c .type)) (allPlain cs) e in
+pub ordinary-second : (cs : List Chunk) (at : ℕ) → allOrdinary cs ≡ true → secondIndex at cs ≡ accept
+unfolding allOrdinary secondIndex
+ordinary-second [] at e = refl
+ordinary-second (c ∷ cs) at e =
+    let q = and-both (ordinaryType (c .type)) (allOrdinary cs) e in
     let n : eqb (c .type) RIdx ≡ false = ordinary-not (c .type) (q .0) .0 in
-    pass _ _ _ _ (rw n) ∙ plain-second cs (at + size c) (q .1)
+    pass _ _ _ _ (rw n) ∙ ordinary-second cs (at + size c) (q .1)

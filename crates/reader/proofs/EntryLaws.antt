@@ -13,11 +13,11 @@ use borrow.Author.Tests.{eq-eqb, ne-eqb, eqb-true, eqb-false, le-leb, lt-leb, le
 use Rattle.blorb.proofs.UsageLaws.{or-false, or-assoc, known-is, known-not}
 use Rattle.blorb.specs.Bytes.{rd32}
 use Rattle.blorb.specs.Tags.{tag, FORM}
-use Rattle.blorb.specs.Format.{Chunk, Entry, Ref, refOf, chunkIn, entryIn, entriesIn, isStart, placeOf}
+use Rattle.blorb.specs.Format.{Chunk, Entry, Ref, refOf, chunkIn, entryIn, entriesIn, isStart, placeOf, chunkOf}
 use Rattle.blorb.specs.Verdict.{Rules, Verdict, accept, refuse, _then_, check, noChunk, knownUsage, pairIn, refFault, entriesFault}
-use Rattle.blorb.specs.Rules.{plain, plainRules, oneOf}
+use Rattle.blorb.specs.Rules.{plainAllows, plainRules, oneOf}
 use Rattle.blorb.specs.Tags.{AIFF}
-use Rattle.reader.specs.Walk.{chunkAt, nextAt, chunksFrom, walkFrom, Reached}
+use Rattle.reader.specs.Walk.{chunkFrom, nextAt, chunksFrom, walkFrom, Reached}
 use Rattle.blorb.proofs.Checks.{pass, stop, holds-last, fails-last, accepts, refuses, then-accept, check-accept}
 use Rattle.blorb.proofs.Checks.{then-assoc}
 use Rattle.reader.proofs.ChunkLaws.{fine, Fine, begun, Begun, resume}
@@ -27,12 +27,12 @@ use Rattle.blorb.specs.declared.Known.{Known}
 use Rattle.blorb.specs.declared.Known.the-variants.{Is, Unknown}
 use Rattle.reader.specs.declared.entries.Judged.{Judged}
 use Rattle.reader.specs.declared.entries.Judged.the-variants.{At, Fault}
-use Rattle.blorb.specs.Usages.{chunkOf, codeOf, pickKnown, usageOf, pictType, sndType, dataType, execType}
+use Rattle.blorb.specs.Usages.{codeOf, pickKnown, usageOf, pictType, sndType, dataType, execType}
 use Rattle.reader.specs.Entries.{usageAt, numberAt, startAt, place, typedAt, entryFault, judgedBy, earlier, samePair, Topped, slotOf, Below, entriesFrom}
 
 -- rule 5 of the chunk at x, by its type and its data
 pub typed-at : (f : List ℕ) (u x from to t : ℕ) → from ≡ x + 8 → to ≡ from + rd32 (drop (x + 4) f) → t ≡ rd32 (drop x f)
-    → plain u (chunkOf t (take (to - from) (drop from f))) ≡ typedAt f u x
+    → plainAllows u (chunkOf t (take (to - from) (drop from f))) ≡ typedAt f u x
 unfolding chunkIn
 typed-at f u x from to t e1 e2 e3 =
     let n : to - from ≡ rd32 (drop (x + 4) f) = omega arith in
@@ -77,8 +77,8 @@ module _ (f : List ℕ) (base : ℕ) (w : walkFrom f base ≡ accept) where
   entries-on j n =
       let q : place j + 12 ≡ place (suc j) = omega arith in
       let h : isStart (startAt f (place j)) base (chunksFrom f base) ≡ true
-      → plain (usageAt f (place j)) (getD (chunksFrom f base) (placeOf (startAt f (place j)) base (chunksFrom f base)) noChunk) ≡ typedAt f (usageAt f (place j)) (startAt f (place j))
-      = λ e. ap (plain (usageAt f (place j))) (begun f (startAt f (place j)) base w e .chunk) in
+      → plainAllows (usageAt f (place j)) (getD (chunksFrom f base) (placeOf (startAt f (place j)) base (chunksFrom f base)) noChunk) ≡ typedAt f (usageAt f (place j)) (startAt f (place j))
+      = λ e. ap (plainAllows (usageAt f (place j))) (begun f (startAt f (place j)) base w e .chunk) in
       rw (refOf-at f base (place j), drop-drop 8 (place j) f, drop-drop 12 (place j) f, q)
       (shape (knownUsage (usageAt f (place j))) (isStart (startAt f (place j)) base (chunksFrom f base)) _ (typedAt f (usageAt f (place j)) (startAt f (place j)))
       (not (eqb (usageAt f (place j)) (codeOf Exec)) || eqb (numberAt f (place j)) 0) (not (pairIn (usageAt f (place j)) (numberAt f (place j)) (earlier f base j))) (place j) _ h)
@@ -255,10 +255,10 @@ below-next f tops j k r b q l hn ht i h = go (eqb (slotOf (usageAt f (place i)))
     go false e true g = let p : i ≡ j = eqb-true _ _ g in absurd (eqb-false x k e (ap (λ (z : ℕ). slotOf (usageAt f (place z))) p ∙ sym q))
     go false e false g = let p : i ≡ j → ⊥ = eqb-false _ _ g in rw (getD-set-other tops k x r 0 (eqb-false x k e)) (b i (omega arith))
 
--- no entry before the first rival has the pair
-module _ (f : List ℕ) (base j top n : ℕ) (t : Topped f j top) (e : n ≡ numberAt f (place j)) where
-  pub rival-none : top ≤ n → (j ≤ j) × (pairIn (usageAt f (place j)) (numberAt f (place j)) (earlier f base j) ≡ false)
-  rival-none h = (omega arith, fresh f base j top t (omega arith) j (omega arith))
-
-  pub rival-all : (0 ≤ j) × (pairIn (usageAt f (place j)) (numberAt f (place j)) (earlier f base 0) ≡ false)
-  rival-all = (omega arith, pair-none f base j)
+-- tops that are above the number of entry j already
+pub below-same : (f tops : List ℕ) (j k : ℕ) → Below f tops j → k ≡ slotOf (usageAt f (place j)) → numberAt f (place j) < getD tops k 0 → Below f tops (j + 1)
+below-same f tops j k b q l i h = go (eqb i j) refl
+  where
+    go : (d : Bool) → eqb i j ≡ d → numberAt f (place i) < getD tops (slotOf (usageAt f (place i))) 0
+    go true g = rw (eqb-true i j g, ← q) l
+    go false g = let p : i ≡ j → ⊥ = eqb-false _ _ g in b i (omega arith)

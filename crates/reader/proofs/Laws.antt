@@ -14,11 +14,11 @@ use Rattle.blorb.specs.Bytes.{rd32}
 use Rattle.blorb.specs.Tags.{tag, FORM, RIdx}
 use Rattle.blorb.specs.Format.{Chunk, Entry, Ref, refOf, size, sized, chunkIn, chunksIn, chunksOf, entryIn, entriesIn, entriesOf, isStart, placeOf}
 use Rattle.blorb.specs.Verdict.{Rules, Verdict, accept, refuse, _then_, check, noChunk, knownUsage, pairIn, refFault, entriesFault, secondIndex, indexFault, restFault, layoutFault, verdict}
-use Rattle.blorb.specs.Rules.{plain, plainRules, plainVerdict, picture, optional, chunkRules, chunkRule, single, typeIn}
+use Rattle.blorb.specs.Rules.{plainAllows, plainRules, plainVerdict, picture, optional, chunkRules, chunkRule, single, typeIn}
 use Rattle.blorb.specs.Tags.{Pict, Rect, RelN, Fspc}
-use Rattle.reader.specs.Walk.{chunkAt, nextAt, skipAt, chunksFrom, walkFrom, firstFault, Reached}
+use Rattle.reader.specs.Walk.{chunkFrom, nextAt, skipAt, chunksFrom, walkFrom, firstFault, Reached}
 use Rattle.blorb.specs.Verdict.{headFault}
-use Rattle.reader.specs.Plain.{ordinaryType, allPlain}
+use Rattle.reader.specs.Ordinary.{ordinaryType, allOrdinary}
 use Rattle.reader.proofs.ChunkLaws.{ordinary-not, fine, Fine, begun, Begun, resume, chunks-end, first-none}
 use Rattle.blorb.proofs.Checks.{pass, stop, holds-last, fails-last, accepts, refuses, then-accept, check-accept, and-both}
 use Rattle.blorb.proofs.Checks.{then-assoc}
@@ -30,7 +30,7 @@ use Rattle.reader.proofs.EntryLaws.{pair-snoc}
 use Rattle.reader.specs.declared.entries.Hit.{Hit}
 use Rattle.reader.specs.declared.entries.Hit.the-variants.{At, Nothing}
 use Rattle.reader.specs.Reading.{hitIn, pickHit, indexOf}
-use Rattle.reader.specs.Optional.{pictureBy, pictured, oneRule, rulesFrom, optionalFault, Judged}
+use Rattle.reader.specs.Optional.{pictureBy, pictured, oneRule, rulesFrom, optionalFault, EntriesPassed}
 
 -- parts of parts
 drop-take : (n k m : ℕ) (s : List ℕ) → k ≡ n + m → drop n (take k s) ≡ take m (drop n s)
@@ -60,7 +60,7 @@ unfolding entriesIn
 length-entriesIn zero s = refl
 length-entriesIn (suc n) s = ap suc (length-entriesIn n (drop 12 s))
 
-pub body-word : (f : List ℕ) (x : ℕ) → 4 ≤ rd32 (drop (x + 4) f) → rd32 (chunkAt f x .body) ≡ rd32 (drop (x + 8) f)
+pub body-word : (f : List ℕ) (x : ℕ) → 4 ≤ rd32 (drop (x + 4) f) → rd32 (chunkFrom f x .body) ≡ rd32 (drop (x + 8) f)
 unfolding chunkIn
 body-word f x l = rd32-take (rd32 (drop 4 (drop x f))) (drop 8 (drop x f)) (rw (drop-drop 4 x f) l) ∙ ap rd32 (drop-drop 8 x f)
 
@@ -69,15 +69,15 @@ pub record Shaped (f : List ℕ) (count : ℕ) : Type 0 where
   pub base : nextAt f 12 ≡ place count
   pub room : place count ≤ length f
   pub walks : walkFrom f (place count) ≡ accept
-  pub index : entriesOf (chunkAt f 12) ≡ entriesIn count (drop 24 f)
+  pub index : entriesOf (chunkFrom f 12) ≡ entriesIn count (drop 24 f)
   pub few : count ≤ 4096
-  pub chunks : chunksFrom f 12 ≡ chunkAt f 12 ∷ chunksFrom f (place count)
+  pub chunks : chunksFrom f 12 ≡ chunkFrom f 12 ∷ chunksFrom f (place count)
 
 module _ (f : List ℕ) (h : 12 < length f) (w : walkFrom f 12 ≡ accept) where
-  lb : length (chunkAt f 12 .body) ≡ rd32 (drop 16 f)
+  lb : length (chunkFrom f 12 .body) ≡ rd32 (drop 16 f)
   lb = fine f 12 h w .bodied
 
-  pub shape-short : rd32 (drop 16 f) < 4 → refuse 10 16 ≡ indexFault (chunkAt f 12 .body)
+  pub shape-short : rd32 (drop 16 f) < 4 → refuse 10 16 ≡ indexFault (chunkFrom f 12 .body)
   unfolding indexFault
   shape-short l = sym (stop _ _ _ _ (rw (lb, lt-leb 4 (rd32 (drop 16 f)) l)))
 
@@ -85,26 +85,26 @@ module _ (f : List ℕ) (h : 12 < length f) (w : walkFrom f 12 ≡ accept) where
   shape-room l = let i = fine f 12 h w in omega (arith, i .inside, i .next)
 
   module _ (l4 : 4 ≤ rd32 (drop 16 f)) where
-    word : rd32 (chunkAt f 12 .body) ≡ rd32 (drop 20 f)
+    word : rd32 (chunkFrom f 12 .body) ≡ rd32 (drop 20 f)
     word = body-word f 12 l4
 
-    pub shape-other : (rd32 (drop 16 f) ≡ 4 + 12 * rd32 (drop 20 f) → ⊥) → refuse 10 16 ≡ indexFault (chunkAt f 12 .body)
+    pub shape-other : (rd32 (drop 16 f) ≡ 4 + 12 * rd32 (drop 20 f) → ⊥) → refuse 10 16 ≡ indexFault (chunkFrom f 12 .body)
     unfolding indexFault
     shape-other n = sym (stop _ _ _ _ (rw (lb, word, le-leb 4 (rd32 (drop 16 f)) l4, ne-eqb (rd32 (drop 16 f)) (4 + 12 * rd32 (drop 20 f)) n)))
 
     module _ (e : rd32 (drop 16 f) ≡ 4 + 12 * rd32 (drop 20 f)) where
-      t10 : leb 4 (length (chunkAt f 12 .body)) && eqb (length (chunkAt f 12 .body)) (4 + 12 * rd32 (chunkAt f 12 .body)) ≡ true
+      t10 : leb 4 (length (chunkFrom f 12 .body)) && eqb (length (chunkFrom f 12 .body)) (4 + 12 * rd32 (chunkFrom f 12 .body)) ≡ true
       t10 = rw (lb, word, le-leb 4 (rd32 (drop 16 f)) l4, eq-eqb (rd32 (drop 16 f)) (4 + 12 * rd32 (drop 20 f)) e)
 
-      pub shape-many : 4096 < rd32 (drop 20 f) → refuse 11 20 ≡ indexFault (chunkAt f 12 .body)
+      pub shape-many : 4096 < rd32 (drop 20 f) → refuse 11 20 ≡ indexFault (chunkFrom f 12 .body)
       unfolding indexFault
       shape-many l = sym (pass _ _ _ _ t10 ∙ fails-last _ _ _ (rw word (lt-leb (rd32 (drop 20 f)) 4096 l)))
 
-      pub shape-good : rd32 (drop 20 f) ≤ 4096 → accept ≡ indexFault (chunkAt f 12 .body)
+      pub shape-good : rd32 (drop 20 f) ≤ 4096 → accept ≡ indexFault (chunkFrom f 12 .body)
       unfolding indexFault
       shape-good l = sym (pass _ _ _ _ t10 ∙ holds-last _ _ _ (rw word (le-leb (rd32 (drop 20 f)) 4096 l)))
 
-      index-is : entriesOf (chunkAt f 12) ≡ entriesIn (rd32 (drop 20 f)) (drop 24 f)
+      index-is : entriesOf (chunkFrom f 12) ≡ entriesIn (rd32 (drop 20 f)) (drop 24 f)
       unfolding entriesOf chunkIn
       index-is =
           let m : ℕ = rd32 (drop 16 f) in
@@ -114,16 +114,16 @@ module _ (f : List ℕ) (h : 12 < length f) (w : walkFrom f 12 ≡ accept) where
           ap (λ (k : ℕ). entriesIn k (drop 4 (take (rd32 (drop 4 (drop 12 f))) (drop 8 (drop 12 f))))) word
           ∙ ap (λ (d : List ℕ). entriesIn n (drop 4 d)) b ∙ ap (entriesIn n) a ∙ entries-take n (12 * n) (drop 24 f) (omega arith)
 
-  pub shaped : indexFault (chunkAt f 12 .body) ≡ accept → Shaped f (rd32 (drop 20 f))
+  pub shaped : indexFault (chunkFrom f 12 .body) ≡ accept → Shaped f (rd32 (drop 20 f))
   unfolding indexFault
   shaped ok =
       let p = then-accept _ _ ok in
       let q = and-both _ _ (check-accept _ _ _ (p .0)) in
-      let a : 4 ≤ length (chunkAt f 12 .body) = leb-true _ _ (q .0) in
+      let a : 4 ≤ length (chunkFrom f 12 .body) = leb-true _ _ (q .0) in
       let l4 : 4 ≤ rd32 (drop 16 f) = omega (arith, lb) in
-      let d : length (chunkAt f 12 .body) ≡ 4 + 12 * rd32 (chunkAt f 12 .body) = eqb-true _ _ (q .1) in
+      let d : length (chunkFrom f 12 .body) ≡ 4 + 12 * rd32 (chunkFrom f 12 .body) = eqb-true _ _ (q .1) in
       let e : rd32 (drop 16 f) ≡ 4 + 12 * rd32 (drop 20 f) = omega (arith, lb, word l4) in
-      let g : rd32 (chunkAt f 12 .body) ≤ 4096 = leb-true _ _ (check-accept _ _ _ (p .1)) in
+      let g : rd32 (chunkFrom f 12 .body) ≤ 4096 = leb-true _ _ (check-accept _ _ _ (p .1)) in
       let few : rd32 (drop 20 f) ≤ 4096 = omega (arith, word l4) in
       let i = fine f 12 h w in
       let b : nextAt f 12 ≡ place (rd32 (drop 20 f)) = sym (i .next) ∙ omega arith in
@@ -312,46 +312,46 @@ optional-is f count w h =
 
 -- one chunk of rule 7, by facts on its numbers
 module _ (pic : ℕ → Bool) (f : List ℕ) (a b : Bool) (at t m : ℕ) (h : at < length f) (w : walkFrom f at ≡ accept) (et : t ≡ rd32 (drop at f)) (em : m ≡ rd32 (drop (at + 4) f)) where
-  lm : length (chunkAt f at .body) ≡ m
+  lm : length (chunkFrom f at .body) ≡ m
   lm = fine f at h w .bodied ∙ sym em
 
-  by-type : oneRule pic a b at (chunkAt f at)
+  by-type : oneRule pic a b at (chunkFrom f at)
       ≡ cond (eqb t RelN) (check (not a) 17 at then check (eqb m 2) 18 (at + 4))
-      (cond (eqb t Fspc) ((check (not b) 17 at then check (eqb m 4) 18 (at + 4)) then check (pic (rd32 (chunkAt f at .body))) 19 (at + 8)) accept)
+      (cond (eqb t Fspc) ((check (not b) 17 at then check (eqb m 4) 18 (at + 4)) then check (pic (rd32 (chunkFrom f at .body))) 19 (at + 8)) accept)
   unfolding oneRule chunkIn
   by-type = rw (lm, ← et)
 
-  pub rule-none : (t ≡ RelN → ⊥) → (t ≡ Fspc → ⊥) → accept ≡ oneRule pic a b at (chunkAt f at)
+  pub rule-none : (t ≡ RelN → ⊥) → (t ≡ Fspc → ⊥) → accept ≡ oneRule pic a b at (chunkFrom f at)
   rule-none n1 n2 = sym (by-type ∙ rw (ne-eqb t RelN n1, ne-eqb t Fspc n2))
 
   module _ (e : t ≡ RelN) where
-    pub reln-17 : a ≡ true → refuse 17 at ≡ oneRule pic a b at (chunkAt f at)
+    pub reln-17 : a ≡ true → refuse 17 at ≡ oneRule pic a b at (chunkFrom f at)
     reln-17 p = sym (by-type ∙ rw (eq-eqb t RelN e) (stop _ _ _ _ (rw p)))
 
-    pub reln-18 : a ≡ false → (m ≡ 2 → ⊥) → refuse 18 (at + 4) ≡ oneRule pic a b at (chunkAt f at)
+    pub reln-18 : a ≡ false → (m ≡ 2 → ⊥) → refuse 18 (at + 4) ≡ oneRule pic a b at (chunkFrom f at)
     reln-18 p n = sym (by-type ∙ rw (eq-eqb t RelN e) (pass _ _ _ _ (rw p) ∙ fails-last _ _ _ (ne-eqb m 2 n)))
 
-    pub reln-good : a ≡ false → m ≡ 2 → accept ≡ oneRule pic a b at (chunkAt f at)
+    pub reln-good : a ≡ false → m ≡ 2 → accept ≡ oneRule pic a b at (chunkFrom f at)
     reln-good p n = sym (by-type ∙ rw (eq-eqb t RelN e) (pass _ _ _ _ (rw p) ∙ holds-last _ _ _ (eq-eqb m 2 n)))
 
   module _ (n1 : t ≡ RelN → ⊥) (e : t ≡ Fspc) where
-    fspc : oneRule pic a b at (chunkAt f at) ≡ check (not b) 17 at then (check (eqb m 4) 18 (at + 4) then check (pic (rd32 (chunkAt f at .body))) 19 (at + 8))
+    fspc : oneRule pic a b at (chunkFrom f at) ≡ check (not b) 17 at then (check (eqb m 4) 18 (at + 4) then check (pic (rd32 (chunkFrom f at .body))) 19 (at + 8))
     fspc = by-type ∙ rw (ne-eqb t RelN n1, eq-eqb t Fspc e) (then-assoc _ _ _)
 
-    pub fspc-17 : b ≡ true → refuse 17 at ≡ oneRule pic a b at (chunkAt f at)
+    pub fspc-17 : b ≡ true → refuse 17 at ≡ oneRule pic a b at (chunkFrom f at)
     fspc-17 p = sym (fspc ∙ stop _ _ _ _ (rw p))
 
-    pub fspc-18 : b ≡ false → (m ≡ 4 → ⊥) → refuse 18 (at + 4) ≡ oneRule pic a b at (chunkAt f at)
+    pub fspc-18 : b ≡ false → (m ≡ 4 → ⊥) → refuse 18 (at + 4) ≡ oneRule pic a b at (chunkFrom f at)
     fspc-18 p n = sym (fspc ∙ pass _ _ _ _ (rw p) ∙ stop _ _ _ _ (ne-eqb m 4 n))
 
     module _ (p : b ≡ false) (four : m ≡ 4) (n : ℕ) (en : n ≡ rd32 (drop (at + 8) f)) where
-      number : rd32 (chunkAt f at .body) ≡ n
+      number : rd32 (chunkFrom f at .body) ≡ n
       number = body-word f at (omega arith) ∙ sym en
 
-      pub fspc-19 : pic n ≡ false → refuse 19 (at + 8) ≡ oneRule pic a b at (chunkAt f at)
+      pub fspc-19 : pic n ≡ false → refuse 19 (at + 8) ≡ oneRule pic a b at (chunkFrom f at)
       fspc-19 q = sym (fspc ∙ pass _ _ _ _ (rw p) ∙ pass _ _ _ _ (eq-eqb m 4 four) ∙ fails-last _ _ _ (ap pic number ∙ q))
 
-      pub fspc-good : pic n ≡ true → accept ≡ oneRule pic a b at (chunkAt f at)
+      pub fspc-good : pic n ≡ true → accept ≡ oneRule pic a b at (chunkFrom f at)
       fspc-good q = sym (fspc ∙ pass _ _ _ _ (rw p) ∙ pass _ _ _ _ (eq-eqb m 4 four) ∙ holds-last _ _ _ (ap pic number ∙ q))
 
 -- the picture by the lookup's answer
@@ -376,33 +376,33 @@ module _ (pic : ℕ → Bool) (f : List ℕ) (a b : Bool) (at : ℕ) where
   rules-end h = rw (chunks-end f at h)
 
   module _ (h : at < length f) (w : walkFrom f at ≡ accept) where
-    turn : rulesFrom pic a b at (chunksFrom f at) ≡ oneRule pic a b at (chunkAt f at) then rulesFrom pic (a || eqb (rd32 (drop at f)) RelN) (b || eqb (rd32 (drop at f)) Fspc) (skipAt f at) (chunksFrom f (skipAt f at))
+    turn : rulesFrom pic a b at (chunksFrom f at) ≡ oneRule pic a b at (chunkFrom f at) then rulesFrom pic (a || eqb (rd32 (drop at f)) RelN) (b || eqb (rd32 (drop at f)) Fspc) (skipAt f at) (chunksFrom f (skipAt f at))
     unfolding rulesFrom chunkIn
     turn = let i = fine f at h w in rw (i .chunks, i .next)
 
-    pub rules-next : (t : ℕ) → t ≡ rd32 (drop at f) → oneRule pic a b at (chunkAt f at) ≡ accept
+    pub rules-next : (t : ℕ) → t ≡ rd32 (drop at f) → oneRule pic a b at (chunkFrom f at) ≡ accept
         → rulesFrom pic (a || eqb t RelN) (b || eqb t Fspc) (skipAt f at) (chunksFrom f (skipAt f at)) ≡ rulesFrom pic a b at (chunksFrom f at)
     rules-next t et e = rw et (sym (turn ∙ accepts _ _ e))
 
-    pub rules-stop : (k p : ℕ) → oneRule pic a b at (chunkAt f at) ≡ refuse k p → refuse k p ≡ rulesFrom pic a b at (chunksFrom f at)
+    pub rules-stop : (k p : ℕ) → oneRule pic a b at (chunkFrom f at) ≡ refuse k p → refuse k p ≡ rulesFrom pic a b at (chunksFrom f at)
     rules-stop k p e = sym (turn ∙ refuses _ _ _ _ e)
 
 -- the chunk of a hit
-pub hit-begun : (f : List ℕ) (count u n x : ℕ) → Judged f count → hitIn u n (entriesIn count (drop 24 f)) ≡ At x → (x < length f) × (walkFrom f x ≡ accept)
+pub hit-begun : (f : List ℕ) (count u n x : ℕ) → EntriesPassed f count → hitIn u n (entriesIn count (drop 24 f)) ≡ At x → (x < length f) × (walkFrom f x ≡ accept)
 unfolding entriesFrom earlier
 hit-begun f count u n x j e =
     let b = begun f x (place count) (j .walks) (hit-start f (place count) (j .walks) u n x (entriesIn count (drop 24 f)) [] 24 (j .entries) e) in
     (b .below, b .walks)
 
 -- where no chunk is optional
-pub plain-rules : (pic : ℕ → Bool) (cs : List Chunk) (a b : Bool) (at : ℕ) → allPlain cs ≡ true → rulesFrom pic a b at cs ≡ accept
-unfolding allPlain rulesFrom oneRule
-plain-rules pic [] a b at e = refl
-plain-rules pic (c ∷ cs) a b at e =
-    let q = and-both (ordinaryType (c .type)) (allPlain cs) e in
+pub ordinary-rules : (pic : ℕ → Bool) (cs : List Chunk) (a b : Bool) (at : ℕ) → allOrdinary cs ≡ true → rulesFrom pic a b at cs ≡ accept
+unfolding allOrdinary rulesFrom oneRule
+ordinary-rules pic [] a b at e = refl
+ordinary-rules pic (c ∷ cs) a b at e =
+    let q = and-both (ordinaryType (c .type)) (allOrdinary cs) e in
     let n = ordinary-not (c .type) (q .0) in
-    rw (n .1, n .2) (accepts _ _ refl ∙ plain-rules pic cs (a || false) (b || false) (at + size c) (q .1))
+    rw (n .1, n .2) (accepts _ _ refl ∙ ordinary-rules pic cs (a || false) (b || false) (at + size c) (q .1))
 
-pub plain-optional : (f : List ℕ) (count : ℕ) → allPlain (chunksFrom f (place count)) ≡ true → optionalFault f count ≡ accept
+pub ordinary-optional : (f : List ℕ) (count : ℕ) → allOrdinary (chunksFrom f (place count)) ≡ true → optionalFault f count ≡ accept
 unfolding optionalFault
-plain-optional f count e = plain-rules (pictured f count) (chunksFrom f (place count)) false false (place count) e
+ordinary-optional f count e = ordinary-rules (pictured f count) (chunksFrom f (place count)) false false (place count) e

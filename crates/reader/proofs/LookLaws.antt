@@ -16,8 +16,8 @@ use Rattle.blorb.specs.Rules.{plainRules, plainVerdict}
 use Rattle.blorb.specs.Model.{Model, base, model}
 use Rattle.blorb.specs.Queries.{find, noRef, refAt, start}
 use Rattle.blorb.specs.Lookup.{missing, here, lookIn, lookup}
-use Rattle.blorb.proofs.Places.{startAt-placeOf}
-use Rattle.reader.specs.Walk.{chunkAt, chunksFrom, walkFrom}
+use Rattle.blorb.proofs.Places.{startOf-placeOf}
+use Rattle.reader.specs.Walk.{chunkFrom, chunksFrom, walkFrom}
 use Rattle.reader.specs.Entries.{startAt, place, pairPlace}
 use Rattle.reader.specs.Reading.{hitIn, foundBy, lookupOf, partOf}
 use Rattle.reader.specs.declared.entries.Hit.the-variants.{At}
@@ -67,15 +67,15 @@ pair-found u n (r ∷ rs) = go (eqb (r .usage) u && eqb (r .number) n) (pair-fou
     go false ih = ih ∙ sym (ltb-suc (find u n rs) (length rs))
 
 -- the data of the chunk at x
-pub body-at : (f : List ℕ) (x m : ℕ) → m ≡ rd32 (drop (x + 4) f) → take m (drop (x + 8) f) ≡ chunkAt f x .body
+pub body-at : (f : List ℕ) (x m : ℕ) → m ≡ rd32 (drop (x + 4) f) → take m (drop (x + 8) f) ≡ chunkFrom f x .body
 unfolding chunkIn
 body-at f x m e = rw (e, drop-drop 4 x f, drop-drop 8 x f)
 
 -- a lookup finds the chunk that starts at x, or nothing
 pub record There (f : List ℕ) (u n x : ℕ) : Type 0 where
-  pub found : lookupOf f u n ≡ Found (chunkAt f x .type) (x + 8) (length (chunkAt f x .body))
-  pub part : partOf (lookupOf f u n) f ≡ chunkAt f x .body
-  pub looked : lookup (model f) u n ≡ here (chunkAt f x)
+  pub found : lookupOf f u n ≡ Found (chunkFrom f x .type) (x + 8) (length (chunkFrom f x .body))
+  pub part : partOf (lookupOf f u n) f ≡ chunkFrom f x .body
+  pub looked : lookup (model f) u n ≡ here (chunkFrom f x)
   pub begins : start (model f) (refAt (model f) (find u n (model f .refs)) .chunk) ≡ x
   pub pair : pairIn u n (model f .refs) ≡ true
 
@@ -101,16 +101,16 @@ module _ (f : List ℕ) (u n : ℕ) (h : plainVerdict f ≡ accept) where
       let count : ℕ = rd32 (drop 20 f) in
       let x : ℕ = startAt f (place at-place) in
       let b = entry-begun f count at-place (g .passed) l in
-      let found : lookupOf f u n ≡ Found (chunkAt f x .type) (x + 8) (length (chunkAt f x .body))
+      let found : lookupOf f u n ≡ Found (chunkFrom f x .type) (x + 8) (length (chunkFrom f x .body))
       = look-on f u n count g ∙ ap (foundBy f) (sym (find-at f u n count at-place refl l x refl)) in
       let r : find u n (model f .refs) < length (model f .refs) = rw (find-is, many-is) l in
       let k : refAt (model f) (find u n (model f .refs)) .chunk ≡ placeOf x (place count) (chunksFrom f (place count)) = rw (find-is, g .model) (chunk-of f count at-place (g .passed) l) in
       let cs : model f .chunks ≡ chunksFrom f (place count) = ap (λ (m : Model). m .chunks) (g .model) in
       record {
         found = found;
-        part = ap (λ (a : Looked). partOf a f) found ∙ body-at f x (length (chunkAt f x .body)) (fine f x (b .below) (b .walks) .bodied);
+        part = ap (λ (a : Looked). partOf a f) found ∙ body-at f x (length (chunkFrom f x .body)) (fine f x (b .below) (b .walks) .bodied);
         looked = look-at (model f .chunks) u n (model f .refs) r ∙ rw (k, cs) (ap here (b .chunk));
-        begins = rw (k, cs, many-is) (startAt-placeOf x (place count) (chunksFrom f (place count)) (begins-there f count at-place (g .passed) l) .0);
+        begins = rw (k, cs, many-is) (startOf-placeOf x (place count) (chunksFrom f (place count)) (begins-there f count at-place (g .passed) l) .0);
         pair = pair-found u n (model f .refs) ∙ lt-ltb _ _ r;
       }
 

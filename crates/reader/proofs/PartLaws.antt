@@ -12,22 +12,22 @@ use lib.Dec.{eqb, ltb}
 use borrow.Author.Tests.{eq-eqb, ne-eqb, eqb-true, eqb-false, lt-ltb, le-ltb}
 use Rattle.blorb.specs.Bytes.{rd32}
 use Rattle.blorb.specs.Format.{Chunk, Entry, Ref, refOf, size, chunkIn, entryIn, entriesIn, isStart, placeOf}
-use Rattle.blorb.specs.Verdict.{accept, refuse, _then_, noChunk}
+use Rattle.blorb.specs.Verdict.{Verdict, accept, refuse, _then_, noChunk}
 use Rattle.blorb.specs.Rules.{plainRules, plainVerdict, typeIn}
 use Rattle.blorb.specs.Tags.{RelN, Fspc}
 use Rattle.blorb.specs.Model.{base, model}
-use Rattle.blorb.specs.Model.{startAt as chunkStart}
+use Rattle.blorb.specs.Model.{startOf}
 use Rattle.blorb.specs.Queries.{find, uses, without, noRef, refAt, shared, start, frontPlace}
 use Rattle.blorb.specs.All.{All}
 use Rattle.blorb.proofs.AllLaws.{all-getD}
-use Rattle.blorb.proofs.Places.{startAt-zero, startAt-suc, startAt-placeOf}
+use Rattle.blorb.proofs.Places.{startOf-zero, startOf-suc, startOf-placeOf}
 use Rattle.blorb.proofs.Accept.{starts-ok}
 use Rattle.blorb.proofs.Checks.{then-accept, check-accept, and-both}
-use Rattle.reader.specs.Walk.{chunkAt, skipAt, chunksFrom, walkFrom}
-use Rattle.reader.specs.Plain.{ordinaryType, allPlain}
+use Rattle.reader.specs.Walk.{chunkFrom, skipAt, chunksFrom, walkFrom}
+use Rattle.reader.specs.Ordinary.{ordinaryType, allOrdinary}
 use Rattle.reader.specs.Entries.{startAt, place, entriesFrom, earlier, pairPlace, startAgain}
 use Rattle.reader.specs.Optional.{oneRule, rulesFrom, optionalFault}
-use Rattle.reader.specs.Passed.{Judges, Passed, modelAt, Fronts, pickFront, frontFrom}
+use Rattle.reader.specs.Passed.{Judges, JudgesEntries, Passed, modelAt, Fronts, pickFront, frontFrom}
 use Rattle.reader.specs.Inspecting.{pieceOf, targetBy, targetOf, frontBy, frontOf, factsOf, inspectionOf}
 use Rattle.reader.specs.declared.Piece.{Piece}
 use Rattle.reader.specs.declared.Target.{Target}
@@ -39,7 +39,7 @@ use Rattle.reader.specs.declared.Inspection.the-variants as inspection
 use Rattle.reader.specs.declared.Judgement.{Judgement}
 use Rattle.reader.specs.declared.Judgement.the-variants as judgement
 use Rattle.reader.specs.declared.Reading.the-variants.{Accepted, Refused}
-use Rattle.reader.specs.Reading.{readOf}
+use Rattle.reader.specs.Reading.{readBy, readOf}
 use Rattle.reader.proofs.AskLaws.{Good}
 use Rattle.reader.proofs.ChunkLaws.{fine, begun, Begun, chunks-end, start-ge, ordinary-not}
 use Rattle.reader.proofs.Laws.{length-entriesIn, entry-getD, body-word}
@@ -90,7 +90,7 @@ same-place a b at cs ha hb = go (eqb a b) refl
     go : (t : Bool) → eqb a b ≡ t → t ≡ eqb (placeOf a at cs) (placeOf b at cs)
     go true e = sym (eq-eqb _ _ (ap (λ (x : ℕ). placeOf x at cs) (eqb-true a b e)))
     go false e =
-        sym (ne-eqb _ _ (λ q. eqb-false a b e (sym (startAt-placeOf a at cs ha .0) ∙ ap (chunkStart at cs) q ∙ startAt-placeOf b at cs hb .0)))
+        sym (ne-eqb _ _ (λ q. eqb-false a b e (sym (startOf-placeOf a at cs ha .0) ∙ ap (startOf at cs) q ∙ startOf-placeOf b at cs hb .0)))
 
 -- so an entry's chunk is shared exactly if its start stands again
 module _ (at : ℕ) (cs : List Chunk) (x i : ℕ) (s : isStart x at cs ≡ true) where
@@ -154,8 +154,8 @@ module _ (f : List ℕ) (count i : ℕ) (g : Passed f count) (h : i < count) whe
       let b : Begun f (startAt f (place i)) (getD cs (placeOf (startAt f (place i)) (place count) cs) noChunk) = entry-begun in
       let k : refAt (modelAt f count) i .chunk ≡ placeOf x (place count) cs = chunk-of ∙ ap (λ (y : ℕ). placeOf y (place count) cs) (sym ex) in
       let s : isStart x (place count) cs ≡ true = rw ex begins-there in
-      let c : getD cs (placeOf x (place count) cs) noChunk ≡ chunkAt f x = rw ex (b .chunk) in
-      let es : x ≡ start (modelAt f count) (refAt (modelAt f count) i .chunk) = rw (k, refs-count f count) (sym (startAt-placeOf x (place count) cs s .0)) in
+      let c : getD cs (placeOf x (place count) cs) noChunk ≡ chunkFrom f x = rw ex (b .chunk) in
+      let es : x ≡ start (modelAt f count) (refAt (modelAt f count) i .chunk) = rw (k, refs-count f count) (sym (startOf-placeOf x (place count) cs s .0)) in
       let ek : t ≡ getD cs (refAt (modelAt f count) i .chunk) noChunk .type = rw (k, c) et in
       let el : m ≡ length (getD cs (refAt (modelAt f count) i .chunk) noChunk .body) = rw (k, c, fine f x (rw ex (b .below)) (rw ex (b .walks)) .bodied) em in
       let eg : again ≡ shared (modelAt f count) i = ea ∙ (rw k (others (place count) cs x i s i 0 (entriesIn count (drop 24 f)) (starts f count g) (omega arith))) in
@@ -187,7 +187,7 @@ module _ (f : List ℕ) (at : ℕ) where
   front-end h = rw (chunks-end f at h)
 
   module _ (h : at < length f) (w : walkFrom f at ≡ accept) (r : Fronts (chunksFrom f at)) where
-    fronts-on : (rd32 (drop at f) ≡ Fspc → length (chunkAt f at .body) ≡ 4) × Fronts (chunksFrom f (skipAt f at))
+    fronts-on : (rd32 (drop at f) ≡ Fspc → length (chunkFrom f at .body) ≡ 4) × Fronts (chunksFrom f (skipAt f at))
     unfolding chunkIn
     fronts-on = let i = fine f at h w in rw (i .next) (rw (i .chunks) at r)
 
@@ -195,15 +195,15 @@ module _ (f : List ℕ) (at : ℕ) where
       pub front-room : t ≡ Fspc → at + 12 ≤ length f
       front-room e =
           let i = fine f at h w in
-          let l : length (chunkAt f at .body) ≡ 4 = fronts-on .0 (sym et ∙ e) in
+          let l : length (chunkFrom f at .body) ≡ 4 = fronts-on .0 (sym et ∙ e) in
           omega (arith, i .inside, i .next, i .bodied)
 
       pub front-hit : t ≡ Fspc → (n : ℕ) → n ≡ rd32 (drop (at + 8) f) → front.At at n ≡ frontFrom at (chunksFrom f at)
       unfolding frontFrom chunkIn
       front-hit e n en =
           let i = fine f at h w in
-          let l : length (chunkAt f at .body) ≡ 4 = fronts-on .0 (sym et ∙ e) in
-          let q : rd32 (chunkAt f at .body) ≡ n = body-word f at (omega (arith, i .bodied)) ∙ sym en in
+          let l : length (chunkFrom f at .body) ≡ 4 = fronts-on .0 (sym et ∙ e) in
+          let q : rd32 (chunkFrom f at .body) ≡ n = body-word f at (omega (arith, i .bodied)) ∙ sym en in
           rw (i .chunks, ← et, eq-eqb t Fspc e) (ap (front.At at) (sym q))
 
       pub front-next : (t ≡ Fspc → ⊥) → (Fronts (chunksFrom f (skipAt f at))) × (frontFrom (skipAt f at) (chunksFrom f (skipAt f at)) ≡ frontFrom at (chunksFrom f at))
@@ -230,7 +230,7 @@ passed-fronts f count g = rules-fronts _ false false (place count) (chunksFrom f
 
 -- the first frontispiece is the model's
 abbrev frontIn : Bool → ℕ → List Chunk → ℕ → Front
-frontIn true at cs k = front.At (chunkStart at cs k) (rd32 (getD cs k noChunk .body))
+frontIn true at cs k = front.At (startOf at cs k) (rd32 (getD cs k noChunk .body))
 frontIn false at cs k = front.Nothing
 
 front-first : (at : ℕ) (cs : List Chunk) → frontFrom at cs ≡ frontIn (typeIn Fspc cs) at cs (frontPlace cs)
@@ -240,8 +240,8 @@ front-first at (c ∷ cs) = go (eqb (c .type) Fspc) (typeIn Fspc cs) (front-firs
   where
     go : (b t : Bool) → frontFrom (at + size c) cs ≡ frontIn t (at + size c) cs (frontPlace cs)
         → pickFront b at (rd32 (c .body)) (frontFrom (at + size c) cs) ≡ frontIn (b || t) at (c ∷ cs) (cond b 0 (suc (frontPlace cs)))
-    go true t ih = ap (λ (x : ℕ). front.At x (rd32 (c .body))) (sym (startAt-zero at (c ∷ cs)))
-    go false true ih = ih ∙ ap (λ (x : ℕ). front.At x (rd32 (getD cs (frontPlace cs) noChunk .body))) (sym (startAt-suc at c cs (frontPlace cs)))
+    go true t ih = ap (λ (x : ℕ). front.At x (rd32 (c .body))) (sym (startOf-zero at (c ∷ cs)))
+    go false true ih = ih ∙ ap (λ (x : ℕ). front.At x (rd32 (getD cs (frontPlace cs) noChunk .body))) (sym (startOf-suc at c cs (frontPlace cs)))
     go false false ih = ih
 
 front-model : (b : Bool) (f : List ℕ) (count : ℕ) → frontIn b (place count) (chunksFrom f (place count)) (frontPlace (chunksFrom f (place count))) ≡ frontBy b (modelAt f count)
@@ -253,16 +253,16 @@ pub front-is : (f : List ℕ) (count : ℕ) → frontFrom (place count) (chunksF
 unfolding frontOf
 front-is f count = front-first (place count) (chunksFrom f (place count)) ∙ front-model (typeIn Fspc (chunksFrom f (place count))) f count
 
-plain-fronts : (cs : List Chunk) → allPlain cs ≡ true → typeIn Fspc cs ≡ false
-unfolding allPlain typeIn
-plain-fronts [] e = refl
-plain-fronts (c ∷ cs) e =
-    let q = and-both (ordinaryType (c .type)) (allPlain cs) e in
-    rw (ordinary-not (c .type) (q .0) .2) (plain-fronts cs (q .1))
+ordinary-fronts : (cs : List Chunk) → allOrdinary cs ≡ true → typeIn Fspc cs ≡ false
+unfolding allOrdinary typeIn
+ordinary-fronts [] e = refl
+ordinary-fronts (c ∷ cs) e =
+    let q = and-both (ordinaryType (c .type)) (allOrdinary cs) e in
+    rw (ordinary-not (c .type) (q .0) .2) (ordinary-fronts cs (q .1))
 
-pub front-plain : (f : List ℕ) (count : ℕ) → allPlain (chunksFrom f (place count)) ≡ true → front.Nothing ≡ frontOf (modelAt f count)
+pub front-ordinary : (f : List ℕ) (count : ℕ) → allOrdinary (chunksFrom f (place count)) ≡ true → front.Nothing ≡ frontOf (modelAt f count)
 unfolding frontOf
-front-plain f count e = rw (plain-fronts (chunksFrom f (place count)) e)
+front-ordinary f count e = rw (ordinary-fronts (chunksFrom f (place count)) e)
 
 -- no chunk begins before the first one
 pub before-base : (x at : ℕ) (cs : List Chunk) → x < at → false ≡ isStart x at cs
@@ -284,9 +284,20 @@ facts-are f count u n x t r b et er eb =
 
 -- the verdict of a judgement, and the inspection by it
 module _ (f : List ℕ) where
-  pub judged-good : (r : Judgement) (n : ℕ) (plain : Bool) → Judges r f → r ≡ judgement.Good n plain
-      → (readOf f ≡ Accepted (length f) n) × (plain ≡ true → allPlain (chunksFrom f (place n)) ≡ true)
-  judged-good r n plain j e = let q : Judges (judgement.Good n plain) f = rw e at j in (sym (q .0), q .1)
+  -- what is left once refusals 1 to 16 are ruled out
+  pub entries-no : (r : Judgement) (k p : ℕ) → JudgesEntries r f → r ≡ judgement.Refused k p → Refused k p ≡ readOf f
+  entries-no r k p j e = rw e at j
+
+  pub entries-good : (r : Judgement) (n : ℕ) (ordinary : Bool) → JudgesEntries r f → r ≡ judgement.Good n ordinary → JudgesEntries (judgement.Good n ordinary) f
+  entries-good r n ordinary j e = rw e at j
+
+  -- 17 to 19 decide
+  pub rest-is : (n : ℕ) (v : Verdict) → readBy (optionalFault f n) (length f) n ≡ readOf f → optionalFault f n ≡ v → readBy v (length f) n ≡ readOf f
+  rest-is n v q e = ap (λ (x : Verdict). readBy x (length f) n) (sym e) ∙ q
+
+  pub judged-good : (r : Judgement) (n : ℕ) (ordinary : Bool) → Judges r f → r ≡ judgement.Good n ordinary
+      → (readOf f ≡ Accepted (length f) n) × (ordinary ≡ true → allOrdinary (chunksFrom f (place n)) ≡ true)
+  judged-good r n ordinary j e = let q : Judges (judgement.Good n ordinary) f = rw e at j in (sym (q .0), q .1)
 
   pub judged-no : (r : Judgement) (k p : ℕ) → Judges r f → r ≡ judgement.Refused k p → readOf f ≡ Refused k p
   judged-no r k p j e = let q : Judges (judgement.Refused k p) f = rw e at j in sym q

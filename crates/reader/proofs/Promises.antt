@@ -11,21 +11,22 @@ use Rattle.blorb.specs.Format.{Chunk, entriesIn}
 use Rattle.blorb.specs.Verdict.{accept, refuse, headFault, verdict, entriesFault, pairIn}
 use Rattle.blorb.proofs.Checks.{stop, refuses}
 use Rattle.blorb.specs.Rules.{plainRules, plainVerdict}
-use Rattle.blorb.specs.Model as M
-use Rattle.blorb.specs.Model.{base, file, model}
+use Rattle.blorb.specs.Model.{base, entryOf, file, model}
 use Rattle.blorb.specs.Queries.{find, refAt, start}
 use Rattle.blorb.specs.Lookup.{missing, here, lookup}
 use Rattle.blorb.specs.declared.Usage.{Usage}
 use Rattle.blorb.specs.All.{All}
-use Rattle.blorb.proofs.Sound.{Sound}
+use Rattle.blorb.specs.Sound.{Sound}
 use Rattle.blorb.specs.Bytes.{Byte}
+use Rattle.blorb.specs.Keeps.{KeepsRules}
 use Rattle.blorb.proofs.Accept.{accept-back, entryOf-refOf}
+use Rattle.blorb.proofs.Exactly.{exactly}
 use Rattle.blorb.proofs.ModelLaws.{entries}
-use Rattle.reader.specs.Walk.{chunkAt, chunksFrom}
+use Rattle.reader.specs.Walk.{chunkFrom, chunksFrom}
 use Rattle.reader.specs.Entries.{place, entriesFrom, earlier}
-use Rattle.reader.specs.Optional.{Judged}
+use Rattle.reader.specs.Optional.{EntriesPassed}
 use Rattle.reader.specs.Passed.{modelAt}
-use Rattle.reader.specs.Reading.{indexOf, readOf, noEntry, entryOf, hitIn, lookupOf, partOf}
+use Rattle.reader.specs.Reading.{indexOf, readOf, noEntry, askedOf, hitIn, lookupOf, partOf}
 use Rattle.reader.specs.declared.Reading.the-variants.{Accepted, Refused}
 use Rattle.reader.specs.declared.Asked.the-variants.{Given}
 use Rattle.reader.specs.declared.entries.Hit.the-variants.{At}
@@ -62,6 +63,14 @@ accepted-when f h =
     let m : length (indexOf f) ≡ length (model f .refs) = g .many ∙ sym (rw (g .model) (refs-count f (rd32 (drop 20 f)))) in
     rw h (ap (Accepted (length f)) m)
 
+-- the reader accepts a file exactly when it keeps 01's rules
+pub accepts-exactly : (f : List ℕ) → All Byte f
+    → ((l n : ℕ) → readOf f ≡ Accepted l n → KeepsRules plainRules f) × (KeepsRules plainRules f → readOf f ≡ Accepted (length f) (length (model f .refs)))
+unfolding plainVerdict
+accepts-exactly f bytes =
+    let e = exactly plainRules f bytes in
+    (λ l n r. e .0 (accepted-is f l n r .2), λ k. accepted-when f (e .1 k))
+
 -- the reader refuses exactly as the verdict does
 pub refused-is : (f : List ℕ) (k p : ℕ) → (readOf f ≡ Refused k p → plainVerdict f ≡ refuse k p) × (plainVerdict f ≡ refuse k p → readOf f ≡ Refused k p)
 refused-is f k p = (λ e. refused-as f k p e, λ e. sym (refused f k p e))
@@ -77,13 +86,13 @@ unfolding base
 index-is f h =
     let g = good f h in
     let count : ℕ = rd32 (drop 20 f) in
-    let e : map (M.entryOf (place count) (chunksFrom f (place count))) (modelAt f count .refs) ≡ entriesIn count (drop 24 f)
+    let e : map (entryOf (place count) (chunksFrom f (place count))) (modelAt f count .refs) ≡ entriesIn count (drop 24 f)
     = entryOf-refOf (place count) (chunksFrom f (place count)) (entriesIn count (drop 24 f)) (starts f count (g .passed)) in
     rw (g .model, refs-count f count) (g .index ∙ sym e)
 
--- entry i of an accepted file is given, with one of the four usages: 12 is no answer of its
+-- entry i of an accepted file is given, with one of the four usages, so 12 is never the answer
 pub entry-given : (f : List ℕ) (i : ℕ) → plainVerdict f ≡ accept → i < length (indexOf f)
-    → (x : Usage) × (entryOf f i ≡ Given (record { usage = x; number = getD (indexOf f) i noEntry .number; start = getD (indexOf f) i noEntry .start }))
+    → (x : Usage) × (askedOf f i ≡ Given (record { usage = x; number = getD (indexOf f) i noEntry .number; start = getD (indexOf f) i noEntry .start }))
 unfolding entriesFrom earlier
 entry-given f i h l =
     let g = good f h in
@@ -93,24 +102,24 @@ entry-given f i h l =
 
 -- an entry of the index with the pair (u, n) and the start x: the lookup gives the chunk at x, and the part is that chunk's data
 pub lookup-found : (f : List ℕ) (u n i x : ℕ) → plainVerdict f ≡ accept → i < length (indexOf f) → getD (indexOf f) i noEntry ≡ record { usage = u; number = n; start = x }
-    → (lookupOf f u n ≡ Found (chunkAt f x .type) (x + 8) (length (chunkAt f x .body))) × (partOf (lookupOf f u n) f ≡ chunkAt f x .body)
+    → (lookupOf f u n ≡ Found (chunkFrom f x .type) (x + 8) (length (chunkFrom f x .body))) × (partOf (lookupOf f u n) f ≡ chunkFrom f x .body)
 unfolding lookupOf entriesFrom earlier
 lookup-found f u n i x h l e =
     let g = good f h in
     let count : ℕ = rd32 (drop 20 f) in
-    let j : Judged f count = g .passed .judged in
+    let j : EntriesPassed f count = g .passed .judged in
     let es : entriesFault plainRules (place count) (chunksFrom f (place count)) [] 24 (indexOf f) ≡ accept = rw (g .index) (j .entries) in
     let a : hitIn u n (indexOf f) ≡ At x = rw e at (only-hit f (place count) (j .walks) (indexOf f) [] 24 i noEntry es l) in
     let b = begun f x (place count) (j .walks) (hit-start f (place count) (j .walks) u n x (indexOf f) [] 24 es a) in
-    let found : lookupOf f u n ≡ Found (chunkAt f x .type) (x + 8) (length (chunkAt f x .body)) = rw (h, a) in
-    (found, ap (λ (r : Looked). partOf r f) found ∙ body-at f x (length (chunkAt f x .body)) (fine f x (b .below) (b .walks) .bodied))
+    let found : lookupOf f u n ≡ Found (chunkFrom f x .type) (x + 8) (length (chunkFrom f x .body)) = rw (h, a) in
+    (found, ap (λ (r : Looked). partOf r f) found ∙ body-at f x (length (chunkFrom f x .body)) (fine f x (b .below) (b .walks) .bodied))
 
 -- a lookup over the model finds the chunk c: the reader's lookup gives its type, where its data starts and how long it is, and the part is its data
 pub lookup-here : (f : List ℕ) (u n : ℕ) → plainVerdict f ≡ accept → (c : Chunk) → lookup (model f) u n ≡ here c
     → (lookupOf f u n ≡ Found (c .type) (start (model f) (refAt (model f) (find u n (model f .refs)) .chunk) + 8) (length (c .body))) × (partOf (lookupOf f u n) f ≡ c .body)
 lookup-here f u n h c e =
     either f u n h ((lookupOf f u n ≡ Found (c .type) (start (model f) (refAt (model f) (find u n (model f .refs)) .chunk) + 8) (length (c .body))) × (partOf (lookupOf f u n) f ≡ c .body))
-    (λ x t. let q : chunkAt f x ≡ c = cc (t .looked, e) in (rw (t .begins, ← q) (t .found), t .part ∙ ap (λ (k : Chunk). k .body) q))
+    (λ x t. let q : chunkFrom f x ≡ c = cc (t .looked, e) in (rw (t .begins, ← q) (t .found), t .part ∙ ap (λ (k : Chunk). k .body) q))
     (λ a. let z : _≡_ {A = ℕ} 0 1 = cc (a .looked, e) in absurd (omega arith))
 
 -- it finds nothing: the reader's lookup is refused with 22

@@ -12,7 +12,7 @@ use Rattle.blorb.specs.Tags.{RIdx}
 use Rattle.blorb.specs.Format.{Chunk, Entry, Ref, refOf, size, chunkIn, chunksIn, chunksOf, entriesIn, entriesOf}
 use Rattle.blorb.specs.Verdict.{Verdict, accept, refuse, _then_, check, noChunk, entriesFault, secondIndex, indexFault, restFault, layoutFault, verdict}
 use Rattle.blorb.specs.Rules.{plainRules, plainVerdict, optional}
-use Rattle.reader.specs.Walk.{chunkAt, nextAt, skipAt, chunksFrom, walkFrom, firstFault}
+use Rattle.reader.specs.Walk.{chunkFrom, nextAt, skipAt, chunksFrom, walkFrom, firstFault}
 use Rattle.blorb.specs.Verdict.{headFault}
 use Rattle.blorb.proofs.Checks.{accepts, refuses, then-accept, check-accept, and-both}
 use Rattle.blorb.proofs.Checks.{then-assoc}
@@ -22,8 +22,8 @@ use Rattle.reader.specs.declared.Reading.{Reading}
 use Rattle.reader.specs.declared.Reading.the-variants.{Accepted, Refused}
 use Rattle.reader.specs.Reading.{indexOf, readBy, readOf}
 use Rattle.blorb.specs.Model.{base, model, modelOf}
-use Rattle.reader.specs.Plain.{allPlain}
-use Rattle.reader.specs.Optional.{optionalFault, Judged}
+use Rattle.reader.specs.Ordinary.{allOrdinary}
+use Rattle.reader.specs.Optional.{optionalFault, EntriesPassed}
 use Rattle.reader.specs.Passed.{modelAt}
 use Rattle.reader.proofs.Laws.{Shaped, shaped, length-entriesIn, optional-is}
 
@@ -45,19 +45,19 @@ module _ (f : List ℕ) where
   chunks-is = refl
 
   layout-long : walkFrom f 12 ≡ accept → 12 < length f
-      → layoutFault plainRules (chunksFrom f 12) ≡ firstFault f then restFault plainRules (chunkAt f 12) (chunksFrom f (nextAt f 12))
+      → layoutFault plainRules (chunksFrom f 12) ≡ firstFault f then restFault plainRules (chunkFrom f 12) (chunksFrom f (nextAt f 12))
   unfolding layoutFault firstFault chunkIn
   layout-long w h = rw (fine f 12 h w .chunks, lt-ltb 12 (length f) h)
 
   layout-short : length f ≤ 12
-      → layoutFault plainRules (chunksFrom f 12) ≡ firstFault f then restFault plainRules (chunkAt f 12) (chunksFrom f (nextAt f 12))
+      → layoutFault plainRules (chunksFrom f 12) ≡ firstFault f then restFault plainRules (chunkFrom f 12) (chunksFrom f (nextAt f 12))
   unfolding layoutFault
   layout-short h = rw (chunks-end f 12 h) (sym (refuses (firstFault f) _ 8 12 (sym (first-none f h))))
 
-  pub layout : walkFrom f 12 ≡ accept → layoutFault plainRules (chunksOf f) ≡ firstFault f then restFault plainRules (chunkAt f 12) (chunksFrom f (nextAt f 12))
+  pub layout : walkFrom f 12 ≡ accept → layoutFault plainRules (chunksOf f) ≡ firstFault f then restFault plainRules (chunkFrom f 12) (chunksFrom f (nextAt f 12))
   layout w = rw chunks-is (go (ltb 12 (length f)) refl)
     where
-      go : (b : Bool) → ltb 12 (length f) ≡ b → layoutFault plainRules (chunksFrom f 12) ≡ firstFault f then restFault plainRules (chunkAt f 12) (chunksFrom f (nextAt f 12))
+      go : (b : Bool) → ltb 12 (length f) ≡ b → layoutFault plainRules (chunksFrom f 12) ≡ firstFault f then restFault plainRules (chunkFrom f 12) (chunksFrom f (nextAt f 12))
       go true e = layout-long w (ltb-true _ _ e)
       go false e = layout-short (ltb-false _ _ e)
 
@@ -69,7 +69,7 @@ module _ (f : List ℕ) where
     read-2 k p e = refused k p (whole ∙ accepts _ _ h1 ∙ refuses _ _ _ _ e)
 
     module _ (h2 : walkFrom f 12 ≡ accept) where
-      v2 : plainVerdict f ≡ firstFault f then restFault plainRules (chunkAt f 12) (chunksFrom f (nextAt f 12))
+      v2 : plainVerdict f ≡ firstFault f then restFault plainRules (chunkFrom f 12) (chunksFrom f (nextAt f 12))
       v2 = whole ∙ accepts _ _ h1 ∙ accepts _ _ h2 ∙ layout h2
 
       pub read-3 : (k p : ℕ) → firstFault f ≡ refuse k p → Refused k p ≡ readOf f
@@ -79,9 +79,9 @@ module _ (f : List ℕ) where
         en : b ≡ nextAt f 12
         en = eb ∙ fine f 12 (first-long h3) h2 .next
 
-        pub v3 : plainVerdict f ≡ secondIndex b (chunksFrom f b) then (indexFault (chunkAt f 12 .body)
-            then (entriesFault plainRules b (chunksFrom f b) [] 24 (entriesOf (chunkAt f 12))
-            then optional b (map (refOf b (chunksFrom f b)) (entriesOf (chunkAt f 12))) (chunksFrom f b)))
+        pub v3 : plainVerdict f ≡ secondIndex b (chunksFrom f b) then (indexFault (chunkFrom f 12 .body)
+            then (entriesFault plainRules b (chunksFrom f b) [] 24 (entriesOf (chunkFrom f 12))
+            then optional b (map (refOf b (chunksFrom f b)) (entriesOf (chunkFrom f 12))) (chunksFrom f b)))
         unfolding restFault
         v3 = rw en (v2 ∙ accepts _ _ h3)
 
@@ -89,10 +89,10 @@ module _ (f : List ℕ) where
         read-4 k p e = refused k p (v3 ∙ refuses _ _ _ _ e)
 
         module _ (h4 : secondIndex b (chunksFrom f b) ≡ accept) where
-          pub read-5 : (k p : ℕ) → indexFault (chunkAt f 12 .body) ≡ refuse k p → Refused k p ≡ readOf f
+          pub read-5 : (k p : ℕ) → indexFault (chunkFrom f 12 .body) ≡ refuse k p → Refused k p ≡ readOf f
           read-5 k p e = refused k p (v3 ∙ accepts _ _ h4 ∙ refuses _ _ _ _ e)
 
-          module _ (h5 : indexFault (chunkAt f 12 .body) ≡ accept) (count : ℕ) (ec : count ≡ rd32 (drop 20 f)) where
+          module _ (h5 : indexFault (chunkFrom f 12 .body) ≡ accept) (count : ℕ) (ec : count ≡ rd32 (drop 20 f)) where
             pub is-shaped : Shaped f count
             is-shaped = rw ec (shaped f (first-long h3) h2 h5)
 
@@ -101,11 +101,11 @@ module _ (f : List ℕ) where
             unfolding entriesFrom earlier
             v5 =
                 let eb2 : b ≡ place count = en ∙ is-shaped .base in
-                let es : entriesOf (chunkAt f 12) ≡ entriesIn count (drop 24 f) = is-shaped .index in
+                let es : entriesOf (chunkFrom f 12) ≡ entriesIn count (drop 24 f) = is-shaped .index in
                 rw (eb2, es) at (v3 ∙ accepts _ _ h4 ∙ accepts _ _ h5)
 
-            pub plain-behind : (plain : Bool) → (plain ≡ true → allPlain (chunksFrom f (skipAt f 12)) ≡ true) → plain ≡ true → allPlain (chunksFrom f (place count)) ≡ true
-            plain-behind plain p e = ap (λ (x : ℕ). allPlain (chunksFrom f x)) (sym (is-shaped .base) ∙ sym en ∙ eb) ∙ p e
+            pub ordinary-behind : (ordinary : Bool) → (ordinary ≡ true → allOrdinary (chunksFrom f (skipAt f 12)) ≡ true) → ordinary ≡ true → allOrdinary (chunksFrom f (place count)) ≡ true
+            ordinary-behind ordinary p e = ap (λ (x : ℕ). allOrdinary (chunksFrom f x)) (sym (is-shaped .base) ∙ sym en ∙ eb) ∙ p e
 
             pub read-6 : (k p : ℕ) → entriesFrom f (place count) 0 count ≡ refuse k p → Refused k p ≡ readOf f
             read-6 k p e = refused k p (v5 ∙ refuses _ _ _ _ e)
@@ -117,7 +117,7 @@ module _ (f : List ℕ) where
               pub read-7 : (k p : ℕ) → optionalFault f count ≡ refuse k p → Refused k p ≡ readOf f
               read-7 k p e = refused k p (v6 ∙ e)
 
-              pub is-judged : Judged f count
+              pub is-judged : EntriesPassed f count
               is-judged = record { few = is-shaped .few; room = is-shaped .room; walks = is-shaped .walks; entries = h6 }
 
               pub index-of : indexOf f ≡ entriesIn count (drop 24 f)
@@ -134,3 +134,10 @@ module _ (f : List ℕ) where
                   let n : count ≡ length (indexOf f) = sym (ap length index-of ∙ length-entriesIn count (drop 24 f)) in
                   let v : plainVerdict f ≡ accept = v6 ∙ e in
                   rw v (ap (Accepted (length f)) n)
+
+              pub read-rest : readBy (optionalFault f count) (length f) count ≡ readOf f
+              read-rest = go (optionalFault f count) refl
+                where
+                  go : (v : Verdict) → optionalFault f count ≡ v → readBy v (length f) count ≡ readOf f
+                  go accept e = read-8 e
+                  go (refuse k p) e = read-7 k p e

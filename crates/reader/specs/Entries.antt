@@ -10,8 +10,8 @@ use Rattle.blorb.specs.Usages.{codeOf}
 use Rattle.blorb.specs.Tags.{tag}
 use Rattle.blorb.specs.Format.{Chunk, Entry, Ref, refOf, entryIn, entriesIn, isStart}
 use Rattle.blorb.specs.Verdict.{Verdict, accept, refuse, _then_, check, knownUsage, entriesFault}
-use Rattle.blorb.specs.Rules.{plain, plainRules}
-use Rattle.reader.specs.Walk.{chunkAt, chunksFrom}
+use Rattle.blorb.specs.Rules.{plainAllows, plainRules}
+use Rattle.reader.specs.Walk.{chunkFrom, chunksFrom}
 use Rattle.blorb.specs.declared.Usage.{Usage}
 use Rattle.blorb.specs.declared.Usage.the-variants.{Pict, Snd, Data, Exec}
 use Rattle.blorb.specs.declared.Known.{Known}
@@ -35,7 +35,7 @@ place i = 24 + 12 * i
 
 -- rule 5 of the chunk at x
 abbrev pub typedAt : List ℕ → ℕ → ℕ → Bool
-typedAt f u x = plain u (chunkAt f x)
+typedAt f u x = plainAllows u (chunkFrom f x)
 
 -- 12 to 15 of the entry at p; the chunks behind the index stand from base on
 unfoldable pub entryFault : List ℕ → ℕ → ℕ → Verdict

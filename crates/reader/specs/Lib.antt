@@ -1,5 +1,5 @@
 pub mod Walk
-pub mod Plain
+pub mod Ordinary
 pub mod Entries
 pub mod Optional
 pub mod Reading

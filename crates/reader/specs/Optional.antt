@@ -9,7 +9,7 @@ use Rattle.blorb.specs.Bytes.{rd32}
 use Rattle.blorb.specs.Format.{Chunk, size, entriesIn}
 use Rattle.blorb.specs.Verdict.{Verdict, accept, refuse, _then_, check}
 use Rattle.blorb.specs.Tags.{Pict, Rect, RelN, Fspc}
-use Rattle.reader.specs.Walk.{chunkAt, chunksFrom, walkFrom}
+use Rattle.reader.specs.Walk.{chunkFrom, chunksFrom, walkFrom}
 use Rattle.reader.specs.Entries.{place, entriesFrom}
 use Rattle.reader.specs.declared.entries.Hit.{Hit}
 use Rattle.reader.specs.declared.entries.Hit.the-variants.{At, Nothing}
@@ -39,7 +39,7 @@ unfoldable pub optionalFault : List ℕ → ℕ → Verdict
 optionalFault f count = rulesFrom (pictured f count) false false (place count) (chunksFrom f (place count))
 
 -- what is known once refusals 1 to 16 are ruled out of a file with count entries
-pub record Judged (f : List ℕ) (count : ℕ) : Type 0 where
+pub record EntriesPassed (f : List ℕ) (count : ℕ) : Type 0 where
   pub few : count ≤ 4096
   pub room : place count ≤ length f
   pub walks : walkFrom f (place count) ≡ accept

@@ -10,25 +10,31 @@ use Rattle.blorb.specs.Format.{Chunk, size, refOf, entriesIn}
 use Rattle.blorb.specs.Verdict.{accept}
 use Rattle.blorb.specs.Tags.{Fspc}
 use Rattle.blorb.specs.Model.{Model}
-use Rattle.reader.specs.Plain.{allPlain}
+use Rattle.reader.specs.Ordinary.{allOrdinary}
 use Rattle.reader.specs.Walk.{chunksFrom}
 use Rattle.reader.specs.Entries.{place}
-use Rattle.reader.specs.Optional.{optionalFault, Judged}
-use Rattle.reader.specs.Reading.{readOf}
+use Rattle.reader.specs.Optional.{optionalFault, EntriesPassed}
+use Rattle.reader.specs.Reading.{readBy, readOf}
 use Rattle.reader.specs.declared.Reading.the-variants.{Accepted, Refused}
 use Rattle.reader.specs.declared.Judgement.{Judgement}
 use Rattle.reader.specs.declared.Judgement.the-variants as judgement
 use Rattle.reader.specs.declared.Front.{Front}
 use Rattle.reader.specs.declared.Front.the-variants as front
 
--- a judgement is the reading of the file; plain is told only where every chunk behind the index is
+-- a judgement is the reading of the file; ordinary is told only where every chunk behind the index is
 abbrev pub Judges : Judgement → List ℕ → Type 0
-Judges (judgement.Good n plain) f = (Accepted (length f) n ≡ readOf f) × (plain ≡ true → allPlain (chunksFrom f (place n)) ≡ true)
+Judges (judgement.Good n ordinary) f = (Accepted (length f) n ≡ readOf f) × (ordinary ≡ true → allOrdinary (chunksFrom f (place n)) ≡ true)
 Judges (judgement.Refused k p) f = Refused k p ≡ readOf f
+
+-- the same of refusals 1 to 16: 17 to 19 decide
+abbrev pub JudgesEntries : Judgement → List ℕ → Type 0
+JudgesEntries (judgement.Good n ordinary) f =
+    EntriesPassed f n × (readBy (optionalFault f n) (length f) n ≡ readOf f) × (ordinary ≡ true → allOrdinary (chunksFrom f (place n)) ≡ true)
+JudgesEntries (judgement.Refused k p) f = Refused k p ≡ readOf f
 
 -- what is known once refusals 1 to 19 are ruled out for a file with count entries
 pub record Passed (f : List ℕ) (count : ℕ) : Type 0 where
-  pub judged : Judged f count
+  pub judged : EntriesPassed f count
   pub optional : optionalFault f count ≡ accept
   pub short : length f ≤ 16777216
 

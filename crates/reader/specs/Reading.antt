@@ -9,7 +9,7 @@ use Rattle.blorb.specs.Format as format
 use Rattle.blorb.specs.Format.{Chunk, chunksOf, entriesOf, chunkIn}
 use Rattle.blorb.specs.Verdict.{Verdict, accept, refuse, noChunk}
 use Rattle.blorb.specs.Rules.{plainVerdict}
-use Rattle.reader.specs.Walk.{chunkAt}
+use Rattle.reader.specs.Walk.{chunkFrom}
 use Rattle.blorb.specs.declared.Usage.{Usage}
 use Rattle.blorb.specs.declared.Known.{Known}
 use Rattle.blorb.specs.declared.Known.the-variants.{Is, Unknown}
@@ -54,8 +54,8 @@ askedBy accept es i = entryBy (ltb i (length es)) (getD es i noEntry) i
 askedBy (refuse k p) es i = Withheld k p
 
 -- "Asked for entry i, it gives usage, number and start, or 22 if i isn't below the count, after its own refusals."
-unfoldable pub entryOf : List ℕ → ℕ → Asked
-entryOf f i = askedBy (plainVerdict f) (indexOf f) i
+unfoldable pub askedOf : List ℕ → ℕ → Asked
+askedOf f i = askedBy (plainVerdict f) (indexOf f) i
 
 -- the start of the first entry with this usage and number
 abbrev pub pickHit : Bool → ℕ → Hit → Hit
@@ -68,7 +68,7 @@ hitIn u n (e ∷ es) = pickHit (eqb (e .usage) u && eqb (e .number) n) (e .start
 
 -- the chunk that begins at x: its type, and where its data is
 abbrev pub foundBy : List ℕ → Hit → Looked
-foundBy f (At x) = Found (chunkAt f x .type) (x + 8) (length (chunkAt f x .body))
+foundBy f (At x) = Found (chunkFrom f x .type) (x + 8) (length (chunkFrom f x .body))
 foundBy f Nothing = Missing 22 0
 
 abbrev pub lookedBy : Verdict → Looked → Looked

@@ -1,4 +1,4 @@
--- Positions in a file: what stands from an offset on. The loops of the reader know only where they stand.
+-- Positions in a file: what stands from an offset on. The loops of the reader keep offsets only.
 use Prim.Native.Nat.{ℕ, zero, suc, _+_, _*_, _%_, _≤_, _<_}
 use mathlib.Core.Path.{_≡_}
 use mathlib.Core.List.{List, [], _∷_}
@@ -13,11 +13,11 @@ use Rattle.reader.specs.declared.chunks.Check.{Check}
 use Rattle.reader.specs.declared.chunks.Check.the-variants.{Good, Refused}
 
 -- the chunk at offset at, and the offset behind it
-abbrev pub chunkAt : List ℕ → ℕ → Chunk
-chunkAt f at = chunkIn (drop at f)
+abbrev pub chunkFrom : List ℕ → ℕ → Chunk
+chunkFrom f at = chunkIn (drop at f)
 
 abbrev pub nextAt : List ℕ → ℕ → ℕ
-nextAt f at = at + size (chunkAt f at)
+nextAt f at = at + size (chunkFrom f at)
 
 -- where the code finds the next chunk
 abbrev pub skipAt : List ℕ → ℕ → ℕ

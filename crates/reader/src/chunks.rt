@@ -3,7 +3,7 @@ ghost use mathlib.Core.Path.{_≡_};
 ghost use Prim.Native.Nat.{_+_, _≤_, _<_, _^_};
 ghost use lib.ListN.{length, drop};
 ghost use mathlib.Core.Bool.{true, false};
-ghost use Rattle.reader.specs.Plain.{ordinaryType, allPlain, Along};
+ghost use Rattle.reader.specs.Ordinary.{ordinaryType, allOrdinary, Along};
 ghost use Rattle.blorb.specs.Verdict.{accept, headFault, chunkFault, secondIndex};
 ghost use Rattle.blorb.specs.Format.{isStart};
 ghost use Rattle.reader.specs.Walk.{skipAt, chunksFrom, walkFrom, firstFault, verdictOf};
@@ -97,101 +97,95 @@ pub(crate) fn skip(s: &[u8], at: usize) -> usize
     at + (8 + (m + m % 2))
 }
 
-// The answer of the walk; `plain` is true only where no chunk walked is an index, a 'RelN' or an 'Fspc'.
+// The answer of the walk; `ordinary` is true only where no chunk walked behind the first is an index, a 'RelN' or an 'Fspc'.
 pub struct Walked {
     pub check: Check,
-    pub plain: bool,
+    pub ordinary: bool,
 }
 
-fn ordinary(t: u64) -> bool
+fn is_ordinary(t: u64) -> bool
     ensures { λ r. ⌜ r ≡ ordinaryType t ⌝ }
 {
     !((t == RIDX) | ((t == 0x52656c4e) | (t == 0x46737063)))
 }
 
-// How far a walk came, and whether all chunks before that are ordinary.
-struct Ahead {
-    at: usize,
-    plain: bool,
-}
-
-// The walk from `from` on, as long as each next chunk begins where the next entry of the index says. That tells nothing more, but lets the
-// processor read on along the index instead of waiting for each length.
-fn walk_along(s: &[u8], from: usize) -> Ahead
-    ensures { λ r. ⌜ Along (now (s .entry)) from (r .at) (r .plain) ⌝ }
+// The walk from `from` on over ordinary chunks, as long as each next one begins where the next entry of the index says; how far it came.
+// That tells nothing more, but lets the processor read on along the index instead of waiting for each length.
+fn walk_along(s: &[u8], from: usize) -> usize
+    ensures { λ r. ⌜ Along (now (s .entry)) from r true ⌝ }
 {
     let mut at = from;
-    let mut plain = true;
     let mut p: usize = 44;
     while p + 4 <= s.len() {
         let guess = blorb::be32_at(s, p) as usize;
         if s.len() <= at {
-            return Ahead { at, plain };
+            return at;
         }
         if let Check::Refused {
             number: _,
             place: _,
         } = chunk(s, at) {
-            return Ahead { at, plain };
+            return at;
         }
-        plain = plain & ordinary(blorb::be32_at(s, at));
+        if !is_ordinary(blorb::be32_at(s, at)) {
+            return at;
+        }
         let next = skip(s, at);
         if next != guess {
-            return Ahead { at: next, plain };
+            return next;
         }
         at = guess;
         p += 12;
     }
-    Ahead { at, plain }
+    at
 }
 
 // Refusals 6 and 7: the walk over the chunks from `from` on.
 fn walk_rest(s: &[u8], from: usize) -> Walked
-    ensures { λ r. ⌜ (verdictOf (r .check) ≡ walkFrom (now (s .entry)) from) × (r .plain ≡ true → allPlain (chunksFrom (now (s .entry)) from) ≡ true) ⌝ }
+    ensures { λ r. ⌜ (verdictOf (r .check) ≡ walkFrom (now (s .entry)) from) × (r .ordinary ≡ true → allOrdinary (chunksFrom (now (s .entry)) from) ≡ true) ⌝ }
 {
-    let ahead = walk_along(s, from);
-    let mut at = ahead.at;
-    let mut plain = ahead.plain;
+    let mut at = walk_along(s, from);
+    let mut ordinary = true;
     while at < s.len() {
         match chunk(s, at) {
             Check::Good => {
-                plain = plain & ordinary(blorb::be32_at(s, at));
+                ordinary = ordinary & is_ordinary(blorb::be32_at(s, at));
                 at = skip(s, at);
             }
             Check::Refused { number, place } => {
                 return Walked {
                     check: Check::Refused { number, place },
-                    plain: false,
+                    ordinary: false,
                 };
             }
         }
     }
     Walked {
         check: Check::Good,
-        plain,
+        ordinary,
     }
 }
 
 // Refusals 6 and 7: the walk over all chunks.
 pub(crate) fn walk(s: &[u8]) -> Walked
-    ensures { λ r. ⌜ (verdictOf (r .check) ≡ walkFrom (now (s .entry)) 12) × (r .plain ≡ true → allPlain (chunksFrom (now (s .entry)) (skipAt (now (s .entry)) 12)) ≡ true) ⌝ }
+    ensures { λ r. ⌜ (verdictOf (r .check) ≡ walkFrom (now (s .entry)) 12) × (r .ordinary ≡ true → allOrdinary (chunksFrom (now (s .entry)) (skipAt (now (s .entry)) 12)) ≡ true) ⌝ }
 {
     if s.len() <= 12 {
         return Walked {
             check: Check::Good,
-            plain: false,
+            ordinary: false,
         };
     }
     match chunk(s, 12) {
         Check::Refused { number, place } => Walked {
             check: Check::Refused { number, place },
-            plain: false,
+            ordinary: false,
         },
         Check::Good => walk_rest(s, skip(s, 12)),
     }
 }
 
-// Refusal 8: the first chunk is the index.
+// Refusal 8, unless the first chunk is the index.
 pub(crate) fn first(s: &[u8]) -> Check
     requires { ⌜ walkFrom (now s) 12 ≡ accept ⌝ }
     ensures { λ r. ⌜ verdictOf r ≡ firstFault (now (s .entry)) ⌝ }
@@ -211,7 +205,7 @@ pub(crate) fn first(s: &[u8]) -> Check
     Check::Good
 }
 
-// Refusal 9: no chunk from `from` on is an index.
+// Refusal 9, unless no chunk from `from` on is an index.
 pub(crate) fn second(s: &[u8], from: usize) -> Check
     requires { ⌜ walkFrom (now s) from ≡ accept ⌝ }
     ensures { λ r. ⌜ verdictOf r ≡ secondIndex from (chunksFrom (now (s .entry)) from) ⌝ }
@@ -230,11 +224,11 @@ pub(crate) fn second(s: &[u8], from: usize) -> Check
 }
 
 // The same, where it may be known that there is none.
-pub(crate) fn second_if(plain: bool, s: &[u8], from: usize) -> Check
-    requires { ⌜ (walkFrom (now s) from ≡ accept) × (plain ≡ true → allPlain (chunksFrom (now s) from) ≡ true) ⌝ }
+pub(crate) fn second_if(ordinary: bool, s: &[u8], from: usize) -> Check
+    requires { ⌜ (walkFrom (now s) from ≡ accept) × (ordinary ≡ true → allOrdinary (chunksFrom (now s) from) ≡ true) ⌝ }
     ensures { λ r. ⌜ verdictOf r ≡ secondIndex from (chunksFrom (now (s .entry)) from) ⌝ }
 {
-    if plain {
+    if ordinary {
         return Check::Good;
     }
     second(s, from)

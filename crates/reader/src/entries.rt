@@ -12,7 +12,7 @@ ghost use Rattle.blorb.specs.Verdict.{accept, pairIn, indexFault};
 ghost use Rattle.blorb.specs.Format.{isStart, entriesIn};
 ghost use Rattle.blorb.specs.Usages.{codeOf};
 ghost use Rattle.blorb.specs.declared.Usage.the-variants.{Exec};
-ghost use Rattle.reader.specs.Walk.{chunkAt, chunksFrom, walkFrom, verdictOf, Reached};
+ghost use Rattle.reader.specs.Walk.{chunkFrom, chunksFrom, walkFrom, verdictOf, Reached};
 ghost use Rattle.reader.specs.Entries.{startAt, place, typedAt, entryFault, judgedBy, samePair, earlier, usageAt, numberAt, Topped, slotOf, entriesFrom, pairPlace};
 ghost use Rattle.reader.specs.Reading.{hitIn};
 
@@ -30,7 +30,7 @@ pub enum Hit {
 // Refusals 10 and 11: the index's length and count.
 pub(crate) fn shape(s: &[u8]) -> Check
     requires { ⌜ (12 < length (now s)) × (walkFrom (now s) 12 ≡ accept) ⌝ }
-    ensures { λ r. ⌜ verdictOf r ≡ indexFault (chunkAt (now (s .entry)) 12 .body) ⌝ }
+    ensures { λ r. ⌜ verdictOf r ≡ indexFault (chunkFrom (now (s .entry)) 12 .body) ⌝ }
 {
     let m = blorb::be32_at(s, 16);
     if m < 4 {
@@ -104,34 +104,11 @@ fn same_pair(s: &[u8], i: usize, j: usize) -> bool
     pair_key(s, 24 + 12 * i) == pair_key(s, 24 + 12 * j)
 }
 
-// A number above `n`, and not below `top`.
-fn above(top: u64, n: u64) -> u64
-    requires { ⌜ n < 2 ^ 32 ⌝ }
-    ensures { λ r. ⌜ (n < r) × (top ≤ r) ⌝ }
-{
-    if n < top {
-        return top;
-    }
-    n + 1
-}
-
 // The place of a usage among the eight tops.
 fn slot(code: u64) -> usize
     ensures { λ r. ⌜ (r ≡ slotOf code) × (r < 8) ⌝ }
 {
     (code / 16777216 % 8) as usize
-}
-
-// The first entry that could have the pair of entry `j`: none before it where its number is not below `top`,
-// which is above all earlier numbers of its usage.
-fn first_rival(s: &[u8], base: usize, j: usize, top: u64) -> usize
-    requires { ⌜ (place j + 12 ≤ length (now s)) × Topped (now s) j top ⌝ }
-    ensures { λ r. ⌜ (r ≤ j) × (pairIn (usageAt (now (s .entry)) (place j)) (numberAt (now (s .entry)) (place j)) (earlier (now (s .entry)) base r) ≡ false) ⌝ }
-{
-    if top <= blorb::be32_at(s, 24 + 12 * j + 4) {
-        return j;
-    }
-    0
 }
 
 // Rule 5: the chunk at `at` has a type that the usage allows.
@@ -155,11 +132,13 @@ pub(crate) fn begins_behind(s: &[u8], base: usize, from: usize, start: usize) ->
     chunks::begins(s, base, start)
 }
 
-// Refusals 12 to 15 of the entry at `p`.
+// Refusals 12 to 15 of the entry at `p`. The start is looked for first: the usage's test then leads straight to the one of its types.
 fn judge(s: &[u8], base: usize, from: usize, p: usize) -> Judged
     requires { ⌜ (p + 12 ≤ length (now s)) × (walkFrom (now s) base ≡ accept) × (walkFrom (now s) from ≡ accept) × Reached (now s) base from ⌝ }
     ensures { λ r. ⌜ r ≡ judgedBy (entryFault (now (s .entry)) base p) (startAt (now (s .entry)) p) ⌝ }
 {
+    let start = blorb::be32_at(s, p + 8) as usize;
+    let begun = begins_behind(s, base, from, start);
     let code = blorb::be32_at(s, p);
     let Known::Is(usage) = Usage::of_code(code) else {
         return Judged::Fault {
@@ -167,8 +146,7 @@ fn judge(s: &[u8], base: usize, from: usize, p: usize) -> Judged
             place: p,
         };
     };
-    let start = blorb::be32_at(s, p + 8) as usize;
-    if !begins_behind(s, base, from, start) {
+    if !begun {
         return Judged::Fault {
             number: 13,
             place: p + 8,
@@ -211,8 +189,13 @@ pub(crate) fn entries(s: &[u8], count: usize) -> Check
             }
         }
         let k = slot(blorb::be32_at(s, p));
-        let top = tops[k];
-        let mut i = first_rival(s, base, j, top);
+        let number = blorb::be32_at(s, p + 4);
+        if tops[k] <= number {
+            tops[k] = number + 1;
+            j += 1;
+            continue 'entries;
+        }
+        let mut i: usize = 0;
         while i < j {
             if same_pair(s, i, j) {
                 answer = Check::Refused {
@@ -223,7 +206,6 @@ pub(crate) fn entries(s: &[u8], count: usize) -> Check
             }
             i += 1;
         }
-        tops[k] = above(top, blorb::be32_at(s, p + 4));
         j += 1;
     }
     answer

@@ -14,9 +14,9 @@ ghost use mathlib.Core.Path.{_≡_};
 ghost use Rattle.blorb.specs.Bytes.{rd32};
 ghost use Rattle.blorb.specs.Rules.{plainVerdict};
 ghost use Rattle.blorb.specs.Model.{model};
-ghost use Rattle.reader.specs.Reading.{readOf, entryOf, lookupOf, partOf};
+ghost use Rattle.reader.specs.Reading.{readOf, askedOf, lookupOf, partOf};
 ghost use Rattle.reader.specs.Inspecting.{inspectionOf};
-ghost use Rattle.reader.specs.Passed.{Judges};
+ghost use Rattle.reader.specs.Passed.{Judges, JudgesEntries};
 
 pub enum Reading {
     Accepted { length: usize, count: usize },
@@ -73,15 +73,15 @@ pub enum Inspection {
     Refused { number: u64, place: usize },
 }
 
-// The verdict; of an accepted file the entry count, and `plain`, true only where no chunk behind the index is a 'RelN' or an 'Fspc'.
+// The verdict; of an accepted file the entry count, and `ordinary`, true only where no chunk behind the index is a 'RelN' or an 'Fspc'.
 enum Judgement {
-    Good { count: usize, plain: bool },
+    Good { count: usize, ordinary: bool },
     Refused { number: u64, place: usize },
 }
 
-// The whole table, 1 to 19.
-fn judge_file(file: &[u8]) -> Judgement
-    ensures { λ r. ⌜ Judges r (now (file .entry)) ⌝ }
+// Refusals 1 to 16; `Good` where only 17 to 19 are left to judge.
+fn judge_entries(file: &[u8]) -> Judgement
+    ensures { λ r. ⌜ JudgesEntries r (now (file .entry)) ⌝ }
 {
     if let Check::Refused { number, place } = chunks::head(file) {
         return Judgement::Refused { number, place };
@@ -95,7 +95,7 @@ fn judge_file(file: &[u8]) -> Judgement
         return Judgement::Refused { number, place };
     }
     if let Check::Refused { number, place } = chunks::second_if(
-        walked.plain,
+        walked.ordinary,
         file,
         chunks::skip(file, 12),
     ) {
@@ -108,15 +108,27 @@ fn judge_file(file: &[u8]) -> Judgement
     if let Check::Refused { number, place } = entries::entries(file, count) {
         return Judgement::Refused { number, place };
     }
-    if walked.plain {
-        return Judgement::Good { count, plain: true };
-    }
-    if let Check::Refused { number, place } = optional::optional(file, count) {
-        return Judgement::Refused { number, place };
-    }
     Judgement::Good {
         count,
-        plain: false,
+        ordinary: walked.ordinary,
+    }
+}
+
+// The whole table, 1 to 19.
+fn judge_file(file: &[u8]) -> Judgement
+    ensures { λ r. ⌜ Judges r (now (file .entry)) ⌝ }
+{
+    match judge_entries(file) {
+        Judgement::Refused { number, place } => Judgement::Refused { number, place },
+        Judgement::Good { count, ordinary } => {
+            if ordinary {
+                return Judgement::Good { count, ordinary };
+            }
+            if let Check::Refused { number, place } = optional::optional(file, count) {
+                return Judgement::Refused { number, place };
+            }
+            Judgement::Good { count, ordinary }
+        }
     }
 }
 
@@ -126,7 +138,7 @@ pub fn read(file: &[u8]) -> Reading
 {
     match judge_file(file) {
         Judgement::Refused { number, place } => Reading::Refused { number, place },
-        Judgement::Good { count, plain: _ } => Reading::Accepted {
+        Judgement::Good { count, ordinary: _ } => Reading::Accepted {
             length: file.len(),
             count,
         },
@@ -135,7 +147,7 @@ pub fn read(file: &[u8]) -> Reading
 
 // Entry i of the index: its usage, number and start.
 pub fn entry(file: &[u8], i: usize) -> Asked
-    ensures { λ r. ⌜ r ≡ entryOf (now (file .entry)) i ⌝ }
+    ensures { λ r. ⌜ r ≡ askedOf (now (file .entry)) i ⌝ }
 {
     match read(file) {
         Reading::Refused { number, place } => Asked::Refused { number, place },
@@ -221,10 +233,10 @@ pub fn inspect(file: &[u8], usage: u32, number: u32, at: usize) -> Inspection
 {
     match judge_file(file) {
         Judgement::Refused { number, place } => Inspection::Refused { number, place },
-        Judgement::Good { count, plain } => Inspection::Whole(parts::facts(
+        Judgement::Good { count, ordinary } => Inspection::Whole(parts::facts(
             file,
             count,
-            plain,
+            ordinary,
             usage as u64,
             number as u64,
             at,

@@ -10,8 +10,8 @@ ghost use lib.ListN.{length};
 ghost use lib.Dec.{eqb};
 ghost use mathlib.Core.Bool.{_||_};
 ghost use Rattle.blorb.specs.Verdict.{accept};
-ghost use Rattle.reader.specs.Walk.{chunkAt, walkFrom, verdictOf};
-ghost use Rattle.reader.specs.Optional.{pictured, oneRule, optionalFault, Judged};
+ghost use Rattle.reader.specs.Walk.{chunkFrom, walkFrom, verdictOf};
+ghost use Rattle.reader.specs.Optional.{pictured, oneRule, optionalFault, EntriesPassed};
 
 const RELN: u64 = 0x52656c4e;
 
@@ -21,8 +21,8 @@ const RECT: u64 = 0x52656374;
 
 // Refusals 17 to 19 of the chunk at `at`; `reln` and `fspc` tell whether a 'RelN' and an 'Fspc' stand before it.
 fn optional_chunk(s: &[u8], count: usize, reln: bool, fspc: bool, at: usize) -> Check
-    requires { ⌜ Judged (now s) count × (at < length (now s)) × (walkFrom (now s) at ≡ accept) ⌝ }
-    ensures { λ r. ⌜ verdictOf r ≡ oneRule (pictured (now (s .entry)) count) reln fspc at (chunkAt (now (s .entry)) at) ⌝ }
+    requires { ⌜ EntriesPassed (now s) count × (at < length (now s)) × (walkFrom (now s) at ≡ accept) ⌝ }
+    ensures { λ r. ⌜ verdictOf r ≡ oneRule (pictured (now (s .entry)) count) reln fspc at (chunkFrom (now (s .entry)) at) ⌝ }
 {
     let t = blorb::be32_at(s, at);
     let m = blorb::be32_at(s, at + 4);
@@ -79,7 +79,7 @@ fn or_is(before: bool, t: u64, kind: u64) -> bool
 
 // Refusals 17 to 19: the optional chunks, by file position.
 pub(crate) fn optional(s: &[u8], count: usize) -> Check
-    requires { ⌜ Judged (now s) count ⌝ }
+    requires { ⌜ EntriesPassed (now s) count ⌝ }
     ensures { λ r. ⌜ verdictOf r ≡ optionalFault (now (s .entry)) count ⌝ }
 {
     let mut at = 24 + 12 * count;

@@ -12,7 +12,7 @@ ghost use lib.ListN.{length, drop};
 ghost use mathlib.Core.Bool.{true};
 ghost use Rattle.blorb.specs.Verdict.{accept};
 ghost use Rattle.blorb.specs.Format.{entriesIn, isStart};
-ghost use Rattle.reader.specs.Plain.{allPlain};
+ghost use Rattle.reader.specs.Ordinary.{allOrdinary};
 ghost use Rattle.reader.specs.Walk.{chunksFrom, walkFrom};
 ghost use Rattle.reader.specs.Entries.{place, startAgain};
 ghost use Rattle.reader.specs.Inspecting.{pieceOf, targetOf, frontOf, factsOf};
@@ -80,11 +80,11 @@ fn front_from(s: &[u8], from: usize) -> Front
 }
 
 // The frontispiece, where it may be known that there is none.
-fn front_if(plain: bool, s: &[u8], count: usize) -> Front
-    requires { ⌜ Passed (now s) count × (plain ≡ true → allPlain (chunksFrom (now s) (place count)) ≡ true) ⌝ }
+fn front_if(ordinary: bool, s: &[u8], count: usize) -> Front
+    requires { ⌜ Passed (now s) count × (ordinary ≡ true → allOrdinary (chunksFrom (now s) (place count)) ≡ true) ⌝ }
     ensures { λ r. ⌜ r ≡ frontOf (modelAt (now (s .entry)) count) ⌝ }
 {
-    if plain {
+    if ordinary {
         return Front::Nothing;
     }
     front_from(s, 24 + 12 * count)
@@ -102,14 +102,21 @@ fn begins_at(s: &[u8], base: usize, at: usize) -> bool
 }
 
 // All that an accepted file tells.
-pub(crate) fn facts(s: &[u8], count: usize, plain: bool, code: u64, number: u64, at: usize) -> Facts
-    requires { ⌜ Passed (now s) count × (plain ≡ true → allPlain (chunksFrom (now s) (place count)) ≡ true) ⌝ }
+pub(crate) fn facts(
+    s: &[u8],
+    count: usize,
+    ordinary: bool,
+    code: u64,
+    number: u64,
+    at: usize,
+) -> Facts
+    requires { ⌜ Passed (now s) count × (ordinary ≡ true → allOrdinary (chunksFrom (now s) (place count)) ≡ true) ⌝ }
     ensures { λ r. ⌜ r ≡ factsOf (modelAt (now (s .entry)) count) code number at ⌝ }
 {
     Facts {
         count,
         target: target(s, count, code, number),
-        front: front_if(plain, s, count),
+        front: front_if(ordinary, s, count),
         begins: begins_at(s, 24 + 12 * count, at),
     }
 }

@@ -88,7 +88,7 @@ fn wide(x: u8) -> u64
     x as u64
 }
 
-// A sum of the bytes that knows their order.
+// A sum of the bytes that depends on their order.
 fn checksum(s: &[u8]) -> u64 {
     let mut sum = 0;
     for i in 0..s.len() {

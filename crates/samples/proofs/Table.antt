@@ -16,21 +16,21 @@ use Rattle.reader.specs.declared.Reading.the-variants.{Accepted, Refused}
 use Rattle.reader.specs.declared.Asked.the-variants.{Given, Refused as NotGiven}
 use Rattle.reader.specs.declared.Looked.the-variants.{Found, Refused as NotFound}
 use Rattle.samples.specs.Files.{blank, A, B, withoutEel, binary, eel, sides, addedEel, addedRect, removedEel, replacedEel}
-use Rattle.samples.specs.Rows.{Row, reads, asks, looks, edits, undoes, blanks, runs, Holds}
+use Rattle.samples.specs.Rows.{Row, reads, asks, looks, edits, undoes, blanks, runs, RowHolds}
 use Rattle.blorb.specs.Format.{sized, size, chunkBytes, chunksBytes, total, fileBytes, chunkIn, chunksIn, chunksOf, entryIn, entriesIn, entryBytes, entriesBytes, indexChunk, entriesOf, isStart, placeOf, refOf}
 use Rattle.blorb.specs.Verdict.{_then_, check, headFault, chunkFault, walkFault, secondIndex, indexFault, pairIn, refFault, entriesFault, restFault, layoutFault, verdict}
-use Rattle.blorb.specs.Rules.{oneOf, plain, picture, typeIn, single, chunkRule, chunkRules, optional, plainVerdict}
-use Rattle.blorb.specs.Model.{base, startAt, entryOf, file, modelOf, model}
+use Rattle.blorb.specs.Rules.{oneOf, plainAllows, picture, typeIn, single, chunkRule, chunkRules, optional, plainVerdict}
+use Rattle.blorb.specs.Model.{base, startOf, entryOf, file, modelOf, model}
 use Rattle.blorb.specs.Queries.{without, find, uses, shared, start, frontPlace}
 use Rattle.blorb.specs.Usages.{usageOf}
-use Rattle.edits.specs.Edit.{with-at, lower, raise, added, replaced, removedBoth, removedEntry, removed, given, edited}
+use Rattle.edits.specs.Edit.{with-at, lower, raise, added, replaced, removedBoth, removedEntry, removed, givenChunk, edited}
 use Rattle.edits.specs.Journal.{recBody, recBytes, removal, recOf, trailer, recIn, lastBody, lastRec, zeros, wellFormed, fits1, fits2, fits3, fits4, fits, undo1, undo2, undo3, undo4, undone}
 use Rattle.edits.specs.Run.{targetFault, editedFile, editRecord, undoneFile, editFault, undoFault, written, noted, afterEdit, afterUndo, after, fault, step, run, answers}
-use Rattle.reader.specs.Reading.{indexOf, readOf, entryOf as readerEntryOf, hitIn, lookupOf}
+use Rattle.reader.specs.Reading.{indexOf, readOf, askedOf, hitIn, lookupOf}
 
 -- opens every definition that a row computes with: a definition opens what its own line names
 computed : ℕ
-unfolding be32 rd32 sized size chunkBytes chunksBytes total fileBytes chunkIn chunksIn chunksOf entryIn entriesIn entryBytes entriesBytes indexChunk entriesOf isStart placeOf refOf _then_ check headFault chunkFault walkFault secondIndex indexFault pairIn refFault entriesFault restFault layoutFault verdict oneOf plain picture typeIn single chunkRule chunkRules optional plainVerdict base startAt entryOf file modelOf model without find uses shared start frontPlace usageOf with-at lower raise added replaced removedBoth removedEntry removed given edited recBody recBytes removal recOf trailer recIn lastBody lastRec zeros wellFormed fits1 fits2 fits3 fits4 fits undo1 undo2 undo3 undo4 undone targetFault editedFile editRecord undoneFile editFault undoFault indexOf readOf readerEntryOf hitIn lookupOf written noted afterEdit afterUndo after fault step run answers blanked blankFile
+unfolding be32 rd32 sized size chunkBytes chunksBytes total fileBytes chunkIn chunksIn chunksOf entryIn entriesIn entryBytes entriesBytes indexChunk entriesOf isStart placeOf refOf _then_ check headFault chunkFault walkFault secondIndex indexFault pairIn refFault entriesFault restFault layoutFault verdict oneOf plainAllows picture typeIn single chunkRule chunkRules optional plainVerdict base startOf entryOf file modelOf model without find uses shared start frontPlace usageOf with-at lower raise added replaced removedBoth removedEntry removed givenChunk edited recBody recBytes removal recOf trailer recIn lastBody lastRec zeros wellFormed fits1 fits2 fits3 fits4 fits undo1 undo2 undo3 undo4 undone targetFault editedFile editRecord undoneFile editFault undoFault indexOf readOf askedOf hitIn lookupOf written noted afterEdit afterUndo after fault step run answers blanked blankFile
 computed = 0
 
 unfoldable pub table : List Row
@@ -84,7 +84,7 @@ table =
     (record { result = accept; L = 48; U = 29 } ∷ (record { result = refuse 24 0; L = 48; U = 29 } ∷ (record { result = accept; L = 24; U = 0 } ∷ (record { result = refuse 26 0; L = 24; U = 0 } ∷ []))))
     (record { buffer = blank ++ (replicate 24 0 ++ (9 ∷ (9 ∷ []))); L = 24; journal = addedEel ++ replicate 31 7; U = 0 }) ∷ []))))))))))))))))))))))))))))))
 
-pub samples : All Holds table
+pub samples : All RowHolds table
 unfolding computed table
 samples =
     ((refl, refl, refl), (refl, ((refl, refl, refl), (refl, (refl, (refl, ((refl, refl), ((refl, refl, refl), (refl, (refl, ((refl, refl), ((refl, refl, refl), (refl, (refl, ((refl, refl), (refl, (refl, (refl, (refl, (refl, (refl, (refl, (refl, (refl, (refl, ((refl, refl), ((refl, refl), ((refl, refl), (refl, (refl, ((refl, refl), tt)))))))))))))))))))))))))))))))

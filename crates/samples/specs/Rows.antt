@@ -11,7 +11,7 @@ use Rattle.edits.specs.Run.{State, Call, Answer, editFault, undoFault, editedFi
 use Rattle.reader.specs.declared.Reading.{Reading}
 use Rattle.reader.specs.declared.Asked.{Asked}
 use Rattle.reader.specs.declared.Looked.{Looked}
-use Rattle.reader.specs.Reading.{readOf, entryOf, lookupOf, partOf}
+use Rattle.reader.specs.Reading.{readOf, askedOf, lookupOf, partOf}
 
 pub data Row : Type 0 where
   -- a file and what the reader answers
@@ -29,11 +29,11 @@ pub data Row : Type 0 where
   -- a state, the calls of a run, their answers, and the state after it
   runs : State → List Call → List Answer → State → Row
 
-abbrev pub Holds : Row → Type 0
-Holds (reads f r) = readOf f ≡ r
-Holds (asks f i a) = entryOf f i ≡ a
-Holds (looks f u n a p) = (lookupOf f u n ≡ a) × (partOf a f ≡ p)
-Holds (edits f e g r) = (editFault plainRules 100 100 f (length f) 0 e ≡ accept) × (editedFile f e ≡ g) × (editRecord f e ≡ r)
-Holds (undoes f j g) = (undoFault plainRules 100 100 f (length f) (length j) j ≡ accept) × (undoneFile f j ≡ g)
-Holds (blanks b c) = blanked b ≡ c
-Holds (runs s cs ans t) = (answers plainRules s cs ≡ ans) × (run plainRules s cs ≡ t)
+abbrev pub RowHolds : Row → Type 0
+RowHolds (reads f r) = readOf f ≡ r
+RowHolds (asks f i a) = askedOf f i ≡ a
+RowHolds (looks f u n a p) = (lookupOf f u n ≡ a) × (partOf a f ≡ p)
+RowHolds (edits f e g r) = (editFault plainRules 100 100 f (length f) 0 e ≡ accept) × (editedFile f e ≡ g) × (editRecord f e ≡ r)
+RowHolds (undoes f j g) = (undoFault plainRules 100 100 f (length f) (length j) j ≡ accept) × (undoneFile f j ≡ g)
+RowHolds (blanks b c) = blanked b ≡ c
+RowHolds (runs s cs ans t) = (answers plainRules s cs ≡ ans) × (run plainRules s cs ≡ t)

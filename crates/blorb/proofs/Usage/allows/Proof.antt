@@ -1,5 +1,6 @@
-use Rattle.blorb.specs.Rules.{plain}
-use Rattle.blorb.specs.Usages.{codeOf, chunkOf}
+use Rattle.blorb.specs.Format.{chunkOf}
+use Rattle.blorb.specs.Rules.{plainAllows}
+use Rattle.blorb.specs.Usages.{codeOf}
 use Rattle.blorb.specs.declared.Usage.{Usage}
 use native.Mathlib.Omega.{arith}
 use mathlib.Core.Path.{_≡_, refl, sym, ap, _∙_}

@@ -102,8 +102,8 @@ enum-known-front : tie.Need-enum-known-front
 enum-known-front c = search needs
 
 -- src/judge.rt:160:16
-spoils-requires : tie.Need-spoils-requires
-spoils-requires c κs = search needs
+makes-rect-requires : tie.Need-makes-rect-requires
+makes-rect-requires c κs = search needs
 
 -- src/judge.rt:161:60
 cast-behind-start : tie.Need-cast-behind-start
@@ -127,7 +127,7 @@ returns-4 c =
     let a = c .before .before .before .before .before .before .before .before .before .before .before .before .before .before .before .args in
     let f = now (a .s) in
     let bytes : All Byte f = bytes-all f (λ i. omega (arith, c .before .before .before .before .before .before .before .before .before .before .before .before .before .before .shared-slice-known .given i)) in
-    ap verdictOf (c .refused4 .ensures) ∙ ap (λ (z : ℕ). refuse 119 (z + 8)) (c .before .behind-start .ensures .0) ∙ out-119 f (a .front) (a .piece) (a .usage) (a .number) (a .kind) (now (a .d)) bytes (c .before .before .before .before .before .before .before .before .before .before .before .before .before .before .before .pre) (omega arith) (omega arith) (omega arith) (c .before .before .before .before .before .before .before .before .before .before .if1 .left) (c .before .before .before .before .before .before .before .before .before .if2 .left) (sym (c .before .before .before .before .before .before .before .before .type-allowed .ensures) ∙ not-false _ (c .before .before .before .before .before .before .before .if3 .left)) (c .before .before .before .before .before .front .given .0 .0) (c .before .before .before .before .before .front .given .0 .1 .0) (c .before .before .before .before .before .front .given .1) (sym (c .before .before .before .spoils .ensures) ∙ c .before .before .if4 .taken)
+    ap verdictOf (c .refused4 .ensures) ∙ ap (λ (z : ℕ). refuse 119 (z + 8)) (c .before .behind-start .ensures .0) ∙ out-119 f (a .front) (a .piece) (a .usage) (a .number) (a .kind) (now (a .d)) bytes (c .before .before .before .before .before .before .before .before .before .before .before .before .before .before .before .pre) (omega arith) (omega arith) (omega arith) (c .before .before .before .before .before .before .before .before .before .before .if1 .left) (c .before .before .before .before .before .before .before .before .before .if2 .left) (sym (c .before .before .before .before .before .before .before .before .type-allowed .ensures) ∙ not-false _ (c .before .before .before .before .before .before .before .if3 .left)) (c .before .before .before .before .before .front .given .0 .0) (c .before .before .before .before .before .front .given .0 .1 .0) (c .before .before .before .before .before .front .given .1) (sym (c .before .before .before .makes-rect .ensures) ∙ c .before .before .if4 .taken)
 
 -- src/judge.rt:140:1
 returns-5 : tie.Need-returns-5
@@ -143,7 +143,7 @@ returns-6 c =
     let a = c .before .before .before .before .before .before .before .before .before .before .before .before .before .args in
     let f = now (a .s) in
     let bytes : All Byte f = bytes-all f (λ i. omega (arith, c .before .before .before .before .before .before .before .before .before .before .before .before .shared-slice-known .given i)) in
-    out-kept f (a .front) (a .piece) (a .usage) (a .number) (a .kind) (now (a .d)) bytes (c .before .before .before .before .before .before .before .before .before .before .before .before .before .pre) (omega arith) (omega arith) (omega arith) (c .before .before .before .before .before .before .before .before .if1 .left) (c .before .before .before .before .before .before .before .if2 .left) (sym (c .before .before .before .before .before .before .type-allowed .ensures) ∙ not-false _ (c .before .before .before .before .before .if3 .left)) (c .before .before .before .front .given .0 .0) (c .before .before .before .front .given .0 .1 .0) (c .before .before .before .front .given .1) (sym (c .before .spoils .ensures) ∙ c .if4 .left)
+    out-kept f (a .front) (a .piece) (a .usage) (a .number) (a .kind) (now (a .d)) bytes (c .before .before .before .before .before .before .before .before .before .before .before .before .before .pre) (omega arith) (omega arith) (omega arith) (c .before .before .before .before .before .before .before .before .if1 .left) (c .before .before .before .before .before .before .before .if2 .left) (sym (c .before .before .before .before .before .before .type-allowed .ensures) ∙ not-false _ (c .before .before .before .before .before .if3 .left)) (c .before .before .before .front .given .0 .0) (c .before .before .before .front .given .0 .1 .0) (c .before .before .before .front .given .1) (sym (c .before .makes-rect .ensures) ∙ c .if4 .left)
 
 pub replace-fault-spec : {M : Type 1} → statement M
 replace-fault-spec =
@@ -168,7 +168,7 @@ replace-fault-spec =
     returns-3
     enum-told
     enum-known-front
-    spoils-requires
+    makes-rect-requires
     cast-behind-start
     behind-start-requires
     add-refused-2

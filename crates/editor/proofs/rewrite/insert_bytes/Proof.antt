@@ -16,7 +16,7 @@ use Rattle.editor.proofs.rewrite.insert_bytes.Reads as reads
 use Rattle.editor.proofs.rewrite.insert_bytes.Lts as lts
 use Rattle.editor.proofs.moves.move_starts.Reads as move-starts-reads
 use Rattle.editor.proofs.moves.put_chunk.Reads as put-chunk-reads
-use Rattle.editor.proofs.moves.put_front.Reads as put-front-reads
+use Rattle.editor.proofs.moves.put_heading.Reads as put-heading-reads
 use Rattle.editor.proofs.moves.put_words.Reads as put-words-reads
 use Rattle.editor.proofs.shift.shift_right.Reads as shift-right-reads
 
@@ -101,12 +101,12 @@ add-rest-2 : tie.Need-add-rest-2
 add-rest-2 c = search needs
 
 -- src/rewrite.rt:124:27
-add-put-front : tie.Need-add-put-front
-add-put-front c = search needs
+add-put-heading : tie.Need-add-put-heading
+add-put-heading c = search needs
 
 -- src/rewrite.rt:124:5
-put-front-requires : tie.Need-put-front-requires
-put-front-requires c κs = search needs
+put-heading-requires : tie.Need-put-heading-requires
+put-heading-requires c κs = search needs
 
 -- src/rewrite.rt:97:1
 same-length : tie.Need-same-length
@@ -122,7 +122,7 @@ returns c =
     let sz = 8 + (length (now (a .d)) + length (now (a .d)) % 2) in
     let mv : Move = record { limit = a .at - 1; grow = 12 + sz; fall = 0; plus = 12; minus = 0 } in
     rw (
-      c .before .before .put-front .ensures,
+      c .before .before .put-heading .ensures,
       c .before .before .before .before .before .before .put-chunk .ensures,
       c .before .before .before .before .before .before .before .before .before .before .put-words .ensures,
       c .before .before .before .before .before .before .before .before .before .before .before .before .before .before .shift-right2 .ensures,
@@ -156,7 +156,7 @@ insert-bytes-spec =
     add-rest
     sub-rest
     add-rest-2
-    add-put-front
-    put-front-requires
+    add-put-heading
+    put-heading-requires
     same-length
     returns)

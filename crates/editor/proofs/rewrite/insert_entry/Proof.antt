@@ -14,7 +14,7 @@ use Rattle.editor.proofs.rewrite.insert_entry.Tie as tie
 use Rattle.editor.proofs.rewrite.insert_entry.Reads as reads
 use Rattle.editor.proofs.rewrite.insert_entry.Lts as lts
 use Rattle.editor.proofs.moves.move_starts.Reads as move-starts-reads
-use Rattle.editor.proofs.moves.put_front.Reads as put-front-reads
+use Rattle.editor.proofs.moves.put_heading.Reads as put-heading-reads
 use Rattle.editor.proofs.moves.put_words.Reads as put-words-reads
 use Rattle.editor.proofs.shift.shift_right.Reads as shift-right-reads
 
@@ -43,24 +43,24 @@ put-words-requires : tie.Need-put-words-requires
 put-words-requires c κs = search needs
 
 -- src/rewrite.rt:170:27
-add-put-front : tie.Need-add-put-front
-add-put-front c = search needs
+add-put-heading : tie.Need-add-put-heading
+add-put-heading c = search needs
 
 -- src/rewrite.rt:170:58
-mul-put-front : tie.Need-mul-put-front
-mul-put-front c = search needs
+mul-put-heading : tie.Need-mul-put-heading
+mul-put-heading c = search needs
 
 -- src/rewrite.rt:170:53
-add-put-front-2 : tie.Need-add-put-front-2
-add-put-front-2 c = search needs
+add-put-heading-2 : tie.Need-add-put-heading-2
+add-put-heading-2 c = search needs
 
 -- src/rewrite.rt:170:46
-sub-put-front : tie.Need-sub-put-front
-sub-put-front c = search needs
+sub-put-heading : tie.Need-sub-put-heading
+sub-put-heading c = search needs
 
 -- src/rewrite.rt:170:5
-put-front-requires : tie.Need-put-front-requires
-put-front-requires c κs = search needs
+put-heading-requires : tie.Need-put-heading-requires
+put-heading-requires c κs = search needs
 
 -- src/rewrite.rt:151:1
 same-length : tie.Need-same-length
@@ -74,7 +74,7 @@ returns c =
     let p = c .before .before .before .before .before .before .before .before .before .before .before .before .before .before .before .before .before .pre in
     let bytes : All Byte b = bytes-all b (λ i. omega (arith, c .before .before .before .before .before .before .before .before .before .before .before .before .before .before .before .before .slice-known .given i)) in
     let mv : Move = record { limit = 0; grow = 12; fall = 0; plus = 12; minus = 0 } in
-    rw (c .before .before .put-front .ensures, c .before .before .before .before .before .before .put-words .ensures, c .before .before .before .before .before .before .before .before .before .before .shift-right .ensures, c .before .before .before .before .before .before .before .before .before .before .before .before .before .before .move-starts .ensures, relocated-alike mv 12 refl refl refl refl)
+    rw (c .before .before .put-heading .ensures, c .before .before .before .before .before .before .put-words .ensures, c .before .before .before .before .before .before .before .before .before .before .shift-right .ensures, c .before .before .before .before .before .before .before .before .before .before .before .before .before .before .move-starts .ensures, relocated-alike mv 12 refl refl refl refl)
     (relist-written b (a .len) (a .count) (a .place) (a .at) (a .usage) (a .number) (p .0) (all-take Byte (a .len) b bytes) (p .1 .0) (p .1 .1 .0))
 
 pub insert-entry-spec : {M : Type 1} → statement M
@@ -87,10 +87,10 @@ insert-entry-spec =
     shift-right-requires
     add-put-words
     put-words-requires
-    add-put-front
-    mul-put-front
-    add-put-front-2
-    sub-put-front
-    put-front-requires
+    add-put-heading
+    mul-put-heading
+    add-put-heading-2
+    sub-put-heading
+    put-heading-requires
     same-length
     returns)

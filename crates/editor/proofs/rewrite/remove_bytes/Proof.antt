@@ -15,7 +15,7 @@ use Rattle.editor.proofs.rewrite.remove_bytes.Reads as reads
 use Rattle.editor.proofs.rewrite.remove_bytes.Lts as lts
 use Rattle.editor.proofs.moves.clear.Reads as clear-reads
 use Rattle.editor.proofs.moves.move_starts.Reads as move-starts-reads
-use Rattle.editor.proofs.moves.put_front.Reads as put-front-reads
+use Rattle.editor.proofs.moves.put_heading.Reads as put-heading-reads
 use Rattle.editor.proofs.shift.shift_left.Reads as shift-left-reads
 
 -- src/rewrite.rt:69:20
@@ -75,28 +75,28 @@ clear-requires : tie.Need-clear-requires
 clear-requires c κs = search needs
 
 -- src/rewrite.rt:79:27
-sub-put-front : tie.Need-sub-put-front
-sub-put-front c = search needs
+sub-put-heading : tie.Need-sub-put-heading
+sub-put-heading c = search needs
 
 -- src/rewrite.rt:79:46
-sub-put-front-2 : tie.Need-sub-put-front-2
-sub-put-front-2 c = search needs
+sub-put-heading-2 : tie.Need-sub-put-heading-2
+sub-put-heading-2 c = search needs
 
 -- src/rewrite.rt:79:65
-mul-put-front : tie.Need-mul-put-front
-mul-put-front c = search needs
+mul-put-heading : tie.Need-mul-put-heading
+mul-put-heading c = search needs
 
 -- src/rewrite.rt:79:60
-add-put-front : tie.Need-add-put-front
-add-put-front c = search needs
+add-put-heading : tie.Need-add-put-heading
+add-put-heading c = search needs
 
 -- src/rewrite.rt:79:46
-sub-put-front-3 : tie.Need-sub-put-front-3
-sub-put-front-3 c = search needs
+sub-put-heading-3 : tie.Need-sub-put-heading-3
+sub-put-heading-3 c = search needs
 
 -- src/rewrite.rt:79:5
-put-front-requires : tie.Need-put-front-requires
-put-front-requires c κs = search needs
+put-heading-requires : tie.Need-put-heading-requires
+put-heading-requires c κs = search needs
 
 -- src/rewrite.rt:60:1
 same-length : tie.Need-same-length
@@ -111,7 +111,7 @@ returns c =
     let bytes : All Byte b = bytes-all b (λ i. omega (arith, c .before .before .before .before .before .before .before .before .before .before .before .before .before .before .before .before .before .before .before .before .slice-known .given i)) in
     let mv : Move = record { limit = a .start; grow = 0; fall = 12 + a .size; plus = 0; minus = 12 } in
     rw (
-      c .before .before .put-front .ensures,
+      c .before .before .put-heading .ensures,
       c .before .before .before .before .before .before .clear .ensures,
       c .before .before .before .before .before .before .before .before .before .before .shift-left2 .ensures,
       c .before .before .before .before .before .before .before .before .before .before .before .before .before .before .shift-left .ensures,
@@ -138,11 +138,11 @@ remove-bytes-spec =
     sub-clear
     add-clear-2
     clear-requires
-    sub-put-front
-    sub-put-front-2
-    mul-put-front
-    add-put-front
-    sub-put-front-3
-    put-front-requires
+    sub-put-heading
+    sub-put-heading-2
+    mul-put-heading
+    add-put-heading
+    sub-put-heading-3
+    put-heading-requires
     same-length
     returns)

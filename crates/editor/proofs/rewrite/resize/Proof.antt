@@ -1,6 +1,8 @@
 use mathlib.Core.Path.{_∙_}
 use borrow.Author.Tests.{lt-ltb, le-ltb}
+use denote.Ref.{now}
 use Rattle.editor.specs.Post.{resized}
+use Rattle.editor.proofs.ReplaceBytes.{resized-same}
 use borrow.Author.Needs.{needs}
 use Rattle.editor.proofs.rewrite.resize.Statement.{statement}
 use Rattle.editor.proofs.rewrite.resize.Tie as tie
@@ -9,54 +11,59 @@ use Rattle.editor.proofs.rewrite.resize.Lts as lts
 use Rattle.editor.proofs.rewrite.close_gap.Reads as close-gap-reads
 use Rattle.editor.proofs.shift.shift_right.Reads as shift-right-reads
 
--- src/lib.rt:266:33
+-- src/rewrite.rt:82:9
+returns : tie.Need-returns
+returns c = let a = c .before .before .args in resized-same (now (a .buf)) (a .at) (a .len) (a .old) (a .new) (c .if1 .taken)
+
+-- src/rewrite.rt:85:33
 add-shift-right : tie.Need-add-shift-right
 add-shift-right c = search needs
 
--- src/lib.rt:266:48
+-- src/rewrite.rt:85:48
 sub-shift-right : tie.Need-sub-shift-right
 sub-shift-right c = search needs
 
--- src/lib.rt:266:9
+-- src/rewrite.rt:85:9
 shift-right-requires : tie.Need-shift-right-requires
 shift-right-requires c κs = search needs
 
--- src/lib.rt:267:9
+-- src/rewrite.rt:86:9
 same-length : tie.Need-same-length
 same-length c = search needs
 
--- src/lib.rt:267:9
-returns : tie.Need-returns
+-- src/rewrite.rt:86:9
+returns-2 : tie.Need-returns-2
 unfolding resized
-returns c = c .before .before .shift-right .ensures ∙ (rw (lt-ltb _ _ (c .before .before .before .before .if1 .taken)))
+returns-2 c = c .before .before .shift-right .ensures ∙ (rw (lt-ltb _ _ (c .before .before .before .before .if2 .taken)))
 
--- src/lib.rt:269:20
+-- src/rewrite.rt:88:20
 add-close-gap : tie.Need-add-close-gap
 add-close-gap c = search needs
 
--- src/lib.rt:269:5
+-- src/rewrite.rt:88:5
 close-gap-requires : tie.Need-close-gap-requires
 close-gap-requires c κs = search needs
 
--- src/lib.rt:261:1
+-- src/rewrite.rt:77:1
 same-length-2 : tie.Need-same-length-2
 same-length-2 c = search needs
 
--- src/lib.rt:261:1
-returns-2 : tie.Need-returns-2
+-- src/rewrite.rt:77:1
+returns-3 : tie.Need-returns-3
 unfolding resized
-returns-2 c = c .before .before .close-gap .ensures ∙ (rw (le-ltb _ _ (c .before .before .before .before .if1 .left)))
+returns-3 c = c .before .before .close-gap .ensures ∙ (rw (le-ltb _ _ (c .before .before .before .before .if2 .left)))
 
 pub resize-spec : {M : Type 1} → statement M
 resize-spec =
     tie.close
     (tie.spec
+    returns
     add-shift-right
     sub-shift-right
     shift-right-requires
     same-length
-    returns
+    returns-2
     add-close-gap
     close-gap-requires
     same-length-2
-    returns-2)
+    returns-3)

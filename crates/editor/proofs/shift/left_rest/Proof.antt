@@ -4,22 +4,22 @@ use native.Mathlib.Omega.{arith}
 use borrow.Author.Needs.{needs}
 use lib.ListN.{length, length-set}
 use denote.Ref.{now}
-use Rattle.editor.specs.Shift.{moved}
-use Rattle.editor.proofs.ShiftLaws.{moved-none, left-turn}
+use Rattle.editor.specs.Shift.{slid}
+use Rattle.editor.proofs.ShiftLaws.{slid-none, left-turn}
 use Rattle.editor.proofs.shift.left_rest.Statement.{statement}
 use Rattle.editor.proofs.shift.left_rest.Tie as tie
 use Rattle.editor.proofs.shift.left_rest.Reads as reads
 use Rattle.editor.proofs.shift.left_rest.Lts as lts
 
 abbrev Inv-loop : tie.InvT-loop
-Inv-loop buf₀ at len k i₀ buf i = (at ≤ i) × (i ≤ len) × (length buf ≡ length buf₀) × (buf ≡ moved buf₀ (at - k) at (i - at))
+Inv-loop buf₀ at len k i₀ buf i = (at ≤ i) × (i ≤ len) × (length buf ≡ length buf₀) × (buf ≡ slid buf₀ (at - k) at (i - at))
 
 abbrev μ-loop : tie.MeasureT-loop
 μ-loop buf₀ at len k i₀ buf i = len - i
 
 -- src/lib.rt:26:5
 loop-holds : tie.Need-loop-holds Inv-loop μ-loop
-loop-holds c = (search needs, search needs, refl, moved-none (now (c .args .buf)) (c .args .at - c .args .k) (c .args .at) (c .args .at - c .args .at) (omega arith))
+loop-holds c = (search needs, search needs, refl, slid-none (now (c .args .buf)) (c .args .at - c .args .k) (c .args .at) (c .args .at - c .args .at) (omega arith))
 
 -- src/lib.rt:27:17
 slice-read-x : tie.Need-slice-read-x Inv-loop μ-loop
@@ -62,7 +62,7 @@ returns c =
     let l = c .before .loop in
     let a = c .before .before .args in
     let e : l .i ≡ a .len = omega arith in
-    l .inv .3 ∙ ap (λ (j : ℕ). moved (now (a .buf)) (a .at - a .k) (a .at) (j - a .at)) e
+    l .inv .3 ∙ ap (λ (j : ℕ). slid (now (a .buf)) (a .at - a .k) (a .at) (j - a .at)) e
 
 pub left-rest-spec : {M : Type 1} → statement M
 left-rest-spec =

@@ -4,22 +4,22 @@ use native.Mathlib.Omega.{arith}
 use borrow.Author.Needs.{needs}
 use lib.ListN.{length, length-set}
 use denote.Ref.{now}
-use Rattle.editor.specs.Shift.{moved}
-use Rattle.editor.proofs.ShiftLaws.{moved-none, right-turn}
+use Rattle.editor.specs.Shift.{slid}
+use Rattle.editor.proofs.ShiftLaws.{slid-none, right-turn}
 use Rattle.editor.proofs.shift.right_rest.Statement.{statement}
 use Rattle.editor.proofs.shift.right_rest.Tie as tie
 use Rattle.editor.proofs.shift.right_rest.Reads as reads
 use Rattle.editor.proofs.shift.right_rest.Lts as lts
 
 abbrev Inv-loop : tie.InvT-loop
-Inv-loop buf₀ at len k i₀ buf i = (at ≤ i) × (i ≤ len) × (length buf ≡ length buf₀) × (buf ≡ moved buf₀ (i + k) i (len - i))
+Inv-loop buf₀ at len k i₀ buf i = (at ≤ i) × (i ≤ len) × (length buf ≡ length buf₀) × (buf ≡ slid buf₀ (i + k) i (len - i))
 
 abbrev μ-loop : tie.MeasureT-loop
 μ-loop buf₀ at len k i₀ buf i = i
 
 -- src/lib.rt:13:5
 loop-holds : tie.Need-loop-holds Inv-loop μ-loop
-loop-holds c = (search needs, search needs, refl, moved-none (now (c .args .buf)) (c .args .len + c .args .k) (c .args .len) (c .args .len - c .args .len) (omega arith))
+loop-holds c = (search needs, search needs, refl, slid-none (now (c .args .buf)) (c .args .len + c .args .k) (c .args .len) (c .args .len - c .args .len) (omega arith))
 
 -- src/lib.rt:14:9
 sub-i : tie.Need-sub-i Inv-loop μ-loop
@@ -62,7 +62,7 @@ returns c =
     let l = c .before .loop in
     let a = c .before .before .args in
     let e : l .i ≡ a .at = omega arith in
-    l .inv .3 ∙ ap (λ (j : ℕ). moved (now (a .buf)) (j + a .k) j (a .len - j)) e
+    l .inv .3 ∙ ap (λ (j : ℕ). slid (now (a .buf)) (j + a .k) j (a .len - j)) e
 
 pub right-rest-spec : {M : Type 1} → statement M
 right-rest-spec =

@@ -4,18 +4,18 @@ use native.Mathlib.Omega.{arith}
 use borrow.Author.Needs.{needs}
 use lib.ListN.{length}
 use denote.Ref.{now}
-use Rattle.editor.specs.Shift.{moved}
+use Rattle.editor.specs.Shift.{slid}
 use Rattle.editor.proofs.ShiftLaws as laws
 use Rattle.editor.proofs.shift.shift_right.Statement.{statement}
 use Rattle.editor.proofs.shift.shift_right.Tie as tie
 use Rattle.editor.proofs.shift.shift_right.Reads as reads
 use Rattle.editor.proofs.shift.shift_right.Lts as lts
-use Rattle.editor.proofs.shift.load.Reads as load-reads
-use Rattle.editor.proofs.shift.right_rest.Reads as right-rest-reads
-use Rattle.editor.proofs.shift.store.Reads as store-reads
+use Rattle.editor.proofs.shift.load_page.Reads as load-page-reads
+use Rattle.editor.proofs.shift.right_blocks.Reads as right-blocks-reads
+use Rattle.editor.proofs.shift.store_page.Reads as store-page-reads
 
 abbrev Inv-loop : tie.InvT-loop
-Inv-loop buf₀ at len k i₀ buf i = (at ≤ i) × (i ≤ len) × (length buf ≡ length buf₀) × (buf ≡ moved buf₀ (i + k) i (len - i))
+Inv-loop buf₀ at len k i₀ buf i = (at ≤ i) × (i ≤ len) × (length buf ≡ length buf₀) × (buf ≡ slid buf₀ (i + k) i (len - i))
 
 abbrev μ-loop : tie.MeasureT-loop
 μ-loop buf₀ at len k i₀ buf i = i
@@ -24,7 +24,7 @@ abbrev μ-loop : tie.MeasureT-loop
 loop-holds : tie.Need-loop-holds Inv-loop μ-loop
 loop-holds c =
     let a = c .before .args in
-    (search needs, search needs, refl, laws.moved-none (now (a .buf)) (a .len + a .k) (a .len) (a .len - a .len) (omega arith))
+    (search needs, search needs, refl, laws.slid-none (now (a .buf)) (a .len + a .k) (a .len) (a .len - a .len) (omega arith))
 
 -- src/lib.rt:78:19
 sub-loop : tie.Need-sub-loop Inv-loop μ-loop
@@ -35,16 +35,16 @@ sub-i : tie.Need-sub-i Inv-loop μ-loop
 sub-i c = search needs
 
 -- src/lib.rt:80:13
-load-requires : tie.Need-load-requires Inv-loop μ-loop
-load-requires c κs = search needs
+load-page-requires : tie.Need-load-page-requires Inv-loop μ-loop
+load-page-requires c κs = search needs
 
 -- src/lib.rt:81:20
-add-store : tie.Need-add-store Inv-loop μ-loop
-add-store c = search needs
+add-store-page : tie.Need-add-store-page Inv-loop μ-loop
+add-store-page c = search needs
 
 -- src/lib.rt:81:9
-store-requires : tie.Need-store-requires Inv-loop μ-loop
-store-requires c κs = search needs
+store-page-requires : tie.Need-store-page-requires Inv-loop μ-loop
+store-page-requires c κs = search needs
 
 -- src/lib.rt:78:5
 loop-less : tie.Need-loop-less Inv-loop μ-loop
@@ -55,11 +55,11 @@ loop-again : tie.Need-loop-again Inv-loop μ-loop
 loop-again c =
     let l = c .before .before .before .before .before .before .before .loop in
     let a = c .before .before .before .before .before .before .before .before .before .args in
-    (omega arith, omega arith, search needs, laws.right-block (now (a .buf)) (l .buf) (c .before .before .before .before .load .result) (c .before .before .store .last .0) (l .i) (a .len) (a .k) 1024 (c .before .before .store .ensures) (c .before .before .before .before .load .ensures) (l .inv .3) (omega arith) (l .inv .1) (c .before .before .before .before .before .before .before .before .before .pre .1))
+    (omega arith, omega arith, search needs, laws.right-block (now (a .buf)) (l .buf) (c .before .before .before .before .load-page .result) (c .before .before .store-page .last .0) (l .i) (a .len) (a .k) 4096 (c .before .before .store-page .ensures) (c .before .before .before .before .load-page .ensures) (l .inv .3) (omega arith) (l .inv .1) (c .before .before .before .before .before .before .before .before .before .pre .1))
 
 -- src/lib.rt:83:5
-right-rest-requires : tie.Need-right-rest-requires Inv-loop μ-loop
-right-rest-requires c κs = search needs
+right-blocks-requires : tie.Need-right-blocks-requires Inv-loop μ-loop
+right-blocks-requires c κs = search needs
 
 -- src/lib.rt:73:1
 same-length : tie.Need-same-length Inv-loop μ-loop
@@ -70,7 +70,7 @@ returns : tie.Need-returns Inv-loop μ-loop
 returns c =
     let l = c .before .before .before .before .before .loop in
     let a = c .before .before .before .before .before .before .before .args in
-    laws.right-last (now (a .buf)) (l .buf) (c .before .before .right-rest .last .0) (a .at) (l .i) (a .len) (a .k) (c .before .before .right-rest .ensures) (l .inv .3) (l .inv .0) (l .inv .1) (c .before .before .before .before .before .before .before .pre .1)
+    laws.right-last (now (a .buf)) (l .buf) (c .before .before .right-blocks .last .0) (a .at) (l .i) (a .len) (a .k) (c .before .before .right-blocks .ensures) (l .inv .3) (l .inv .0) (l .inv .1) (c .before .before .before .before .before .before .before .pre .1)
 
 pub shift-right-spec : {M : Type 1} → statement M
 shift-right-spec =
@@ -81,11 +81,11 @@ shift-right-spec =
     loop-holds
     sub-loop
     sub-i
-    load-requires
-    add-store
-    store-requires
+    load-page-requires
+    add-store-page
+    store-page-requires
     loop-less
     loop-again
-    right-rest-requires
+    right-blocks-requires
     same-length
     returns)

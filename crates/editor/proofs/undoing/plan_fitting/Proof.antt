@@ -31,7 +31,7 @@ slice-aggregate-plan-unlisted c =
 plan-unlisted-requires : tie.Need-plan-unlisted-requires
 plan-unlisted-requires c κs =
     let a = c .before .before .before .before .before .args in
-    asked-begins (now (a .buf)) (a .len) (now (a .jrn)) (a .used) (a .r) (a .facts) (c .before .before .before .before .before .pre)
+    asked-begins (now (a .buf)) (a .len) (now (a .jrn)) (a .used) (a .r) (a .facts) (c .before .before .before .before .before .pre) (c .before .if2 .taken)
 
 -- src/undoing.rt:228:9
 returns-2 : tie.Need-returns-2

@@ -1,15 +1,15 @@
-use Rattle.reader.specs.Plain.{allPlain}
+use Rattle.reader.specs.Ordinary.{allOrdinary}
 use Rattle.reader.specs.Walk.{walkFrom, chunksFrom, skipAt, verdictOf}
-use Rattle.reader.proofs.ChunkLaws.{walk-next, walk-fault, walk-end, chunk-good-header, plain-next, plain-end, plain-second, unplain}
+use Rattle.reader.proofs.ChunkLaws.{walk-next, walk-fault, walk-end, chunk-good-header, ordinary-next, ordinary-end, ordinary-second, no-ordinary}
 use Prim.Native.Nat.{ℕ, _-_, _+_, _≤_, _<_}
 use native.Mathlib.Omega.{arith}
 use mathlib.Core.Path.{_≡_, refl, sym, ap, _∙_}
 use mathlib.Core.Bool.{Bool, true, false, _&&_}
 use lib.ListN.{length}
 use denote.Ref.{now}
-use Rattle.reader.specs.Plain.{allPlain}
+use Rattle.reader.specs.Ordinary.{allOrdinary}
 use Rattle.reader.specs.Walk.{walkFrom, chunksFrom, skipAt, verdictOf}
-use Rattle.reader.proofs.ChunkLaws.{walk-next, walk-fault, walk-end, chunk-good-header, plain-next, plain-end, plain-second, unplain}
+use Rattle.reader.proofs.ChunkLaws.{walk-next, walk-fault, walk-end, chunk-good-header, ordinary-next, ordinary-end, ordinary-second, no-ordinary}
 use borrow.Author.Needs.{needs}
 use Rattle.reader.proofs.chunks.second_if.Statement.{statement}
 use Rattle.reader.proofs.chunks.second_if.Tie as tie
@@ -19,7 +19,7 @@ use Rattle.reader.proofs.chunks.second.Reads as second-reads
 
 -- src/chunks.rt:201:9
 returns : tie.Need-returns
-returns c = sym (plain-second _ _ (c .before .before .pre .1 (c .if1 .taken)))
+returns c = sym (ordinary-second _ _ (c .before .before .pre .1 (c .if1 .taken)))
 
 -- src/chunks.rt:203:5
 second-requires : tie.Need-second-requires

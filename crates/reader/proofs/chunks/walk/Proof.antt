@@ -1,15 +1,15 @@
-use Rattle.reader.specs.Plain.{allPlain}
+use Rattle.reader.specs.Ordinary.{allOrdinary}
 use Rattle.reader.specs.Walk.{walkFrom, chunksFrom, skipAt, verdictOf}
-use Rattle.reader.proofs.ChunkLaws.{walk-next, walk-fault, walk-end, chunk-good-header, plain-next, plain-end, plain-second, unplain}
+use Rattle.reader.proofs.ChunkLaws.{walk-next, walk-fault, walk-end, chunk-good-header, ordinary-next, ordinary-end, ordinary-second, no-ordinary}
 use Prim.Native.Nat.{ℕ, _-_, _+_, _≤_, _<_}
 use native.Mathlib.Omega.{arith}
 use mathlib.Core.Path.{_≡_, refl, sym, ap, _∙_}
 use mathlib.Core.Bool.{Bool, true, false, _&&_}
 use lib.ListN.{length}
 use denote.Ref.{now}
-use Rattle.reader.specs.Plain.{allPlain}
+use Rattle.reader.specs.Ordinary.{allOrdinary}
 use Rattle.reader.specs.Walk.{walkFrom, chunksFrom, skipAt, verdictOf}
-use Rattle.reader.proofs.ChunkLaws.{walk-next, walk-fault, walk-end, chunk-good-header, plain-next, plain-end, plain-second, unplain}
+use Rattle.reader.proofs.ChunkLaws.{walk-next, walk-fault, walk-end, chunk-good-header, ordinary-next, ordinary-end, ordinary-second, no-ordinary}
 use borrow.Author.Needs.{needs}
 use Rattle.reader.proofs.chunks.walk.Statement.{statement}
 use Rattle.reader.proofs.chunks.walk.Tie as tie
@@ -21,7 +21,7 @@ use Rattle.reader.proofs.chunks.walk_rest.Reads as walk-rest-reads
 
 -- src/chunks.rt:143:9
 returns : tie.Need-returns
-returns c = (sym (walk-end _ _ (c .if1 .taken)), λ e. unplain _ e)
+returns c = (sym (walk-end _ _ (c .if1 .taken)), λ e. no-ordinary _ e)
 
 -- src/chunks.rt:148:11
 chunk-requires : tie.Need-chunk-requires
@@ -45,7 +45,7 @@ walk-rest-requires c κs = search needs
 
 -- src/chunks.rt:139:1
 returns-2 : tie.Need-returns-2
-returns-2 c = (walk-fault _ _ _ _ (c .before .before .before .before .if1 .left) (sym (c .before .before .before .chunk .ensures) ∙ ap verdictOf (c .before .number .given .1)), λ e. unplain _ e)
+returns-2 c = (walk-fault _ _ _ _ (c .before .before .before .before .if1 .left) (sym (c .before .before .before .chunk .ensures) ∙ ap verdictOf (c .before .number .given .1)), λ e. no-ordinary _ e)
 
 -- src/chunks.rt:139:1
 returns-3 : tie.Need-returns-3
@@ -54,7 +54,7 @@ returns-3 c =
     let w = c .walk-rest .ensures in
     let k = c .before .skip .ensures in (
       w .0 ∙ ap (λ (x : ℕ). walkFrom s x) k ∙ walk-next s 12 (c .before .before .before .before .before .if1 .left) (sym (c .before .before .before .before .chunk .ensures) ∙ ap verdictOf (c .before .before .enum-told .given .1)),
-      λ e. ap (λ (x : ℕ). allPlain (chunksFrom s x)) (sym k) ∙ w .1 e,
+      λ e. ap (λ (x : ℕ). allOrdinary (chunksFrom s x)) (sym k) ∙ w .1 e,
     )
 
 pub walk-spec : {M : Type 1} → statement M

@@ -10,23 +10,21 @@ use Rattle.reader.specs.Walk.{walkFrom, chunksFrom, Reached, verdictOf}
 use Rattle.blorb.specs.Verdict.{accept, pairIn}
 use Rattle.reader.proofs.ChunkLaws.{begun, resume}
 use Rattle.reader.specs.Entries.{usageAt, numberAt, startAt, place, earlier, entriesFrom, samePair, judgedBy, entryFault, Below, Topped, slotOf}
-use Rattle.reader.proofs.EntryLaws.{judged-at, judged-fault, entry-start, entry-stop, pair-stop, pair-more, pair-hit, entries-next, entries-end, topped, below-next}
+use Rattle.reader.proofs.EntryLaws.{judged-at, judged-fault, entry-start, entry-stop, pair-stop, pair-more, pair-hit, entries-next, entries-end, fresh, pair-none, topped, below-next, below-same}
 use Rattle.reader.proofs.entries.entries.Statement.{statement}
 use Rattle.reader.proofs.entries.entries.Tie as tie
 use Rattle.reader.proofs.entries.entries.Reads as reads
 use Rattle.reader.proofs.entries.entries.Lts as lts
 use Rattle.blorb.proofs.be32_at.Reads as be32-at-reads
-use Rattle.reader.proofs.entries.above.Reads as above-reads
-use Rattle.reader.proofs.entries.first_rival.Reads as first-rival-reads
 use Rattle.reader.proofs.entries.judge.Reads as judge-reads
 use Rattle.reader.proofs.entries.same_pair.Reads as same-pair-reads
 use Rattle.reader.proofs.entries.slot.Reads as slot-reads
 
 abbrev Inv-loop : tie.InvT-loop
-Inv-loop s count base answer₀ tops found j p k top i₀ answer i = (i ≤ j) × (answer ≡ Good) × (pairIn (usageAt s (place j)) (numberAt s (place j)) (earlier s base i) ≡ false)
+Inv-loop s count base answer₀ tops found j p k number i₀ answer i = (i ≤ j) × (answer ≡ Good) × (pairIn (usageAt s (place j)) (numberAt s (place j)) (earlier s base i) ≡ false)
 
 abbrev μ-loop : tie.MeasureT-loop
-μ-loop s count base answer₀ tops found j p k top i₀ answer i = j - i
+μ-loop s count base answer₀ tops found j p k number i₀ answer i = j - i
 
 abbrev Inv-entries : tie.InvT-entries
 Inv-entries s count base answer₀ tops₀ found₀ j₀ answer tops found j = (j ≤ count) × (answer ≡ Good) × (length tops ≡ 8) × (walkFrom s found ≡ accept) × Reached s base found × (entriesFrom s base j (count - j) ≡ entriesFrom s base 0 count) × Below s tops j
@@ -34,150 +32,175 @@ Inv-entries s count base answer₀ tops₀ found₀ j₀ answer tops found j = (
 abbrev μ-entries : tie.MeasureT-entries
 μ-entries s count base answer₀ tops₀ found₀ j₀ answer tops found j = count - j
 
--- src/entries.rt:186:21
+-- src/entries.rt:175:21
 mul-base : tie.Need-mul-base Inv-loop μ-loop Inv-entries μ-entries
 mul-base c = search needs
 
--- src/entries.rt:186:16
+-- src/entries.rt:175:16
 add-base : tie.Need-add-base Inv-loop μ-loop Inv-entries μ-entries
 add-base c = search needs
 
--- src/entries.rt:191:5
+-- src/entries.rt:180:5
 entries-holds : tie.Need-entries-holds Inv-loop μ-loop Inv-entries μ-entries
 entries-holds c =
     let a = c .before .args in
     let z : a .count - 0 ≡ a .count = omega arith in
     (search needs, refl, refl, c .before .pre .2, (λ x l. refl), ap (λ (n : ℕ). entriesFrom (now (a .s)) (place (a .count)) 0 n) z, (λ i h. absurd (omega arith)))
 
--- src/entries.rt:192:22
+-- src/entries.rt:181:22
 mul-p : tie.Need-mul-p Inv-loop μ-loop Inv-entries μ-entries
 mul-p c = search needs
 
--- src/entries.rt:192:17
+-- src/entries.rt:181:17
 add-p : tie.Need-add-p Inv-loop μ-loop Inv-entries μ-entries
 add-p c = search needs
 
--- src/entries.rt:193:15
+-- src/entries.rt:182:15
 judge-requires : tie.Need-judge-requires Inv-loop μ-loop Inv-entries μ-entries
 judge-requires c κs = search needs
 
--- src/entries.rt:194:29
+-- src/entries.rt:183:29
 enum-known-number : tie.Need-enum-known-number Inv-loop μ-loop Inv-entries μ-entries
 enum-known-number c = search needs
 
--- src/entries.rt:195:17
+-- src/entries.rt:184:17
 returns : tie.Need-returns Inv-loop μ-loop Inv-entries μ-entries
 returns c = entry-stop _ _ _ _ (c .before .before .before .before .before .before .before .pre .2) (c .before .before .before .before .entries-test .taken) _ _ (judged-fault _ _ _ _ (sym (c .before .before .before .judge .ensures) ∙ c .before .number .given .1)) ∙ c .before .before .before .before .before .entries .inv .5
 
--- src/entries.rt:197:24
+-- src/entries.rt:186:24
 enum-known-start : tie.Need-enum-known-start Inv-loop μ-loop Inv-entries μ-entries
 enum-known-start c = search needs
 
--- src/entries.rt:201:22
+-- src/entries.rt:190:22
 be32-at-requires : tie.Need-be32-at-requires Inv-loop μ-loop Inv-entries μ-entries
 be32-at-requires c κs = search needs
 
--- src/entries.rt:201:13
+-- src/entries.rt:190:13
 slot-requires : tie.Need-slot-requires Inv-loop μ-loop Inv-entries μ-entries
 slot-requires c κs = search needs
 
--- src/entries.rt:202:19
-mul-top : tie.Need-mul-top Inv-loop μ-loop Inv-entries μ-entries
-mul-top c = search needs
-
--- src/entries.rt:202:19
-array-read-top : tie.Need-array-read-top Inv-loop μ-loop Inv-entries μ-entries
-array-read-top c = search needs
-
--- src/entries.rt:203:13
-first-rival-requires : tie.Need-first-rival-requires Inv-loop μ-loop Inv-entries μ-entries
-first-rival-requires c κs =
-    let a = c .before .before .before .before .before .before .before .before .before .args in
-    let o = c .before .before .before .before .before .before .before .entries in
-    (omega arith, topped (now (a .s)) (o .tops) (o .j) (c .slot .result) (o .inv .6) (c .slot .ensures .0 ∙ ap slotOf (c .before .be32-at .ensures .0)))
-
--- src/entries.rt:204:9
-loop-holds : tie.Need-loop-holds Inv-loop μ-loop Inv-entries μ-entries
-loop-holds c = (c .first-rival .ensures .0, c .before .before .before .before .before .before .before .before .entries .inv .1, c .first-rival .ensures .1)
-
--- src/entries.rt:205:16
-same-pair-requires : tie.Need-same-pair-requires Inv-loop μ-loop Inv-entries μ-entries
-same-pair-requires c κs = search needs
-
--- src/entries.rt:212:13
-add-i : tie.Need-add-i Inv-loop μ-loop Inv-entries μ-entries
-add-i c = search needs
-
--- src/entries.rt:204:9
-loop-less : tie.Need-loop-less Inv-loop μ-loop Inv-entries μ-entries
-loop-less c = search needs
-
--- src/entries.rt:204:9
-loop-again : tie.Need-loop-again Inv-loop μ-loop Inv-entries μ-entries
-loop-again c =
-    let l = c .before .before .before .loop in
-    (omega arith, l .inv .1, pair-more (now (c .before .before .before .before .before .before .before .before .before .before .before .before .before .before .args .s)) _ (l .i) (c .before .before .before .before .before .before .before .before .before .before .before .before .entries .j) (l .inv .2) (sym (c .before .same-pair .ensures) ∙ c .if1 .left))
-
--- src/entries.rt:214:48
+-- src/entries.rt:191:40
 add-be32-at : tie.Need-add-be32-at Inv-loop μ-loop Inv-entries μ-entries
 add-be32-at c = search needs
 
--- src/entries.rt:214:30
+-- src/entries.rt:191:13
 be32-at-requires-2 : tie.Need-be32-at-requires-2 Inv-loop μ-loop Inv-entries μ-entries
 be32-at-requires-2 c κs = search needs
 
--- src/entries.rt:214:19
-above-requires : tie.Need-above-requires Inv-loop μ-loop Inv-entries μ-entries
-above-requires c κs = search needs
+-- src/entries.rt:192:12
+mul-if1 : tie.Need-mul-if1 Inv-loop μ-loop Inv-entries μ-entries
+mul-if1 c = search needs
 
--- src/entries.rt:214:9
+-- src/entries.rt:192:12
+array-read-if1 : tie.Need-array-read-if1 Inv-loop μ-loop Inv-entries μ-entries
+array-read-if1 c = search needs
+
+-- src/entries.rt:193:23
+add-tops : tie.Need-add-tops Inv-loop μ-loop Inv-entries μ-entries
+add-tops c = search needs
+
+-- src/entries.rt:193:13
 mul-tops : tie.Need-mul-tops Inv-loop μ-loop Inv-entries μ-entries
 mul-tops c = search needs
 
--- src/entries.rt:214:9
+-- src/entries.rt:193:13
 array-write-tops : tie.Need-array-write-tops Inv-loop μ-loop Inv-entries μ-entries
 array-write-tops c = search needs
 
--- src/entries.rt:215:9
+-- src/entries.rt:194:13
 add-j : tie.Need-add-j Inv-loop μ-loop Inv-entries μ-entries
 add-j c = search needs
 
--- src/entries.rt:191:5
+-- src/entries.rt:180:5
 entries-less : tie.Need-entries-less Inv-loop μ-loop Inv-entries μ-entries
 entries-less c = search needs
 
--- src/entries.rt:191:5
+-- src/entries.rt:180:5
 entries-again : tie.Need-entries-again Inv-loop μ-loop Inv-entries μ-entries
 entries-again c =
-    let a = c .before .before .before .before .before .before .before .before .before .before .before .before .before .before .args in
+    let a = c .before .before .before .before .before .before .before .before .before .before .before .args in
     let s = now (a .s) in
-    let o = c .before .before .before .before .before .before .before .before .before .before .before .before .entries in
-    let l = c .before .before .before .loop in
+    let o = c .before .before .before .before .before .before .before .before .before .entries in
     let p : ℕ = place (o .j) in
     let base : ℕ = place (a .count) in
-    let w = c .before .before .before .before .before .before .before .before .before .before .before .before .before .before .pre .2 in
-    let g = judged-at (entryFault s base p) (startAt s p) _ (sym (c .before .before .before .before .before .before .before .before .before .before .judge .ensures) ∙ c .before .before .before .before .before .before .before .before .start .given .1) in
+    let w = c .before .before .before .before .before .before .before .before .before .before .before .pre .2 in
+    let g = judged-at (entryFault s base p) (startAt s p) _ (sym (c .before .before .before .before .before .before .before .judge .ensures) ∙ c .before .before .before .before .before .start .given .1) in
     let b = entry-start s base p (g .0) in
-    let k = c .before .before .before .before .before .slot .result in
-    let q : k ≡ slotOf (usageAt s p) = c .before .before .before .before .before .slot .ensures .0 ∙ ap slotOf (c .before .before .before .before .before .before .be32-at .ensures .0) in
+    let k = c .before .before .slot .result in
+    let q : k ≡ slotOf (usageAt s p) = c .before .before .slot .ensures .0 ∙ ap slotOf (c .before .before .before .be32-at .ensures .0) in
     let m : c .before .be32-at2 .result ≡ numberAt s p = c .before .be32-at2 .ensures .0 in
-    let v : c .before .be32-at2 .result < c .above .result = c .above .ensures .0 in
-    let h : getD (o .tops) k 0 ≤ c .above .result = c .above .ensures .1 in
-    let n : numberAt s p < c .above .result = omega arith in
-    let z : k < 8 = c .before .before .before .before .before .slot .ensures .1 in
-    let t : length (o .tops) ≡ 8 = o .inv .2 in
-    let i : l .i ≡ o .j = omega (arith, l .inv .0, c .before .before .loop-test .left) in
-    let x : pairIn (usageAt s p) (numberAt s p) (earlier s base (o .j)) ≡ false = ap (λ (z : ℕ). pairIn (usageAt s p) (numberAt s p) (earlier s base z)) (sym i) ∙ l .inv .2 in (
+    let top : ℕ = getD (o .tops) k 0 in
+    let h : top ≤ c .before .be32-at2 .result = c .if1 .taken in
+    let x : pairIn (usageAt s p) (numberAt s p) (earlier s base (o .j)) ≡ false = fresh s base (o .j) top (topped s (o .tops) (o .j) k (o .inv .6) q) (omega arith) (o .j) (omega arith) in
+    let z : k < 8 = c .before .before .slot .ensures .1 in
+    let t : length (o .tops) ≡ 8 = o .inv .2 in (
       omega arith,
-      l .inv .1,
+      o .inv .1,
       simp length-set t,
       rw (← (g .1)) (begun s (startAt s p) base w b .walks),
       rw (← (g .1)) (resume s (startAt s p) base w b),
       entries-next s base (a .count) (o .j) w (omega arith) (g .0) x ∙ o .inv .5,
-      below-next s (o .tops) (o .j) k (c .above .result) (o .inv .6) q (omega arith) n h,
+      below-next s (o .tops) (o .j) k (c .before .be32-at2 .result + 1) (o .inv .6) q (omega arith) (omega arith) (omega arith),
     )
 
--- src/entries.rt:182:1
+-- src/entries.rt:198:9
+loop-holds : tie.Need-loop-holds Inv-loop μ-loop Inv-entries μ-entries
+loop-holds c = (omega arith, c .before .before .before .before .before .before .before .before .before .entries .inv .1, pair-none (now (c .before .before .before .before .before .before .before .before .before .before .before .args .s)) (place (c .before .before .before .before .before .before .before .before .before .before .before .args .count)) (c .before .before .before .before .before .before .before .before .before .entries .j))
+
+-- src/entries.rt:199:16
+same-pair-requires : tie.Need-same-pair-requires Inv-loop μ-loop Inv-entries μ-entries
+same-pair-requires c κs = search needs
+
+-- src/entries.rt:206:13
+add-i : tie.Need-add-i Inv-loop μ-loop Inv-entries μ-entries
+add-i c = search needs
+
+-- src/entries.rt:198:9
+loop-less : tie.Need-loop-less Inv-loop μ-loop Inv-entries μ-entries
+loop-less c = search needs
+
+-- src/entries.rt:198:9
+loop-again : tie.Need-loop-again Inv-loop μ-loop Inv-entries μ-entries
+loop-again c =
+    let l = c .before .before .before .loop in
+    (omega arith, l .inv .1, pair-more (now (c .before .before .before .before .before .before .before .before .before .before .before .before .before .before .before .args .s)) _ (l .i) (c .before .before .before .before .before .before .before .before .before .before .before .before .before .entries .j) (l .inv .2) (sym (c .before .same-pair .ensures) ∙ c .if2 .left))
+
+-- src/entries.rt:208:9
+add-j-2 : tie.Need-add-j-2 Inv-loop μ-loop Inv-entries μ-entries
+add-j-2 c = search needs
+
+-- src/entries.rt:180:5
+entries-less-2 : tie.Need-entries-less-2 Inv-loop μ-loop Inv-entries μ-entries
+entries-less-2 c = search needs
+
+-- src/entries.rt:180:5
+entries-again-2 : tie.Need-entries-again-2 Inv-loop μ-loop Inv-entries μ-entries
+entries-again-2 c =
+    let a = c .before .before .before .before .before .before .before .before .before .before .before .before .before .args in
+    let s = now (a .s) in
+    let o = c .before .before .before .before .before .before .before .before .before .before .before .entries in
+    let p : ℕ = place (o .j) in
+    let base : ℕ = place (a .count) in
+    let w = c .before .before .before .before .before .before .before .before .before .before .before .before .before .pre .2 in
+    let g = judged-at (entryFault s base p) (startAt s p) _ (sym (c .before .before .before .before .before .before .before .before .before .judge .ensures) ∙ c .before .before .before .before .before .before .before .start .given .1) in
+    let b = entry-start s base p (g .0) in
+    let k = c .before .before .before .before .slot .result in
+    let q : k ≡ slotOf (usageAt s p) = c .before .before .before .before .slot .ensures .0 ∙ ap slotOf (c .before .before .before .before .before .be32-at .ensures .0) in
+    let m : c .before .before .before .be32-at2 .result ≡ numberAt s p = c .before .before .before .be32-at2 .ensures .0 in
+    let l = c .before .loop in
+    let i : l .i ≡ o .j = omega (arith, l .inv .0, c .loop-test .left) in
+    let x : pairIn (usageAt s p) (numberAt s p) (earlier s base (o .j)) ≡ false = ap (λ (z : ℕ). pairIn (usageAt s p) (numberAt s p) (earlier s base z)) (sym i) ∙ l .inv .2 in
+    let h : c .before .before .before .be32-at2 .result < getD (o .tops) k 0 = c .before .before .if1 .left in (
+      omega arith,
+      l .inv .1,
+      o .inv .2,
+      rw (← (g .1)) (begun s (startAt s p) base w b .walks),
+      rw (← (g .1)) (resume s (startAt s p) base w b),
+      entries-next s base (a .count) (o .j) w (omega arith) (g .0) x ∙ o .inv .5,
+      below-same s (o .tops) (o .j) k (o .inv .6) q (omega arith),
+    )
+
+-- src/entries.rt:171:1
 returns-2 : tie.Need-returns-2 Inv-loop μ-loop Inv-entries μ-entries
 returns-2 c =
     let a = c .before .before .before .args in
@@ -185,17 +208,17 @@ returns-2 c =
     let z : a .count - o .j ≡ 0 = omega arith in
     rw (o .inv .1) (sym (ap (λ (n : ℕ). entriesFrom (now (a .s)) (place (a .count)) (o .j) n) z ∙ entries-end (now (a .s)) (place (a .count)) (c .before .before .before .pre .2) (o .j)) ∙ o .inv .5)
 
--- src/entries.rt:182:1
+-- src/entries.rt:171:1
 returns-3 : tie.Need-returns-3 Inv-loop μ-loop Inv-entries μ-entries
 returns-3 c =
-    let a = c .before .before .before .before .before .before .before .before .before .before .before .before .before .before .args in
+    let a = c .before .before .before .before .before .before .before .before .before .before .before .before .before .before .before .args in
     let s = now (a .s) in
-    let o = c .before .before .before .before .before .before .before .before .before .before .before .before .entries in
+    let o = c .before .before .before .before .before .before .before .before .before .before .before .before .before .entries in
     let l = c .before .before .before .loop in
     let p : ℕ = place (o .j) in
     let base : ℕ = place (a .count) in
-    let g = judged-at (entryFault s base p) (startAt s p) _ (sym (c .before .before .before .before .before .before .before .before .before .before .judge .ensures) ∙ c .before .before .before .before .before .before .before .before .start .given .1) in
-    pair-stop s base (a .count) (o .j) (c .before .before .before .before .before .before .before .before .before .before .before .before .before .before .pre .2) (omega arith) (g .0) (pair-hit s base (l .i) (o .j) (o .j) (c .before .before .loop-test .taken) (sym (c .before .same-pair .ensures) ∙ c .if1 .taken)) ∙ o .inv .5
+    let g = judged-at (entryFault s base p) (startAt s p) _ (sym (c .before .before .before .before .before .before .before .before .before .before .before .judge .ensures) ∙ c .before .before .before .before .before .before .before .before .before .start .given .1) in
+    pair-stop s base (a .count) (o .j) (c .before .before .before .before .before .before .before .before .before .before .before .before .before .before .before .pre .2) (omega arith) (g .0) (pair-hit s base (l .i) (o .j) (o .j) (c .before .before .loop-test .taken) (sym (c .before .same-pair .ensures) ∙ c .if2 .taken)) ∙ o .inv .5
 
 pub entries-spec : {M : Type 1} → statement M
 entries-spec =
@@ -216,21 +239,23 @@ entries-spec =
     enum-known-start
     be32-at-requires
     slot-requires
-    mul-top
-    array-read-top
-    first-rival-requires
-    loop-holds
-    same-pair-requires
-    add-i
-    loop-less
-    loop-again
     add-be32-at
     be32-at-requires-2
-    above-requires
+    mul-if1
+    array-read-if1
+    add-tops
     mul-tops
     array-write-tops
     add-j
     entries-less
     entries-again
+    loop-holds
+    same-pair-requires
+    add-i
+    loop-less
+    loop-again
+    add-j-2
+    entries-less-2
+    entries-again-2
     returns-2
     returns-3)

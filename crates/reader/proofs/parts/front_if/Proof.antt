@@ -1,5 +1,5 @@
 use mathlib.Core.Path.{_∙_}
-use Rattle.reader.proofs.PartLaws.{front-is, front-plain, passed-fronts}
+use Rattle.reader.proofs.PartLaws.{front-is, front-ordinary, passed-fronts}
 use borrow.Author.Needs.{needs}
 use Rattle.reader.proofs.parts.front_if.Statement.{statement}
 use Rattle.reader.proofs.parts.front_if.Tie as tie
@@ -9,7 +9,7 @@ use Rattle.reader.proofs.parts.front_from.Reads as front-from-reads
 
 -- src/parts.rt:88:9
 returns : tie.Need-returns
-returns c = front-plain _ _ (c .before .before .pre .1 (c .if1 .taken))
+returns c = front-ordinary _ _ (c .before .before .pre .1 (c .if1 .taken))
 
 -- src/parts.rt:90:24
 mul-front-from : tie.Need-mul-front-from

@@ -12,11 +12,11 @@ use Rattle.reader.specs.Walk.{walkFrom, chunksFrom}
 abbrev pub ordinaryType : ℕ → Bool
 ordinaryType t = not (eqb t RIdx || (eqb t RelN || eqb t Fspc))
 
-unfoldable pub allPlain : List Chunk → Bool
-allPlain [] = true
-allPlain (c ∷ cs) = ordinaryType (c .type) && allPlain cs
+unfoldable pub allOrdinary : List Chunk → Bool
+allOrdinary [] = true
+allOrdinary (c ∷ cs) = ordinaryType (c .type) && allOrdinary cs
 
 -- a walk from `from` on has come to `at`; where p holds, it met ordinary chunks only
 pub record Along (f : List ℕ) (from at : ℕ) (p : Bool) : Type 0 where
   pub rest : walkFrom f at ≡ walkFrom f from
-  pub ordinary : p ≡ true → allPlain (chunksFrom f at) ≡ allPlain (chunksFrom f from)
+  pub ordinary : p ≡ true → allOrdinary (chunksFrom f at) ≡ allOrdinary (chunksFrom f from)

@@ -1,7 +1,7 @@
 use mathlib.Core.Path.{sym, _∙_}
 use borrow.Author.Needs.{needs}
-use Rattle.editor.proofs.judge.spoils.Statement.{statement}
-use Rattle.editor.proofs.judge.spoils.Tie as tie
+use Rattle.editor.proofs.judge.makes_rect.Statement.{statement}
+use Rattle.editor.proofs.judge.makes_rect.Tie as tie
 
 -- src/lib.rt:401:8
 is-picture-requires : tie.Need-is-picture-requires
@@ -15,5 +15,5 @@ returns c = let e = sym (c .before .is-picture .ensures) ∙ c .if1 .taken in rw
 returns-2 : tie.Need-returns-2
 returns-2 c = let e = sym (c .before .is-picture .ensures) ∙ c .if1 .left in rw e
 
-pub spoils-spec : {M : Type 1} → statement M
-spoils-spec = tie.close (tie.spec is-picture-requires returns returns-2)
+pub makes-rect-spec : {M : Type 1} → statement M
+makes-rect-spec = tie.close (tie.spec is-picture-requires returns returns-2)

@@ -1,10 +1,10 @@
 use denote.Ref.{now}
-use Rattle.editor.proofs.MoveLaws.{front-written}
+use Rattle.editor.proofs.MoveLaws.{heading-written}
 use borrow.Author.Needs.{needs}
-use Rattle.editor.proofs.moves.put_front.Statement.{statement}
-use Rattle.editor.proofs.moves.put_front.Tie as tie
-use Rattle.editor.proofs.moves.put_front.Reads as reads
-use Rattle.editor.proofs.moves.put_front.Lts as lts
+use Rattle.editor.proofs.moves.put_heading.Statement.{statement}
+use Rattle.editor.proofs.moves.put_heading.Tie as tie
+use Rattle.editor.proofs.moves.put_heading.Reads as reads
+use Rattle.editor.proofs.moves.put_heading.Lts as lts
 use Rattle.editor.proofs.moves.put_words.Reads as put-words-reads
 
 -- src/lib.rt:130:40
@@ -43,10 +43,10 @@ same-length c = search needs
 returns : tie.Need-returns
 returns c =
     let a = c .before .before .before .before .before .before .before .before .before .args in
-    rw (c .before .before .put-words2 .ensures, c .before .before .before .before .before .before .put-words .ensures) (front-written (now (a .buf)) (a .n) (a .t) (c .before .before .before .before .before .before .before .before .before .pre .0))
+    rw (c .before .before .put-words2 .ensures, c .before .before .before .before .before .before .put-words .ensures) (heading-written (now (a .buf)) (a .n) (a .t) (c .before .before .before .before .before .before .before .before .before .pre .0))
 
-pub put-front-spec : {M : Type 1} → statement M
-put-front-spec =
+pub put-heading-spec : {M : Type 1} → statement M
+put-heading-spec =
     tie.close
     (tie.spec
     mul-put-words
