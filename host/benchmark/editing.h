@@ -294,7 +294,9 @@ blorb_edit_answer CALL(undo)(uint8_t *file, size_t size, size_t length, const ui
 
     if (used <= journal_size)
         r = last_record(journal, used);
-    struct facts f = opened(file, size, length, journal_size, used, r.usage, r.number, r.start < 12 ? 0 : r.start - 12);
+    /* Only what was removed goes in where a chunk begins. */
+    size_t asked = r.kind < 3 || r.start < 12 ? 0 : r.start - 12;
+    struct facts f = opened(file, size, length, journal_size, used, r.usage, r.number, asked);
     if (f.verdict.refusal != 0)
         return answer(f.verdict.refusal, f.verdict.place, length, used);
     if (used == 0)
