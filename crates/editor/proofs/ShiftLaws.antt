@@ -1,6 +1,6 @@
 -- Laws of `slid`: nothing moved, its length, its elements outside the part, and a turn of each loop.
 use Prim.Native.Nat.{ℕ, zero, suc, _+_, _-_, _≤_, _<_}
-use mathlib.Core.Path.{_≡_, ap, sym, _∙_}
+use mathlib.Core.Path.{_≡_, refl, ap, sym, _∙_}
 use mathlib.Core.List.{List, [], _∷_, _++_, append-assoc}
 use native.Mathlib.Omega.{arith}
 use native.Mathlib.Numerals.{add-one}
@@ -181,24 +181,42 @@ left-more b at i k n hk ha hi =
     ∙ ap (λ (x : ℕ). paste m x (drop r (drop at b)) n) e
     ∙ copy-more b (drop at b) d r n (omega arith) (omega arith))
 
+-- m is b with the bytes from `i` up to `len` moved to the right
+abbrev pub Right : List ℕ → ℕ → ℕ → ℕ → List ℕ → ℕ → Type 0
+Right b at len k m i = (at ≤ i) × (i ≤ len) × (length m ≡ length b) × (m ≡ slid b (i + k) i (len - i))
+
+-- m is b with the bytes from `at` up to `i` moved to the left
+abbrev pub Left : List ℕ → ℕ → ℕ → ℕ → List ℕ → ℕ → Type 0
+Left b at len k m i = (at ≤ i) × (i ≤ len) × (length m ≡ length b) × (m ≡ slid b (at - k) at (i - at))
+
+pub right-first : (b : List ℕ) (at len k : ℕ) → at ≤ len → Right b at len k b len
+right-first b at len k h = (h, omega arith, refl, slid-none b (len + k) len (len - len) (omega arith))
+
+pub left-first : (b : List ℕ) (at len k : ℕ) → at ≤ len → Left b at len k b at
+left-first b at len k h = (omega arith, h, refl, slid-none b (at - k) at (at - at) (omega arith))
+
 -- a turn by blocks of n: m before it, t the block, m' after it
-pub right-block : (b m t m' : List ℕ) (i len k n : ℕ) → m' ≡ paste m (i - n + k) t n → t ≡ take n (drop (i - n) m) → m ≡ slid b (i + k) i (len - i)
-    → n ≤ i → i ≤ len → len + k ≤ length b → m' ≡ slid b (i - n + k) (i - n) (len - (i - n))
-right-block b m t m' i len k n s l e hn hi hl =
+pub right-block : (b m t m' : List ℕ) (at i len k n : ℕ) → m' ≡ paste m (i - n + k) t n → t ≡ take n (drop (i - n) m) → Right b at len k m i
+    → n ≤ i - at → len + k ≤ length b → Right b at len k m' (i - n)
+right-block b m t m' at i len k n s l (ha, hi, q, e) hn hl =
+    let to : m' ≡ slid b (i - n + k) (i - n) (len - (i - n)) =
     s
     ∙ ap (λ (x : List ℕ). paste m (i - n + k) x n) l
     ∙ as-part m m (i - n + k) (i - n) n
     ∙ ap (λ (x : List ℕ). slid x (i - n + k) (i - n) n) e
-    ∙ right-more b (i - n) i len k n (omega arith) hi hl
+    ∙ right-more b (i - n) i len k n (omega arith) hi hl in
+    (omega arith, omega arith, ap length to ∙ slid-length b (i - n + k) (i - n) (len - (i - n)) (omega arith) (omega arith), to)
 
-pub left-block : (b m t m' : List ℕ) (at i k n : ℕ) → m' ≡ paste m (i - k) t n → t ≡ take n (drop i m) → m ≡ slid b (at - k) at (i - at)
-    → k ≤ at → at ≤ i → i + n ≤ length b → m' ≡ slid b (at - k) at (i + n - at)
-left-block b m t m' at i k n s l e hk ha hi =
+pub left-block : (b m t m' : List ℕ) (at i len k n : ℕ) → m' ≡ paste m (i - k) t n → t ≡ take n (drop i m) → Left b at len k m i
+    → n ≤ len - i → k ≤ at → len ≤ length b → Left b at len k m' (i + n)
+left-block b m t m' at i len k n s l (ha, hi, q, e) hn hk hl =
+    let to : m' ≡ slid b (at - k) at (i + n - at) =
     s
     ∙ ap (λ (x : List ℕ). paste m (i - k) x n) l
     ∙ as-part m m (i - k) i n
     ∙ ap (λ (x : List ℕ). slid x (i - k) i n) e
-    ∙ left-more b at i k n hk ha hi
+    ∙ left-more b at i k n hk ha (omega arith) in
+    (omega arith, omega arith, ap length to ∙ slid-length b (at - k) at (i + n - at) (omega arith) (omega arith), to)
 
 pub copy-block : (b d m t m' : List ℕ) (at i n : ℕ) → m' ≡ paste m (at + i) t n → t ≡ take n (drop i d) → m ≡ paste b at d i
     → at + length d ≤ length b → i + n ≤ length d → m' ≡ paste b at d (i + n)
@@ -210,18 +228,19 @@ copy-block b d m t m' at i n s l e h hi =
     ∙ copy-more b d at i n (omega arith) hi
 
 -- the rest, after the blocks
-pub right-last : (b m m' : List ℕ) (at i len k : ℕ) → m' ≡ slid m (at + k) at (i - at) → m ≡ slid b (i + k) i (len - i)
-    → at ≤ i → i ≤ len → len + k ≤ length b → m' ≡ slid b (at + k) at (len - at)
-right-last b m m' at i len k s e ha hi hl = s ∙ ap (λ (x : List ℕ). slid x (at + k) at (i - at)) e ∙ right-more b at i len k (i - at) (omega arith) hi hl
+pub right-last : (b m m' : List ℕ) (at i len k : ℕ) → m' ≡ slid m (at + k) at (i - at) → Right b at len k m i → len + k ≤ length b
+    → m' ≡ slid b (at + k) at (len - at)
+right-last b m m' at i len k s (ha, hi, q, e) hl =
+    s ∙ ap (λ (x : List ℕ). slid x (at + k) at (i - at)) e ∙ right-more b at i len k (i - at) (omega arith) hi hl
 
-pub left-last : (b m m' : List ℕ) (at i len k : ℕ) → m' ≡ slid m (i - k) i (len - i) → m ≡ slid b (at - k) at (i - at)
-    → k ≤ at → at ≤ i → i ≤ len → len ≤ length b → m' ≡ slid b (at - k) at (len - at)
-left-last b m m' at i len k s e hk ha hi hl =
-    let q : i + (len - i) - at ≡ len - at = omega arith in
+pub left-last : (b m m' : List ℕ) (at i len k : ℕ) → m' ≡ slid m (i - k) i (len - i) → Left b at len k m i → k ≤ at → len ≤ length b
+    → m' ≡ slid b (at - k) at (len - at)
+left-last b m m' at i len k s (ha, hi, q, e) hk hl =
+    let z : i + (len - i) - at ≡ len - at = omega arith in
     s
     ∙ ap (λ (x : List ℕ). slid x (i - k) i (len - i)) e
     ∙ left-more b at i k (len - i) hk ha (omega arith)
-    ∙ ap (λ (x : ℕ). slid b (at - k) at x) q
+    ∙ ap (λ (x : ℕ). slid b (at - k) at x) z
 
 pub copy-last : (b d m m' : List ℕ) (at i : ℕ) → m' ≡ paste m (at + i) (drop i d) (length d - i) → m ≡ paste b at d i
     → at + length d ≤ length b → i ≤ length d → m' ≡ paste b at d (length d)

@@ -30,14 +30,14 @@ fn store(buf: &mut [u8], at: usize, t: [u8; 1024])
     }
 }
 
-// The 4,096 bytes at `at`.
-fn load_page(s: &[u8], at: usize) -> [u8; 4096]
-    requires { ⌜ at + 4096 ≤ length (now s) ⌝ }
-    ensures { λ r. ⌜ r ≡ take 4096 (drop at (now (s .entry))) ⌝ }
+// The 16,384 bytes at `at`.
+fn load_page(s: &[u8], at: usize) -> [u8; 16384]
+    requires { ⌜ at + 16384 ≤ length (now s) ⌝ }
+    ensures { λ r. ⌜ r ≡ take 16384 (drop at (now (s .entry))) ⌝ }
 {
-    let mut t = [0u8; 4096];
+    let mut t = [0u8; 16384];
     let mut j: usize = 0;
-    while j < 4096 {
+    while j < 16384 {
         t[j] = s[at + j];
         j += 1;
     }
@@ -45,12 +45,12 @@ fn load_page(s: &[u8], at: usize) -> [u8; 4096]
 }
 
 // A page written at `at`.
-fn store_page(buf: &mut [u8], at: usize, t: [u8; 4096])
-    requires { ⌜ at + 4096 ≤ length (now buf) ⌝ }
-    ensures { λ _. ⌜ now (buf .exit) ≡ laid (now (buf .entry)) at t 4096 ⌝ }
+fn store_page(buf: &mut [u8], at: usize, t: [u8; 16384])
+    requires { ⌜ at + 16384 ≤ length (now buf) ⌝ }
+    ensures { λ _. ⌜ now (buf .exit) ≡ laid (now (buf .entry)) at t 16384 ⌝ }
 {
     let mut j: usize = 0;
-    while j < 4096 {
+    while j < 16384 {
         buf[at + j] = t[j];
         j += 1;
     }
@@ -129,8 +129,8 @@ pub(crate) fn shift_right(buf: &mut [u8], at: usize, len: usize, k: usize)
     ensures { λ _. ⌜ now (buf .exit) ≡ slid (now (buf .entry)) (at + k) at (len - at) ⌝ }
 {
     let mut i = len;
-    while 4096 <= i - at {
-        i -= 4096;
+    while 16384 <= i - at {
+        i -= 16384;
         let t = load_page(buf, i);
         store_page(buf, i + k, t);
     }
@@ -143,10 +143,10 @@ pub(crate) fn shift_left(buf: &mut [u8], at: usize, len: usize, k: usize)
     ensures { λ _. ⌜ now (buf .exit) ≡ slid (now (buf .entry)) (at - k) at (len - at) ⌝ }
 {
     let mut i = at;
-    while 4096 <= len - i {
+    while 16384 <= len - i {
         let t = load_page(buf, i);
         store_page(buf, i - k, t);
-        i += 4096;
+        i += 16384;
     }
     left_blocks(buf, i, len, k);
 }
@@ -171,10 +171,10 @@ pub(crate) fn copy_pages(buf: &mut [u8], at: usize, d: &[u8])
     ensures { λ _. ⌜ now (buf .exit) ≡ laid (now (buf .entry)) at (now (d .entry)) (length (now (d .entry))) ⌝ }
 {
     let mut i: usize = 0;
-    while 4096 <= d.len() - i {
+    while 16384 <= d.len() - i {
         let t = load_page(d, i);
         store_page(buf, at + i, t);
-        i += 4096;
+        i += 16384;
     }
     copy_blocks(buf, at + i, &d[i..]);
 }

@@ -55,7 +55,7 @@ loop-again : tie.Need-loop-again Inv-loop μ-loop
 loop-again c =
     let l = c .before .before .before .before .before .before .loop in
     let a = c .before .before .before .before .before .before .before .before .before .args in
-    (omega arith, search needs, laws.copy-block (now (a .buf)) (now (a .d)) (l .buf) (c .before .before .before .before .load-page .result) (c .before .before .store-page .last .0) (a .at) (l .i) 4096 (c .before .before .store-page .ensures) (c .before .before .before .before .load-page .ensures) (l .inv .2) (c .before .before .before .before .before .before .before .before .before .pre) (omega arith))
+    (omega arith, search needs, laws.copy-block (now (a .buf)) (now (a .d)) (l .buf) (c .before .before .before .before .load-page .result) (c .before .before .store-page .last .0) (a .at) (l .i) 16384 (c .before .before .store-page .ensures) (c .before .before .before .before .load-page .ensures) (l .inv .2) (c .before .before .before .before .before .before .before .before .before .pre) (omega arith))
 
 -- src/shift.rt:151:22
 add-copy-blocks : tie.Need-add-copy-blocks Inv-loop μ-loop

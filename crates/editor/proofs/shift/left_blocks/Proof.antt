@@ -1,10 +1,6 @@
-use Prim.Native.Nat.{_-_, _≤_}
-use mathlib.Core.Path.{_≡_, refl}
-use native.Mathlib.Omega.{arith}
+use Prim.Native.Nat.{_-_}
 use borrow.Author.Needs.{needs}
-use lib.ListN.{length}
 use denote.Ref.{now}
-use Rattle.editor.specs.Shift.{slid}
 use Rattle.editor.proofs.ShiftLaws as laws
 use Rattle.editor.proofs.shift.left_blocks.Statement.{statement}
 use Rattle.editor.proofs.shift.left_blocks.Tie as tie
@@ -15,62 +11,60 @@ use Rattle.editor.proofs.shift.load.Reads as load-reads
 use Rattle.editor.proofs.shift.store.Reads as store-reads
 
 abbrev Inv-loop : tie.InvT-loop
-Inv-loop buf₀ at len k i₀ buf i = (at ≤ i) × (i ≤ len) × (length buf ≡ length buf₀) × (buf ≡ slid buf₀ (at - k) at (i - at))
+Inv-loop buf₀ at len k i₀ buf i = laws.Left buf₀ at len k buf i
 
 abbrev μ-loop : tie.MeasureT-loop
 μ-loop buf₀ at len k i₀ buf i = len - i
 
--- src/lib.rt:92:5
+-- src/shift.rt:118:5
 loop-holds : tie.Need-loop-holds Inv-loop μ-loop
-loop-holds c =
-    let a = c .before .args in
-    (search needs, search needs, refl, laws.slid-none (now (a .buf)) (a .at - a .k) (a .at) (a .at - a .at) (omega arith))
+loop-holds c = let a = c .before .args in laws.left-first (now (a .buf)) (a .at) (a .len) (a .k) (c .before .pre .1 .0)
 
--- src/lib.rt:92:19
+-- src/shift.rt:118:19
 sub-loop : tie.Need-sub-loop Inv-loop μ-loop
 sub-loop c = search needs
 
--- src/lib.rt:93:13
+-- src/shift.rt:119:13
 load-requires : tie.Need-load-requires Inv-loop μ-loop
 load-requires c κs = search needs
 
--- src/lib.rt:94:20
+-- src/shift.rt:120:20
 sub-store : tie.Need-sub-store Inv-loop μ-loop
 sub-store c = search needs
 
--- src/lib.rt:94:9
+-- src/shift.rt:120:9
 store-requires : tie.Need-store-requires Inv-loop μ-loop
 store-requires c κs = search needs
 
--- src/lib.rt:95:9
+-- src/shift.rt:121:9
 add-i : tie.Need-add-i Inv-loop μ-loop
 add-i c = search needs
 
--- src/lib.rt:92:5
+-- src/shift.rt:118:5
 loop-less : tie.Need-loop-less Inv-loop μ-loop
 loop-less c = search needs
 
--- src/lib.rt:92:5
+-- src/shift.rt:118:5
 loop-again : tie.Need-loop-again Inv-loop μ-loop
 loop-again c =
     let l = c .before .before .before .before .before .before .before .loop in
     let a = c .before .before .before .before .before .before .before .before .before .args in
-    (omega arith, omega arith, search needs, laws.left-block (now (a .buf)) (l .buf) (c .before .before .before .before .load .result) (c .before .before .store .last .0) (a .at) (l .i) (a .k) 1024 (c .before .before .store .ensures) (c .before .before .before .before .load .ensures) (l .inv .3) (omega arith) (l .inv .0) (omega arith))
+    laws.left-block (now (a .buf)) (l .buf) (c .before .before .before .before .load .result) (c .before .before .store .last .0) (a .at) (l .i) (a .len) (a .k) 1024 (c .before .before .store .ensures) (c .before .before .before .before .load .ensures) (l .inv) (c .before .before .before .before .before .before .loop-test .taken) (c .before .before .before .before .before .before .before .before .before .pre .0) (c .before .before .before .before .before .before .before .before .before .pre .1 .1)
 
--- src/lib.rt:97:5
+-- src/shift.rt:123:5
 left-rest-requires : tie.Need-left-rest-requires Inv-loop μ-loop
 left-rest-requires c κs = search needs
 
--- src/lib.rt:87:1
+-- src/shift.rt:113:1
 same-length : tie.Need-same-length Inv-loop μ-loop
 same-length c = search needs
 
--- src/lib.rt:87:1
+-- src/shift.rt:113:1
 returns : tie.Need-returns Inv-loop μ-loop
 returns c =
     let l = c .before .before .before .before .before .loop in
     let a = c .before .before .before .before .before .before .before .args in
-    laws.left-last (now (a .buf)) (l .buf) (c .before .before .left-rest .last .0) (a .at) (l .i) (a .len) (a .k) (c .before .before .left-rest .ensures) (l .inv .3) (c .before .before .before .before .before .before .before .pre .0) (l .inv .0) (l .inv .1) (c .before .before .before .before .before .before .before .pre .1 .1)
+    laws.left-last (now (a .buf)) (l .buf) (c .before .before .left-rest .last .0) (a .at) (l .i) (a .len) (a .k) (c .before .before .left-rest .ensures) (l .inv) (c .before .before .before .before .before .before .before .pre .0) (c .before .before .before .before .before .before .before .pre .1 .1)
 
 pub left-blocks-spec : {M : Type 1} → statement M
 left-blocks-spec =

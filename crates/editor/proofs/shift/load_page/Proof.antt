@@ -11,10 +11,10 @@ use Rattle.editor.proofs.shift.load_page.Reads as reads
 use Rattle.editor.proofs.shift.load_page.Lts as lts
 
 abbrev Inv-loop : tie.InvT-loop
-Inv-loop s at t₀ j₀ t j = (j ≤ 4096) × (length t ≡ 4096) × (take j t ≡ take j (drop at s))
+Inv-loop s at t₀ j₀ t j = (j ≤ 16384) × (length t ≡ 16384) × (take j t ≡ take j (drop at s))
 
 abbrev μ-loop : tie.MeasureT-loop
-μ-loop s at t₀ j₀ t j = 4096 - j
+μ-loop s at t₀ j₀ t j = 16384 - j
 
 -- src/lib.rt:14:5
 loop-holds : tie.Need-loop-holds Inv-loop μ-loop
@@ -52,7 +52,7 @@ returns : tie.Need-returns Inv-loop μ-loop
 returns c =
     let l = c .before .loop in
     let a = c .before .before .args in
-    laws.loaded (l .t) (now (a .s)) (a .at) 4096 (l .j) (l .inv .1) (omega arith) (l .inv .2)
+    laws.loaded (l .t) (now (a .s)) (a .at) 16384 (l .j) (l .inv .1) (omega arith) (l .inv .2)
 
 pub load-page-spec : {M : Type 1} → statement M
 load-page-spec =

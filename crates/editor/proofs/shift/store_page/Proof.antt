@@ -12,10 +12,10 @@ use Rattle.editor.proofs.shift.store_page.Reads as reads
 use Rattle.editor.proofs.shift.store_page.Lts as lts
 
 abbrev Inv-loop : tie.InvT-loop
-Inv-loop buf₀ at t j₀ buf j = (j ≤ 4096) × (length buf ≡ length buf₀) × (buf ≡ paste buf₀ at t j)
+Inv-loop buf₀ at t j₀ buf j = (j ≤ 16384) × (length buf ≡ length buf₀) × (buf ≡ paste buf₀ at t j)
 
 abbrev μ-loop : tie.MeasureT-loop
-μ-loop buf₀ at t j₀ buf j = 4096 - j
+μ-loop buf₀ at t j₀ buf j = 16384 - j
 
 -- src/lib.rt:27:5
 loop-holds : tie.Need-loop-holds Inv-loop μ-loop
@@ -57,7 +57,7 @@ returns : tie.Need-returns Inv-loop μ-loop
 returns c =
     let l = c .before .loop in
     let a = c .before .before .args in
-    let e : l .j ≡ 4096 = omega arith in
+    let e : l .j ≡ 16384 = omega arith in
     l .inv .2 ∙ ap (λ (j : ℕ). paste (now (a .buf)) (a .at) (a .t3) j) e
 
 pub store-page-spec : {M : Type 1} → statement M
