@@ -12,11 +12,11 @@ use Rattle.blorb.specs.Bytes.{Byte, rd32}
 use Rattle.blorb.specs.Tags.{RIdx, Exec, RelN, Fspc}
 use Rattle.blorb.specs.Format.{Chunk, Ref, size}
 use Rattle.blorb.specs.Verdict.{Rules, accept, _then_, check, noChunk, secondIndex, pairIn, refFault, verdict}
-use Rattle.blorb.specs.Rules.{typeIn, picture, single, chunkRule, chunkRules, optional}
+use Rattle.blorb.specs.Rules.{typeIn, picture, single, chunkRule, chunkRules, optional, plainRules, plainVerdict}
 use Rattle.blorb.specs.Model.{Model, base, file, model}
 use Rattle.blorb.specs.Queries.{noRef}
 use Rattle.blorb.specs.All.{All}
-use Rattle.blorb.specs.Keeps.{EntryKeeps, Keeps, KeepsRules, ChunkKeeps, ChunksKeep}
+use Rattle.blorb.specs.Keeps.{EntryKeeps, Keeps, KeepsRules, ChunkKeeps, ChunksKeep, KeepsPlain}
 use Rattle.blorb.proofs.Checks.{then-accept, check-accept, pass, accepts, holds-last}
 use Rattle.blorb.proofs.Accept.{accept-back}
 use Rattle.blorb.proofs.VerdictLaws.{refsFault, modelFault, verdict-file}
@@ -88,8 +88,12 @@ module _ (R : Rules) where
       ∙ accepts _ _ (pass _ _ _ _ (h .0 .typed) ∙ pass _ _ _ _ (exec-fine (r .usage) (r .number) (h .0 .exec-zero)) ∙ holds-last _ _ _ (rw new))
       ∙ refs-fine cs (earlier ++ (r ∷ [])) (p + 12) rs (h .1) (once-off earlier r rs k)
 
+  -- rule 7 as R checks it
+  abbrev Seven : Model → Type 0
+  Seven m = R .rule7 (base (length (m .refs))) (m .refs) (m .chunks) ≡ accept
+
   -- an accepted file keeps the rules with its model
-  pub accepted-keeps : (f : List ℕ) → All Byte f → verdict R f ≡ accept → Keeps R f (model f)
+  pub accepted-keeps : (f : List ℕ) → All Byte f → verdict R f ≡ accept → Keeps R Seven f (model f)
   unfolding modelFault
   accepted-keeps f bytes h =
       let back = accept-back R f bytes h in
@@ -110,7 +114,7 @@ module _ (R : Rules) where
         rule-seven = c .1;
       }
 
-  pub keeps-accepted : (f : List ℕ) (m : Model) → Keeps R f m → verdict R f ≡ accept
+  pub keeps-accepted : (f : List ℕ) (m : Model) → Keeps R Seven f m → verdict R f ≡ accept
   unfolding modelFault
   keeps-accepted f m k =
       ap (verdict R) (sym (k .laid-out))
@@ -182,3 +186,24 @@ pub seven-exactly : (m : Model)
     → (optional (base (length (m .refs))) (m .refs) (m .chunks) ≡ accept → ChunksKeep m) × (ChunksKeep m → optional (base (length (m .refs))) (m .refs) (m .chunks) ≡ accept)
 unfolding optional
 seven-exactly m = (each-told (m .refs) (m .chunks) [] (base (length (m .refs))) (m .chunks), each-fine (m .refs) (m .chunks) [] (base (length (m .refs))) (m .chunks))
+
+-- rule 7 said in another way
+seven-as : (S T : Model → Type 0) (f : List ℕ) (m : Model) → (S m → T m) → Keeps plainRules S f m → Keeps plainRules T f m
+seven-as S T f m g k =
+    record {
+      laid-out = k .laid-out;
+      sound = k .sound;
+      short = k .short;
+      few = k .few;
+      one-index = k .one-index;
+      entries-keep = k .entries-keep;
+      once = k .once;
+      rule-seven = g (k .rule-seven);
+    }
+
+-- a file of bytes is accepted exactly when it keeps 01's rules
+pub plain-exactly : (f : List ℕ) → All Byte f → (plainVerdict f ≡ accept → KeepsPlain f) × (KeepsPlain f → plainVerdict f ≡ accept)
+unfolding plainVerdict
+plain-exactly f bytes =
+    let e = exactly plainRules f bytes in
+    (λ h. let k = e .0 h in (k .0, seven-as _ _ f (k .0) (seven-exactly (k .0) .0) (k .1)), λ k. e .1 (k .0, seven-as _ _ f (k .0) (seven-exactly (k .0) .1) (k .1)))

@@ -10,7 +10,7 @@ use Rattle.blorb.specs.Bytes.{rd32}
 use Rattle.blorb.specs.Tags.{RIdx, Exec, RelN, Fspc}
 use Rattle.blorb.specs.Format.{Chunk, Ref}
 use Rattle.blorb.specs.Verdict.{Rules, accept, noChunk, knownUsage, pairIn}
-use Rattle.blorb.specs.Rules.{typeIn, picture}
+use Rattle.blorb.specs.Rules.{typeIn, picture, plainRules}
 use Rattle.blorb.specs.Model.{Model, base, file}
 use Rattle.blorb.specs.Queries.{refAt, chunkAt}
 use Rattle.blorb.specs.All.{All}
@@ -25,8 +25,8 @@ pub record EntryKeeps (R : Rules) (cs : List Chunk) (r : Ref) : Type 0 where
   -- rule 6: "An Exec has number 0."
   pub exec-zero : r .usage ≡ Exec → r .number ≡ 0
 
--- the file f keeps the rules, m being what it holds. Rules 5 and 7 are those of R.
-pub record Keeps (R : Rules) (f : List ℕ) (m : Model) : Type 0 where
+-- the file f keeps the rules, m being what it holds. Rule 5 is that of R, rule 7 a statement about m.
+pub record Keeps (R : Rules) (Seven : Model → Type 0) (f : List ℕ) (m : Model) : Type 0 where
   -- rules 1 to 3: the header, an index with the right lengths and count, and the chunks, which fill the file. Rule 4: "A start is the first byte
   -- of a chunk other than the index": each entry's is that of the chunk which it names in m.
   pub laid-out : file m ≡ f
@@ -39,11 +39,11 @@ pub record Keeps (R : Rules) (f : List ℕ) (m : Model) : Type 0 where
   pub entries-keep : All (EntryKeeps R (m .chunks)) (m .refs)
   -- rule 6: "No (usage, number) pair stands twice": that of entry i is not among the entries before it
   pub once : (i : ℕ) → i < length (m .refs) → pairIn (refAt m i .usage) (refAt m i .number) (take i (m .refs)) ≡ false
-  pub rule-seven : R .rule7 (base (length (m .refs))) (m .refs) (m .chunks) ≡ accept
+  pub rule-seven : Seven m
 
--- the file keeps the rules
+-- the file keeps the rules, rule 7 as R checks it
 abbrev pub KeepsRules : Rules → List ℕ → Type 0
-KeepsRules R f = (m : Model) × Keeps R f m
+KeepsRules R f = (m : Model) × Keeps R (λ (k : Model). R .rule7 (base (length (k .refs))) (k .refs) (k .chunks) ≡ accept) f m
 
 -- rule 7 of a chunk of plain files: "'RelN' (length 2) and 'Fspc' (length 4, the number of a picture) occur at most once each. The picture named is in
 -- the index and isn't a 'Rect'." earlier: the chunks before it
@@ -54,3 +54,7 @@ pub record ChunkKeeps (rs : List Ref) (cs earlier : List Chunk) (c : Chunk) : Ty
 -- rule 7 of a plain file, which is `optional` in Rules.antt
 abbrev pub ChunksKeep : Model → Type 0
 ChunksKeep m = (i : ℕ) → i < length (m .chunks) → ChunkKeeps (m .refs) (m .chunks) (take i (m .chunks)) (chunkAt m i)
+
+-- the file keeps 01's rules: no order of checking and no places in it
+abbrev pub KeepsPlain : List ℕ → Type 0
+KeepsPlain f = (m : Model) × Keeps plainRules ChunksKeep f m
