@@ -17,17 +17,22 @@
  * written for 64-bit machines, where size_t has 64 bits. The promises rest on what the caller lends:
  *
  *   - A pointer and the size_t that follows it name one array of that many bytes, which nothing else writes during the call. A
- *     pointer may be null where its size is 0.
+ *     pointer may be null where its size is 0 (this is tested, not proved).
  *   - Buffers that a call may write (no const) overlap no other buffer of the same call.
  *   - `usage` and `type` point at four bytes, such as "Pict" or "TEXT". No closing zero is needed.
  *
- * Answers come back by value, so there is no result area that could be too small.
+ * Answers come back by value, so there is no result area that could be too small. Each call below lists its refusals in the order
+ * in which they are looked for. The archive needs nothing but memmove and memset.
  */
 #ifndef BLORB_H
 #define BLORB_H
 
 #include <stddef.h>
 #include <stdint.h>
+
+#if SIZE_MAX != UINT64_MAX
+#error "blorb.h is written for machines whose size_t has 64 bits"
+#endif
 
 #ifdef __cplusplus
 extern "C" {
@@ -44,7 +49,8 @@ enum {
 };
 
 /* Usages and types as numbers: the four bytes, the first one highest. */
-#define BLORB_TAG(a, b, c, d) ((uint32_t)(a) << 24 | (uint32_t)(b) << 16 | (uint32_t)(c) << 8 | (uint32_t)(d))
+#define BLORB_TAG(a, b, c, d) \
+    ((uint32_t)(uint8_t)(a) << 24 | (uint32_t)(uint8_t)(b) << 16 | (uint32_t)(uint8_t)(c) << 8 | (uint32_t)(uint8_t)(d))
 #define BLORB_PICT BLORB_TAG('P', 'i', 'c', 't')
 #define BLORB_SND BLORB_TAG('S', 'n', 'd', ' ')
 #define BLORB_DATA BLORB_TAG('D', 'a', 't', 'a')
@@ -80,7 +86,7 @@ enum {
 
     /* The call; place 0. */
     BLORB_LENGTHS = 20,         /* `length` or `used` exceeds its buffer */
-    BLORB_RECORD = 21,          /* the journal's last record is not well formed, or not this file's */
+    BLORB_RECORD = 21,          /* the journal's last record is not well formed, or does not fit this file */
     BLORB_NOT_THERE = 22,       /* no such entry */
     BLORB_SHARED = 23,          /* the chunk to be replaced has another entry too */
     BLORB_FILE_ROOM = 24,       /* the file buffer is too small for the resulting file */

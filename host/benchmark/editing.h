@@ -83,7 +83,8 @@ static void exchange(uint8_t *file, size_t length, size_t count, size_t start, s
         memmove(file + start + new, file + start + old, length - (start + old));
     if (end < length)
         memset(file + end, 0, length - end);
-    move_starts(file, count, (uint32_t)start, (uint32_t)(new - old), 0);
+    if (new != old)
+        move_starts(file, count, (uint32_t)start, (uint32_t)(new - old), 0);
     put_lengths(file, end, count);
     put_chunk(file + start, type, data, m);
 }

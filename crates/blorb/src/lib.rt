@@ -58,51 +58,103 @@ pub fn be32_at(s: &[u8], at: usize) -> u64
     swap(le32_at(s, at))
 }
 
+// Chunk types as the numbers in their four bytes.
+pub const FORM: u64 = 0x464f524d;
+
+pub const IFRS: u64 = 0x49465253;
+
+pub const RIDX: u64 = 0x52496478;
+
+pub const RELN: u64 = 0x52656c4e;
+
+pub const FSPC: u64 = 0x46737063;
+
+const JPEG: u64 = 0x4a504547;
+
+const PNG: u64 = 0x504e4720;
+
+pub const RECT: u64 = 0x52656374;
+
+const OGGV: u64 = 0x4f474756;
+
+const MOD: u64 = 0x4d4f4420;
+
+const SONG: u64 = 0x534f4e47;
+
+const AIFF: u64 = 0x41494646;
+
+const TEXT: u64 = 0x54455854;
+
+const BINA: u64 = 0x42494e41;
+
+const ZCOD: u64 = 0x5a434f44;
+
+const GLUL: u64 = 0x474c554c;
+
+const TAD2: u64 = 0x54414432;
+
+const TAD3: u64 = 0x54414433;
+
+const HUGO: u64 = 0x4855474f;
+
+const ALAN: u64 = 0x414c414e;
+
+const ADRI: u64 = 0x41445249;
+
+const LEVE: u64 = 0x4c455645;
+
+const AGT: u64 = 0x41475420;
+
+const MAGS: u64 = 0x4d414753;
+
+const ADVS: u64 = 0x41445653;
+
+const EXEC: u64 = 0x45584543;
+
 fn pict_type(t: u64, m: u64) -> bool
     ensures { λ r. ⌜ r ≡ pictType t m ⌝ }
 {
-    (t == 0x4a504547) | ((t == 0x504e4720) | ((t == 0x52656374) & (m == 8)))
+    (t == JPEG) | ((t == PNG) | ((t == RECT) & (m == 8)))
 }
 
 fn snd_type(t: u64) -> bool
     ensures { λ r. ⌜ r ≡ sndType t ⌝ }
 {
-    (t == 0x4f474756) | ((t == 0x4d4f4420) | (t == 0x534f4e47))
+    (t == OGGV) | ((t == MOD) | (t == SONG))
 }
 
 fn data_type(t: u64) -> bool
     ensures { λ r. ⌜ r ≡ dataType t ⌝ }
 {
-    (t == 0x54455854) | (t == 0x42494e41)
+    (t == TEXT) | (t == BINA)
 }
 
 fn exec_type(t: u64) -> bool
     ensures { λ r. ⌜ r ≡ execType t ⌝ }
 {
-    (t == 0x5a434f44)
-        | ((t == 0x474c554c)
-            | ((t == 0x54414432)
-                | ((t == 0x54414433)
-                    | ((t == 0x4855474f)
-                        | ((t == 0x414c414e)
-                            | ((t == 0x41445249)
-                                | ((t == 0x4c455645)
-                                    | ((t == 0x41475420)
-                                        | ((t == 0x4d414753)
-                                            | ((t == 0x41445653) | (t == 0x45584543)))))))))))
+    (t == ZCOD)
+        | ((t == GLUL)
+            | ((t == TAD2)
+                | ((t == TAD3)
+                    | ((t == HUGO)
+                        | ((t == ALAN)
+                            | ((t == ADRI)
+                                | ((t == LEVE)
+                                    | ((t == AGT)
+                                        | ((t == MAGS) | ((t == ADVS) | (t == EXEC)))))))))))
 }
 
 // Rule 5 for a sound: a 'FORM' must hold 'AIFF'.
 fn sound_type(t: u64, d: &[u8]) -> bool
     ensures { λ r. ⌜ r ≡ plainAllows (codeOf Snd) (chunkOf t (now (d .entry))) ⌝ }
 {
-    if t != 0x464f524d {
+    if t != FORM {
         return snd_type(t);
     }
     if d.len() < 4 {
         return false;
     }
-    be32_at(d, 0) == 0x41494646
+    be32_at(d, 0) == AIFF
 }
 
 impl Usage {

@@ -1,12 +1,12 @@
 -- `refusal` is 0 exactly where a call was carried out: no refusal of the papers has the number 0.
 use mathlib.Core.Path.{_≡_, refl}
-use Prim.Native.Nat.{ℕ, zero, suc, _+_, _<_}
+use Prim.Native.Nat.{ℕ, zero, suc, _+_, _≤_, _<_}
 use mathlib.Core.List.{List, [], _∷_, _++_}
 use mathlib.Core.Bool.{Bool, true, false, cond}
 use native.Mathlib.Omega.{arith}
 use lib.ListN.{length, getD, take}
-use lib.Dec.{eqb, ltb}
-use borrow.Author.Tests.{ltb-true}
+use lib.Dec.{eqb, leb, ltb}
+use borrow.Author.Tests.{leb-true, ltb-true}
 use Rattle.blorb.specs.Bytes.{rd32}
 use Rattle.blorb.specs.Format.{Chunk, Entry, Ref, size, sized, refOf}
 use Rattle.blorb.specs.Tags.{RelN, Fspc}
@@ -18,7 +18,8 @@ use Rattle.blorb.specs.Model.{Model}
 use Rattle.reader.specs.Reading.{indexOf, noEntry, readBy, readOf, entryBy, askedBy, askedOf, hitIn, foundBy, lookedBy, lookupOf}
 use Rattle.reader.specs.declared.entries.Hit.{Hit}
 use Rattle.reader.specs.declared.entries.Hit.the-variants.{At, Nothing}
-use Rattle.capi.specs.Numbers.{refusalNumber, readNumbers, entryNumbers, lookupNumbers}
+use Rattle.capi.specs.Numbers.{refusalNumber, readNumbers, entryNumbers, lookupNumbers, editNumbers}
+use Rattle.editor.specs.Post.{blankAnswer}
 use Rattle.capi.specs.Numbered.{Numbered}
 
 none : Numbered accept
@@ -171,3 +172,11 @@ zero-found f u n e = go (verdict plainRules f) (judged f) e
     go : (v : Verdict) → Numbered v → lookupNumbers (lookedBy v (foundBy f (hitIn u n (indexOf f)))) .refusal ≡ 0 → (v ≡ accept) × ((x : ℕ) × (hitIn u n (indexOf f) ≡ At x))
     go accept h e = (refl, hit (hitIn u n (indexOf f)) refl e)
     go (refuse k p) h e = absurd (omega (arith, positive k p h, e))
+
+-- a blank whose `refusal` is 0 had room
+pub zero-blank : (b : List ℕ) → editNumbers (blankAnswer (leb 24 (length b))) .refusal ≡ 0 → 24 ≤ length b
+zero-blank b e = go (leb 24 (length b)) refl e
+  where
+    go : (t : Bool) → leb 24 (length b) ≡ t → editNumbers (blankAnswer t) .refusal ≡ 0 → 24 ≤ length b
+    go true t e = leb-true 24 (length b) t
+    go false t e = absurd (omega (arith, e))

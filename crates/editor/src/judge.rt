@@ -55,7 +55,7 @@ pub(crate) fn add_fault(
     if 16777216 < len + (20 + (m + m % 2)) {
         return refused(101, 0);
     }
-    if kind == 0x52496478 {
+    if kind as u64 == blorb::RIDX {
         return refused(109, len + 12);
     }
     if 4096 < count + 1 {
@@ -137,7 +137,7 @@ pub(crate) fn makes_rect(usage: u32, number: u32, q: u32, kind: u32) -> bool
     ensures { λ r. ⌜ r ≡ ((eqb usage Pict && eqb number q) && eqb kind Rect) ⌝ }
 {
     if is_picture(usage, number, q) {
-        return kind == 0x52656374;
+        return kind as u64 == blorb::RECT;
     }
     false
 }
@@ -176,7 +176,7 @@ pub(crate) fn replace_fault(
     if 16777216 < len - old as usize + new {
         return refused(101, 0);
     }
-    if kind == 0x52496478 {
+    if kind as u64 == blorb::RIDX {
         return refused(109, piece.start as usize);
     }
     if !blorb::type_allowed(usage as u64, kind as u64, d) {

@@ -130,8 +130,8 @@ pub(crate) fn put_heading(buf: &mut [u8], n: u64, t: u64)
     requires { ⌜ (24 ≤ length (now buf)) × ((n < 4294967296) × (t < 4294967296)) ⌝ }
     ensures { λ _. ⌜ now (buf .exit) ≡ noted (now (buf .entry)) 0 (heading n t) ⌝ }
 {
-    put_words(buf, 0, 0x464f524d, 16 + 12 * n + t, 0x49465253);
-    put_words(buf, 12, 0x52496478, 4 + 12 * n, n);
+    put_words(buf, 0, blorb::FORM, 16 + 12 * n + t, blorb::IFRS);
+    put_words(buf, 12, blorb::RIDX, 4 + 12 * n, n);
 }
 
 // A chunk at `at`: type, length, data and, where the length is odd, a zero byte.

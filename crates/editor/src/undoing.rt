@@ -118,8 +118,8 @@ fn old_fine(r: Record, d: &[u8], front: Front) -> bool
     ensures { λ x. ⌜ x ≡ oldFine r (now (d .entry)) front ⌝ }
 {
     let allowed = blorb::type_allowed(r.usage as u64, r.sort as u64, d);
-    (r.sort != 0x52496478)
-        & (allowed & !(is_front(front, r.usage, r.number) & (r.sort == 0x52656374)))
+    (r.sort as u64 != blorb::RIDX)
+        & (allowed & !(is_front(front, r.usage, r.number) & (r.sort as u64 == blorb::RECT)))
 }
 
 // Kind 2: the entry's chunk takes the record's type and data `d`.
@@ -187,7 +187,7 @@ fn plan_removed(facts: Facts, len: usize, r: Record, d: &[u8]) -> Undoing
     let target = facts.target;
     let to = len + 12 + chunk_size(r.length);
     let allowed = blorb::type_allowed(r.usage as u64, r.sort as u64, d);
-    let fine = (r.sort != 0x52496478)
+    let fine = (r.sort as u64 != blorb::RIDX)
         & ((count < 4096) & entry_fine(r.usage, r.number, allowed, target));
     if !(fits_removed(facts, len, r) & ((to <= 16777216) & fine)) {
         return Undoing::Not {

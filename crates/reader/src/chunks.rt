@@ -8,12 +8,6 @@ ghost use Rattle.blorb.specs.Verdict.{accept, headFault, chunkFault, secondInde
 ghost use Rattle.blorb.specs.Format.{isStart};
 ghost use Rattle.reader.specs.Walk.{skipAt, chunksFrom, walkFrom, firstFault, verdictOf};
 
-pub(crate) const FORM: u64 = 0x464f524d;
-
-pub(crate) const IFRS: u64 = 0x49465253;
-
-pub(crate) const RIDX: u64 = 0x52496478;
-
 // The answer of a part of the rules: nothing against the file, or the refusal.
 pub enum Check {
     Good,
@@ -36,13 +30,13 @@ pub(crate) fn head(s: &[u8]) -> Check
             place: 0,
         };
     }
-    if blorb::be32_at(s, 0) != FORM {
+    if blorb::be32_at(s, 0) != blorb::FORM {
         return Check::Refused {
             number: 3,
             place: 0,
         };
     }
-    if blorb::be32_at(s, 8) != IFRS {
+    if blorb::be32_at(s, 8) != blorb::IFRS {
         return Check::Refused {
             number: 4,
             place: 8,
@@ -106,7 +100,7 @@ pub struct Walked {
 fn is_ordinary(t: u64) -> bool
     ensures { λ r. ⌜ r ≡ ordinaryType t ⌝ }
 {
-    !((t == RIDX) | ((t == 0x52656c4e) | (t == 0x46737063)))
+    !((t == blorb::RIDX) | ((t == blorb::RELN) | (t == blorb::FSPC)))
 }
 
 // The walk from `from` on over ordinary chunks, as long as each next one begins where the next entry of the index says; how far it came.
@@ -196,7 +190,7 @@ pub(crate) fn first(s: &[u8]) -> Check
             place: 12,
         };
     }
-    if blorb::be32_at(s, 12) != RIDX {
+    if blorb::be32_at(s, 12) != blorb::RIDX {
         return Check::Refused {
             number: 8,
             place: 12,
@@ -212,7 +206,7 @@ pub(crate) fn second(s: &[u8], from: usize) -> Check
 {
     let mut at = from;
     while at < s.len() {
-        if blorb::be32_at(s, at) == RIDX {
+        if blorb::be32_at(s, at) == blorb::RIDX {
             return Check::Refused {
                 number: 9,
                 place: at,

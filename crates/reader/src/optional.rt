@@ -13,12 +13,6 @@ ghost use Rattle.blorb.specs.Verdict.{accept};
 ghost use Rattle.reader.specs.Walk.{chunkFrom, walkFrom, verdictOf};
 ghost use Rattle.reader.specs.Optional.{pictured, oneRule, optionalFault, EntriesPassed};
 
-const RELN: u64 = 0x52656c4e;
-
-pub(crate) const FSPC: u64 = 0x46737063;
-
-const RECT: u64 = 0x52656374;
-
 // Refusals 17 to 19 of the chunk at `at`; `reln` and `fspc` tell whether a 'RelN' and an 'Fspc' stand before it.
 fn optional_chunk(s: &[u8], count: usize, reln: bool, fspc: bool, at: usize) -> Check
     requires { ⌜ EntriesPassed (now s) count × (at < length (now s)) × (walkFrom (now s) at ≡ accept) ⌝ }
@@ -26,7 +20,7 @@ fn optional_chunk(s: &[u8], count: usize, reln: bool, fspc: bool, at: usize) -> 
 {
     let t = blorb::be32_at(s, at);
     let m = blorb::be32_at(s, at + 4);
-    if t == RELN {
+    if t == blorb::RELN {
         if reln {
             return Check::Refused {
                 number: 17,
@@ -41,7 +35,7 @@ fn optional_chunk(s: &[u8], count: usize, reln: bool, fspc: bool, at: usize) -> 
         }
         return Check::Good;
     }
-    if t != FSPC {
+    if t != blorb::FSPC {
         return Check::Good;
     }
     if fspc {
@@ -62,7 +56,7 @@ fn optional_chunk(s: &[u8], count: usize, reln: bool, fspc: bool, at: usize) -> 
             place: at + 8,
         };
     };
-    if blorb::be32_at(s, start) == RECT {
+    if blorb::be32_at(s, start) == blorb::RECT {
         return Check::Refused {
             number: 19,
             place: at + 8,
@@ -92,8 +86,8 @@ pub(crate) fn optional(s: &[u8], count: usize) -> Check
             }
             Check::Good => {
                 let t = blorb::be32_at(s, at);
-                reln = or_is(reln, t, RELN);
-                fspc = or_is(fspc, t, FSPC);
+                reln = or_is(reln, t, blorb::RELN);
+                fspc = or_is(fspc, t, blorb::FSPC);
                 at = chunks::skip(s, at);
             }
         }

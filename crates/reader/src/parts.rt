@@ -5,7 +5,6 @@ use crate::Piece;
 use crate::Target;
 use crate::chunks;
 use crate::entries;
-use crate::optional;
 ghost use mathlib.Core.Path.{_≡_};
 ghost use Prim.Native.Nat.{_≤_, _<_};
 ghost use lib.ListN.{length, drop};
@@ -68,7 +67,7 @@ fn front_from(s: &[u8], from: usize) -> Front
 {
     let mut at = from;
     while at < s.len() {
-        if blorb::be32_at(s, at) == optional::FSPC {
+        if blorb::be32_at(s, at) == blorb::FSPC {
             return Front::At {
                 start: at as u32,
                 number: blorb::be32_at(s, at + 8) as u32,

@@ -11,53 +11,57 @@ use Rattle.editor.proofs.undoing.entry_fine.Reads as entry-fine-reads
 use Rattle.editor.proofs.undoing.fits_removed.Reads as fits-removed-reads
 use Rattle.editor.proofs.undoing.less.Reads as less-reads
 
--- src/undoing.rt:157:14
+-- src/undoing.rt:188:14
 add-to : tie.Need-add-to
 add-to c = search needs
 
--- src/undoing.rt:157:25
+-- src/undoing.rt:188:25
 chunk-size-requires : tie.Need-chunk-size-requires
 chunk-size-requires c κs = search needs
 
--- src/undoing.rt:157:14
+-- src/undoing.rt:188:14
 add-to-2 : tie.Need-add-to-2
 add-to-2 c = search needs
 
--- src/undoing.rt:158:39
+-- src/undoing.rt:189:39
 cast-type-allowed : tie.Need-cast-type-allowed
 cast-type-allowed c = search needs
 
--- src/undoing.rt:158:55
+-- src/undoing.rt:189:55
 cast-type-allowed-2 : tie.Need-cast-type-allowed-2
 cast-type-allowed-2 c = search needs
 
--- src/undoing.rt:158:9
+-- src/undoing.rt:189:9
 type-allowed-requires : tie.Need-type-allowed-requires
 type-allowed-requires c κs = search needs
 
--- src/undoing.rt:159:59
+-- src/undoing.rt:190:17
+cast-fine : tie.Need-cast-fine
+cast-fine c = search needs
+
+-- src/undoing.rt:191:29
 entry-fine-requires : tie.Need-entry-fine-requires
 entry-fine-requires c κs = search needs
 
--- src/undoing.rt:160:10
+-- src/undoing.rt:192:10
 fits-removed-requires : tie.Need-fits-removed-requires
 fits-removed-requires c κs = search needs
 
--- src/undoing.rt:161:9
+-- src/undoing.rt:193:9
 returns : tie.Need-returns
 returns c =
     let a = c .before .before .before .before .before .before .before .before .before .args in
     removed-not (a .facts) (a .len) (a .r) (now (a .d)) _ _ _ _ (c .before .fits-removed .ensures) (c .before .before .before .before .type-allowed .ensures) (c .before .before .entry-fine .ensures) (c .before .before .before .before .before .before .before .chunk-size .ensures) (c .if1 .taken)
 
--- src/undoing.rt:165:18
+-- src/undoing.rt:200:18
 cast-less : tie.Need-cast-less
 cast-less c = search needs
 
--- src/undoing.rt:165:13
+-- src/undoing.rt:200:13
 less-requires : tie.Need-less-requires
 less-requires c κs = search needs
 
--- src/undoing.rt:151:1
+-- src/undoing.rt:182:1
 returns-2 : tie.Need-returns-2
 returns-2 c =
     let a = c .before .before .before .before .before .before .before .before .before .before .before .args in
@@ -73,6 +77,7 @@ plan-removed-spec =
     cast-type-allowed
     cast-type-allowed-2
     type-allowed-requires
+    cast-fine
     entry-fine-requires
     fits-removed-requires
     returns
