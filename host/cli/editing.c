@@ -68,14 +68,8 @@ static int unusable_journal(const request *r, const place *p, journal_answer ans
 static int store(const request *r, const place *p, const contents *c, journal *j, const file_state *before,
                  const file_state *after)
 {
-    switch (store_pair(p, &c->status, c->file, j, before, after)) {
-    case PAIR_NEW:
-        return CARRIED_OUT;
-    case PAIR_OLD:
-        return say_failed(r->file, "the file is as it was, since the new one cannot be written");
-    default:
-        return say_failed(r->file, "the new file is in place, but the disk has not confirmed it");
-    }
+    in_place answer = store_pair(p, &c->status, c->file, j, before, after);
+    return say_stored(r->file, answer, "the file is as it was, since the new one cannot be written");
 }
 
 static int edit_contents(const request *r, const place *p, contents *c, call *carry_out, const data *d)
@@ -166,8 +160,7 @@ static int make_new(const request *r, const place *p)
     if (is_there(p, p->undo))
         return say_cannot(p->undo, "the journal of an older file of this name is still there", advice);
     blorb_edit_answer a = blorb_blank(blank, sizeof blank);
-    int done = replace_file(p, blank, (size_t)a.length, NULL);
-    return done == 0 ? CARRIED_OUT : say_failed(r->file, "the file cannot be written");
+    return say_stored(r->file, replace_file(p, blank, (size_t)a.length, NULL), "the file cannot be written");
 }
 
 int run_new(const request *r)

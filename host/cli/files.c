@@ -165,15 +165,15 @@ int confirm(const place *p)
     return fsync(p->folder) == 0 || errno == EINVAL ? 0 : -1;
 }
 
-int replace_file(const place *p, const uint8_t *from, size_t length, const struct stat *like)
+in_place replace_file(const place *p, const uint8_t *from, size_t length, const struct stat *like)
 {
     if (stage(p, p->temp, from, length, like) != 0)
-        return -1;
+        return OLD_IN_PLACE;
     if (install(p, p->temp, p->name) != 0) {
         discard(p, p->temp);
-        return -1;
+        return OLD_IN_PLACE;
     }
-    return confirm(p);
+    return confirm(p) == 0 ? NEW_IN_PLACE : NEW_UNCONFIRMED;
 }
 
 void discard(const place *p, const char *name)

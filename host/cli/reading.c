@@ -71,10 +71,8 @@ static int put_in_device(const char *path, const uint8_t *from, size_t length)
 static int put_in_file(const char *path, const struct stat *old, const uint8_t *from, size_t length)
 {
     place p;
-    int done = open_place(&p, path);
-    if (done == 0)
-        done = replace_file(&p, from, length, old);
-    int status = done == 0 ? CARRIED_OUT : say_failed(path, "the data cannot be written");
+    in_place answer = open_place(&p, path) == 0 ? replace_file(&p, from, length, old) : OLD_IN_PLACE;
+    int status = say_stored(path, answer, "the data cannot be written");
     close_place(&p);
     return status;
 }

@@ -136,6 +136,13 @@ int say_failed(const char *file, const char *what)
     return FAILED;
 }
 
+int say_stored(const char *file, in_place answer, const char *old)
+{
+    if (answer == NEW_IN_PLACE)
+        return CARRIED_OUT;
+    return say_failed(file, answer == OLD_IN_PLACE ? old : "the new file is in place, but the disk has not confirmed it");
+}
+
 int say_cannot(const char *file, const char *why, const char *advice)
 {
     say_file(file);

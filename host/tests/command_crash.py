@@ -42,10 +42,8 @@ class Case:
             same(call(self.folder, each).status, 0, f"{each[0]} in preparation")
             history = history[:-1] if each is UNDO_ONE else history + [self.file()]
         self.before, self.old = contents(self.folder), history[::-1]
-        log = work / "log"
-        same(call(self.folder, step, shim={"CRASH_LOG": str(log)}).status, 0, f"{step[0]} to its end")
-        self.steps = [tuple(line.split("\t")) for line in log.read_text().splitlines()]
-        log.unlink()
+        words, data = step
+        self.steps = steps_of(self.folder, words[0], self.folder / FILE, *words[1:], stdin=data)
         self.after = contents(self.folder)
         self.new = (history[:-1] if step is UNDO_ONE else history + [self.file()])[::-1]
         same(self.file(), self.new[0], "the new file")
@@ -92,24 +90,58 @@ def ended_at_every_step(work):
         same(kinds, {"old", "new"}, f"{step[0]}: both pairs were met")
 
 
+def single_calls(work):
+    """new and get -o: the words, the name of the file written, what it was before, and what it becomes."""
+    get = "get", work / FILE, "Pict", "1", "-o", work / "out"
+    return [(("new", work / "n.blb"), "n.blb", None, editing_reference.BLANK), (get, "out", None, jpeg()), (get, "out", b"old", jpeg())]
+
+
+def single_before(work, name, old):
+    restore(work, {FILE: START} if old is None else {FILE: START, name: old})
+
+
 def single_files(work):
     """new and get -o, ended at every step: there is the old file or the whole new one."""
-    for words, name, olds, wanted in ((("new", work / "n.blb"), "n.blb", [None], editing_reference.BLANK),
-                                      (("get", work / FILE, "Pict", "1", "-o", work / "out"), "out", [None, b"old"], jpeg())):
-        for old in olds:
-            seen = set()
-            for n in itertools.count(1):
-                restore(work, {FILE: START} if old is None else {FILE: START, name: old})
-                status = run(*words, shim={"CRASH_AT": str(n)}).status
-                left = contents(work).get(name)
-                expect(left in (old, wanted), f"{words} ended at step {n}: the old file or the new one")
-                seen.add(left)
-                if status == 0:
-                    break
-                same(status, ENDED_BY_SHIM, f"{words} at step {n}")
-                same(done(*words) if left == old or words[0] == "get" else b"", b"", f"{words} once more")
-                same(contents(work)[name], wanted, f"{words} once more")
-            same(seen, {old, wanted}, f"{words}: both were met")
+    for words, name, old, wanted in single_calls(work):
+        seen = set()
+        for n in itertools.count(1):
+            single_before(work, name, old)
+            status = run(*words, shim={"CRASH_AT": str(n)}).status
+            left = contents(work).get(name)
+            expect(left in (old, wanted), f"{words} ended at step {n}: the old file or the new one")
+            seen.add(left)
+            if status == 0:
+                break
+            same(status, ENDED_BY_SHIM, f"{words} at step {n}")
+            same(done(*words) if left == old or words[0] == "get" else b"", b"", f"{words} once more")
+            same(contents(work)[name], wanted, f"{words} once more")
+        same(seen, {old, wanted}, f"{words}: both were met")
+
+
+def steps_of(work, *words, **more):
+    """Runs it to its end, and gives its steps."""
+    log = work.parent / "log"
+    same(run(*words, shim={"CRASH_LOG": str(log)}, **more).status, 0, f"{words} to its end")
+    steps = [tuple(line.split("\t")) for line in log.read_text().splitlines()]
+    log.unlink()
+    return steps
+
+
+def single_files_failing(work):
+    """new and get -o, each step failing instead: what is said about the file is so, and nothing else is left."""
+    for words, name, old, wanted in single_calls(work):
+        single_before(work, name, old)
+        said = set()
+        for n, step in enumerate(steps_of(work, *words), 1):
+            single_before(work, name, old)
+            result = run(*words, shim={"CRASH_AT": str(n), "CRASH_FAIL": str(errno.ENOSPC)})
+            left, what = contents(work), f"{words} failing at step {n}, {step}: {result}"
+            expect(result.status in (0, 2), what)
+            unconfirmed = "in place, but the disk has not confirmed it" in result.err
+            same(left.get(name), wanted if result.status == 0 or unconfirmed else old, what)
+            same(set(left) - {name}, {FILE}, what)
+            said.add((result.status, unconfirmed))
+        same(said, {(0, False), (2, False), (2, True)}, f"{words}: all three were met")
 
 
 def failing_at_every_step(work):
@@ -239,4 +271,4 @@ def damaged_journals(work):
     expect((work / UNDO).is_symlink(), "a link in the journal's place stays")
 
 
-PARTS = (ended_at_every_step, single_files, failing_at_every_step, power_loss, other_journals, damaged_journals)
+PARTS = (ended_at_every_step, single_files, single_files_failing, failing_at_every_step, power_loss, other_journals, damaged_journals)
