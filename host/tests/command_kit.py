@@ -39,14 +39,14 @@ def shortened(value):
     return text if len(text) < 600 else f"{text[:300]} .. {text[-100:]}"
 
 
-def run(*words, stdin=b"", shim=None, **more):
+def run(*words, stdin=b"", shim=None, program=PROGRAM, **more):
     """Runs the program. It must end by itself, with 0, 1 or 2, or where the shim ends it."""
     env = dict(os.environ, LC_ALL="C",
                ASAN_OPTIONS="exitcode=99:verify_asan_link_order=0", UBSAN_OPTIONS="halt_on_error=1:exitcode=99")
     if shim is not None:
         env.update(shim, LD_PRELOAD=str(SHIM))
     more.setdefault("stdout", subprocess.PIPE)
-    done = subprocess.run([PROGRAM, *words], input=stdin, stderr=subprocess.PIPE, env=env, timeout=120, **more)
+    done = subprocess.run([program, *words], input=stdin, stderr=subprocess.PIPE, env=env, timeout=120, **more)
     result = Result(done.returncode, done.stdout, done.stderr.decode(errors="replace"))
     allowed = (0, 1, 2) if shim is None else (0, 1, 2, ENDED_BY_SHIM)
     expect(result.status in allowed, f"{words} ended with {result}")

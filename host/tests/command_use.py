@@ -2,6 +2,7 @@
 import fcntl
 import os
 import resource
+import shutil
 import stat
 import subprocess
 import time
@@ -392,7 +393,9 @@ def full_disk(work):
 
 def permissions(work):
     """What the user may not write is left alone. Run as another user where this one may write everything."""
-    user = {"user": NOBODY, "group": NOBODY, "extra_groups": []} if os.getuid() == 0 else {}
+    # A copy of the program: the other user may not reach the folder in which it was built.
+    copy = shutil.copy(PROGRAM, work / "blorb")
+    user = {"program": copy, "user": NOBODY, "group": NOBODY, "extra_groups": []} if os.getuid() == 0 else {}
     folder, file = work / "closed", work / "closed" / "game.blb"
     folder.mkdir()
     done("new", file)
