@@ -4,6 +4,7 @@
 #include <fcntl.h>
 #include <inttypes.h>
 #include <stdio.h>
+#include <string.h>
 #include <unistd.h>
 
 #include "blorb.h"
@@ -80,7 +81,7 @@ static int put_in_file(const char *path, const struct stat *old, const uint8_t *
 static int put(const request *r, const contents *c, const uint8_t *from, size_t length)
 {
     struct stat old;
-    if (r->out == NULL)
+    if (r->out == NULL || strcmp(r->out, "-") == 0)
         return put_on_output(from, length);
     if (stat(r->out, &old) != 0)
         return errno == ENOENT ? put_in_file(r->out, NULL, from, length) : say_failed(r->out, "the file cannot be reached");

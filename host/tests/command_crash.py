@@ -139,9 +139,24 @@ def single_files_failing(work):
             expect(result.status in (0, 2), what)
             unconfirmed = "in place, but the disk has not confirmed it" in result.err
             same(left.get(name), wanted if result.status == 0 or unconfirmed else old, what)
-            same(set(left) - {name}, {FILE}, what)
+            # A temporary file that cannot be removed stays; the file itself is as it should be.
+            spare = {name + ".blorb-temp"} if step[0] == "unlink" else set()
+            same(set(left) - {name} - spare, {FILE}, what)
             said.add((result.status, unconfirmed))
         same(said, {(0, False), (2, False), (2, True)}, f"{words}: all three were met")
+
+
+def new_beside_others(work):
+    """A file that another program makes in the last moment is not overwritten by new. Without hard links new works too."""
+    file = work / "n.blb"
+    at = str([step[0] for step in steps_of(work, "new", file)].index("link") + 1)
+    file.unlink()
+    failed("new", file, shim={"CRASH_AT": at, "CRASH_MAKE": str(file)}, saying="Move away")
+    same(contents(work), {"n.blb": b""}, "another program's file stays, and nothing else is left")
+    for error in (errno.EPERM, errno.ENOTSUP):
+        file.unlink()
+        done("new", file, shim={"CRASH_AT": at, "CRASH_FAIL": str(error)})
+        same(contents(work), {"n.blb": editing_reference.BLANK}, "new on a file system without hard links")
 
 
 def failing_at_every_step(work):
@@ -218,7 +233,7 @@ def power_loss(work):
 def untouched(work, held, *step):
     """Undo is refused with 21, an edit ends with 2, and no byte changes."""
     refused(21, 0, "undo", work / FILE)
-    failed("remove", work / FILE, "Data", "3", saying="journal")
+    failed("remove", work / FILE, "Data", "3", saying=f"the journal {work.resolve() / UNDO} is ")
     failed("add", work / FILE, "Data", "10", "TEXT", "-", saying="Put back")
     same(contents(work), held, f"a journal that is not this file's, {step}: nothing changes")
 
@@ -267,8 +282,8 @@ def damaged_journals(work):
     failed("remove", work / FILE, "Data", "3")
     (work / UNDO).rmdir()
     (work / UNDO).symlink_to("elsewhere")
-    failed("remove", work / FILE, "Data", "3")
+    failed("remove", work / FILE, "Data", "3", saying=f"{work.resolve() / UNDO}: a symbolic link")
     expect((work / UNDO).is_symlink(), "a link in the journal's place stays")
 
 
-PARTS = (ended_at_every_step, single_files, single_files_failing, failing_at_every_step, power_loss, other_journals, damaged_journals)
+PARTS = (ended_at_every_step, single_files, single_files_failing, new_beside_others, failing_at_every_step, power_loss, other_journals, damaged_journals)

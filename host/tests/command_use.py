@@ -282,6 +282,7 @@ def new_and_names(work):
     file.unlink()
     failed("new", file, saying="Move it away")
     expect(not file.exists() and (work / "game.blb.undo").read_bytes() == journal, "an older journal is neither used nor lost")
+    expect(str(work.resolve() / "game.blb.undo") in failed("new", file).err, "a journal is named with its folder")
     failed("new", work / "no" / "game.blb")
     failed("add", work / "none.blb", "Data", "7", "TEXT", "-", saying="Check the name")
     failed("add", work, "Data", "7", "TEXT", "-", saying="plain file")
@@ -291,6 +292,13 @@ def new_and_names(work):
     failed("add", file, "Data", "7", "TEXT", work / "no data", saying="no data")
     text = failed("list", work / "\x1b[2J\n.blb").err
     expect("\x1b" not in text and text.count("\n") == 2, f"a name is shown safely: {text!r}")
+    other = work / "other.blb"
+    done("new", other)
+    for name in ("other.blb.blorb-temp", "other.blb.undo.blorb-temp"):
+        (work / name).mkdir()
+        failed("add", other, "Data", "7", "TEXT", "-", saying="Move away")
+        (work / name).rmdir()
+    same(other.read_bytes(), BLANK, "a folder of a temporary file's name")
     long = work / ("n" * 241)
     done("new", long)
     failed("add", long, "Data", "7", "TEXT", "-", saying="shorter name")
@@ -335,6 +343,7 @@ def outputs(work):
             expect(result.status == 2 and "Make room" in result.err, f"{words} on a full device: {result}")
     failed("get", file, "Data", "7", "-o", "/dev/full", saying="Make room")
     expect(stat.S_ISCHR(os.stat("/dev/full").st_mode), "a device is written to, not replaced")
+    same(done("get", file, "Data", "7", "-o", "-", cwd=work), b"eel", "get -o - writes to standard output")
     failed("get", file, "Data", "7", "-o", work / "no" / "out")
     failed("get", file, "Data", "7", "-o", work)
     result = run("get", file, "Data", "7", preexec_fn=lambda: os.close(1))
