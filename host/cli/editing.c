@@ -62,7 +62,8 @@ static int unusable_journal(const request *r, const place *p, journal_answer ans
     const char *why = answer == JOURNAL_DAMAGED ? "is damaged, or no journal of this program"
                                                 : "is not this file's, which another program has changed or replaced";
     if (answer == JOURNAL_FAILED && errno == ELOOP)
-        return say_cannot(p->undo_path, "a symbolic link is in the journal's place", "Move it away, or put the journal itself there.");
+        return say_cannot(p->undo_path, "a symbolic link is in the journal's place",
+                          "Move it away, or put the journal itself there.");
     if (answer == JOURNAL_FAILED)
         return say_failed(p->undo_path, "the journal cannot be read");
     snprintf(about, sizeof about, "the journal %s %s", p->undo_path, why);

@@ -21,7 +21,8 @@ typedef struct command {
 static const command commands[] = {
     {"list", "f", "list FILE", "print the file's length and its resources, in the order of the index", run_list},
     {"check", "f", "check FILE", "say whether the file keeps every rule, or which one it breaks and where", run_check},
-    {"get", "funo", "get FILE USAGE NUMBER [-o OUT]", "write a resource's data to OUT; without it, or with -, to standard output", run_get},
+    {"get", "funo", "get FILE USAGE NUMBER [-o OUT]", "write a resource's data to OUT; without it, or with -, to standard output",
+     run_get},
     {"new", "f", "new FILE", "make a file with no resources", run_new},
     {"add", "funtd", "add FILE USAGE NUMBER TYPE DATAFILE", "add a resource with the data of DATAFILE; - is standard input",
      run_add},

@@ -1,5 +1,6 @@
 """The file and its journal as a pair: ended and failing at every step, after a power loss, and with another journal."""
 import errno
+import hashlib
 import itertools
 
 from building import Dice, blorb, put
@@ -93,7 +94,8 @@ def ended_at_every_step(work):
 def single_calls(work):
     """new and get -o: the words, the name of the file written, what it was before, and what it becomes."""
     get = "get", work / FILE, "Pict", "1", "-o", work / "out"
-    return [(("new", work / "n.blb"), "n.blb", None, editing_reference.BLANK), (get, "out", None, jpeg()), (get, "out", b"old", jpeg())]
+    return [(("new", work / "n.blb"), "n.blb", None, editing_reference.BLANK),
+            (get, "out", None, jpeg()), (get, "out", b"old", jpeg())]
 
 
 def single_before(work, name, old):
@@ -286,4 +288,22 @@ def damaged_journals(work):
     expect((work / UNDO).is_symlink(), "a link in the journal's place stays")
 
 
-PARTS = (ended_at_every_step, single_files, single_files_failing, new_beside_others, failing_at_every_step, power_loss, other_journals, damaged_journals)
+def journal_format(work):
+    """FILE.undo by its description, with hashlib's SHA-256: old data of 0 to 129 bytes gives journals of every length modulo 64."""
+    def state(file):
+        return len(file).to_bytes(8, "big") + hashlib.sha256(file).digest()
+
+    file, undo, lengths = work / FILE, work / UNDO, set()
+    for n in range(130):
+        old = blorb([(b"Data", 3, 0)], [(b"TEXT", bytes(n))])
+        restore(work, {FILE: old})
+        done("replace", file, "Data", "3", "BINA", "-", stdin=b"new")
+        held, used = undo.read_bytes(), (len(undo.read_bytes()) - 136).to_bytes(8, "big")
+        same(held[:104], b"BLORBUN1" + bytes(8) + state(old) + used + state(file.read_bytes()), f"the head, {n} bytes of old data")
+        same(held[-32:], hashlib.sha256(held[:-32]).digest(), f"the end, {n} bytes of old data")
+        lengths.add(len(held) % 64)
+    same(len(lengths), 64, "lengths modulo 64")
+
+
+PARTS = (ended_at_every_step, single_files, single_files_failing, new_beside_others, failing_at_every_step, power_loss,
+         other_journals, journal_format, damaged_journals)

@@ -8,8 +8,8 @@ import subprocess
 import time
 
 from building import Dice, blorb, chunk, form, index, put, put32
-from command_kit import (PROGRAM, aiff, be, contents, done, edited, editing_reference, expect, failed, jpeg, listing, ogg, png,
-                         reference, refused, run, same)
+from command_kit import (PROGRAM, aiff, be, contents, done, edited, editing_reference, expect, failed, jpeg, listing, mod, ogg,
+                         png, reference, refused, run, same)
 
 BLANK = bytes.fromhex("464f524d000000104946525352496478 0000000400000000")
 SAMPLE_A = bytes.fromhex("464f524d00000028 49465253 5249647800000010 00000001 446174610000000700000024 5445585400000003 65656c00")
@@ -75,12 +75,11 @@ def samples_of_01(work):
 
 
 def media(work):
-    """Real data of each kind goes in and comes out byte for byte; usages and types without their spaces."""
+    """Whole pictures and sounds of each kind, and other data, go in and come out byte for byte; tags without their spaces."""
     file, out = work / "game.blb", work / "out"
-    song = b"song" + bytes(1080) + b"M.K."
     parts = [("Pict", "1", "PNG", png()), ("Pict", "2", "JPEG", jpeg()), ("Snd", "3", "OGGV", ogg()),
              ("Snd", "4", "FORM", aiff()), ("Snd", "5", "FORM", aiff(b"odd")),
-             ("Snd ", "6", "MOD ", song), ("Exec", "0", "AGT", b"\1\2\3"),
+             ("Snd ", "6", "MOD ", mod()), ("Exec", "0", "AGT", b"\1\2\3"),
              ("Data", "4294967295", "TEXT", "Wie geht's?\n".encode()), ("Data", "0", "BINA", b"")]
     done("new", file)
     wanted = BLANK

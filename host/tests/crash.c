@@ -4,7 +4,7 @@
  *   CRASH_AT    the step at which the program ends, counted from 1, before that step is carried out
  *   CRASH_HALF  if set and the step is a write, its first half is carried out
  *   CRASH_FAIL  if set, the step fails with this errno instead of ending the program
- *   CRASH_MAKE  if set, an empty file of this name is made just before the step, as another program might, and the step is carried out
+ *   CRASH_MAKE  if set, an empty file of this name is made just before the step, as another program might; the step is carried out
  *   CRASH_LOG   the file to which a line is appended for each step carried out
  *
  * A step is a call that can change what lies on the disk or when. Exit status 77 says that the program was ended here.
