@@ -134,11 +134,11 @@ def single_files_failing(work):
     for words, name, old, wanted in single_calls(work):
         single_before(work, name, old)
         said = set()
-        for n, step in enumerate(steps_of(work, *words), 1):
+        for (n, step), error in itertools.product(enumerate(steps_of(work, *words), 1), (errno.ENOSPC, errno.EIO)):
             single_before(work, name, old)
-            result = run(*words, shim={"CRASH_AT": str(n), "CRASH_FAIL": str(errno.ENOSPC)})
+            result = run(*words, shim={"CRASH_AT": str(n), "CRASH_FAIL": str(error)})
             left, what = contents(work), f"{words} failing at step {n}, {step}: {result}"
-            expect(result.status in (0, 2), what)
+            expect(result.status == 0 or result.status == 2 and result.err.count("\n") == 2, f"with advice: {what}")
             unconfirmed = "in place, but the disk has not confirmed it" in result.err
             same(left.get(name), wanted if result.status == 0 or unconfirmed else old, what)
             # A temporary file that cannot be removed stays; the file itself is as it should be.
