@@ -126,15 +126,18 @@ static void table_by_entries(void)
 {
     static const size_t counts[] = {16, 64, 256, 1024, 4096};
 
-    printf("| %-7s | %9s | %8s | %8s | %8s |\n", "Entries", "Read", "an entry", "(a)", "(b)");
-    puts("|--:|--:|--:|--:|--:|");
+    printf("| %-7s | %9s | %8s | %8s | %8s | %9s | %9s |\n", "Entries", "Read", "an entry", "(a)", "(b)", "Reversed", "an entry");
+    puts("|--:|--:|--:|--:|--:|--:|--:|");
     for (unsigned i = 0; i < 5; i++) {
-        struct sample s = make_sample("", counts[i], 1024, true);
+        struct sample s = make_sample("", counts[i], 1024, true), reversed = make_sample("", counts[i], 1024, false);
         double n = (double)counts[i];
+        time_question(&reversed, READ, &edit_times);
+        double back = edit_times.least[0];
         time_question(&s, READ, &edit_times);
-        printf("| %7zu | %9s | %5.1f ns | %5.1f ns | %5.1f ns |\n", counts[i], shown(edit_times.least[0]),
-               edit_times.least[0] / n, edit_times.least[1] / n, edit_times.least[2] / n);
+        printf("| %7zu | %9s | %5.1f ns | %5.1f ns | %5.1f ns | %9s | %6.0f ns |\n", counts[i], shown(edit_times.least[0]),
+               edit_times.least[0] / n, edit_times.least[1] / n, edit_times.least[2] / n, shown(back), back / n);
         free_sample(&s);
+        free_sample(&reversed);
     }
 }
 

@@ -55,7 +55,6 @@ static int by_size(const void *a, const void *b)
 
 static void sum_up(struct times *t, unsigned rounds, unsigned compared)
 {
-    t->rounds = rounds;
     for (unsigned k = 0; k < compared; k++) {
         qsort(t->all[k], rounds, sizeof t->all[k][0], by_size);
         t->least[k] = t->all[k][0];

@@ -10,7 +10,6 @@ enum { MOST_ROUNDS = 4000, COMPARED = 4 }; /* the three libraries, and memmove w
 struct times {
     double all[COMPARED][MOST_ROUNDS];
     double least[COMPARED], median[COMPARED];
-    unsigned rounds;
 };
 
 /* A call that only reads. */

@@ -11,7 +11,7 @@ typedef struct request {
     uint32_t number;
     char type[4];
     const char *data; /* the path of the data, "-" for standard input */
-    const char *out;  /* where `get` writes; null for standard output */
+    const char *out;  /* where `get` writes; null or "-" for standard output */
 } request;
 
 int run_list(const request *r);

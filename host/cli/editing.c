@@ -1,7 +1,9 @@
 /* new, add, replace, remove and undo: the commands that write a Blorb file and its journal. */
 #define _XOPEN_SOURCE 700
+#include <errno.h>
 #include <fcntl.h>
 #include <inttypes.h>
+#include <limits.h>
 #include <stdio.h>
 #include <stdlib.h>
 #include <unistd.h>
@@ -56,26 +58,23 @@ static int refused_edit(const request *r, const blorb_edit_answer *a)
 /* A journal that is not this file's is never overwritten, and never undone. */
 static int unusable_journal(const request *r, const place *p, journal_answer answer, int undoing)
 {
-    char about[512];
+    char about[PATH_MAX + 128];
     const char *why = answer == JOURNAL_DAMAGED ? "is damaged, or no journal of this program"
                                                 : "is not this file's, which another program has changed or replaced";
+    if (answer == JOURNAL_FAILED && errno == ELOOP)
+        return say_cannot(p->undo_path, "a symbolic link is in the journal's place",
+                          "Move it away, or put the journal itself there.");
     if (answer == JOURNAL_FAILED)
-        return say_failed(p->undo, "the journal cannot be read");
-    snprintf(about, sizeof about, "the journal %s %s", p->undo, why);
+        return say_failed(p->undo_path, "the journal cannot be read");
+    snprintf(about, sizeof about, "the journal %s %s", p->undo_path, why);
     return undoing ? say_refused(r->file, BLORB_RECORD, 0, about) : say_cannot(r->file, about, OTHER_JOURNAL);
 }
 
 static int store(const request *r, const place *p, const contents *c, journal *j, const file_state *before,
                  const file_state *after)
 {
-    switch (store_pair(p, &c->status, c->file, j, before, after)) {
-    case PAIR_NEW:
-        return CARRIED_OUT;
-    case PAIR_OLD:
-        return say_failed(r->file, "the file is as it was, since the new one cannot be written");
-    default:
-        return say_failed(r->file, "the new file is in place, but the disk has not confirmed it");
-    }
+    in_place answer = store_pair(p, &c->status, c->file, j, before, after);
+    return say_stored(r->file, answer, "the file is as it was, since the new one cannot be written");
 }
 
 static int edit_contents(const request *r, const place *p, contents *c, call *carry_out, const data *d)
@@ -164,10 +163,9 @@ static int make_new(const request *r, const place *p)
     if (is_there(p, p->name))
         return say_cannot(r->file, "there is a file of this name", advice);
     if (is_there(p, p->undo))
-        return say_cannot(p->undo, "the journal of an older file of this name is still there", advice);
+        return say_cannot(p->undo_path, "the journal of an older file of this name is still there", advice);
     blorb_edit_answer a = blorb_blank(blank, sizeof blank);
-    int done = replace_file(p, blank, (size_t)a.length, NULL);
-    return done == 0 ? CARRIED_OUT : say_failed(r->file, "the file cannot be written");
+    return say_stored(r->file, make_file(p, blank, (size_t)a.length), "the file cannot be written");
 }
 
 int run_new(const request *r)

@@ -44,13 +44,15 @@ static char *resolved(const char *path)
     return whole;
 }
 
-static int set_names(place *p, const char *name)
+static int set_names(place *p, const char *path)
 {
+    const char *name = strrchr(path, '/') + 1;
+    p->undo_path = joined(path, ".undo");
     p->name = joined(name, "");
     p->temp = joined(name, ".blorb-temp");
     p->undo = joined(name, ".undo");
     p->undo_temp = joined(name, ".undo.blorb-temp");
-    return p->name != NULL && p->temp != NULL && p->undo != NULL && p->undo_temp != NULL ? 0 : -1;
+    return p->undo_path != NULL && p->name != NULL && p->temp != NULL && p->undo != NULL && p->undo_temp != NULL ? 0 : -1;
 }
 
 /* One lock for the folder: the file itself is another one after each edit. It ends with the program. */
@@ -67,13 +69,13 @@ static int lock(int folder)
 
 int open_place(place *p, const char *path)
 {
-    *p = (place){.shown = path, .folder = -1};
+    *p = (place){.folder = -1};
     char *real = resolved(path);
     if (real == NULL)
         return -1;
-    char *slash = strrchr(real, '/');
-    int done = set_names(p, slash + 1);
+    int done = set_names(p, real);
     if (done == 0) {
+        char *slash = strrchr(real, '/');
         slash[slash == real ? 1 : 0] = '\0';
         p->folder = open(real, O_RDONLY | O_DIRECTORY | O_CLOEXEC);
         done = p->folder < 0 ? -1 : lock(p->folder);
@@ -90,6 +92,7 @@ void close_place(place *p)
     free(p->temp);
     free(p->undo);
     free(p->undo_temp);
+    free(p->undo_path);
 }
 
 int read_all(int fd, uint8_t *to, size_t limit, size_t *length)
@@ -165,15 +168,38 @@ int confirm(const place *p)
     return fsync(p->folder) == 0 || errno == EINVAL ? 0 : -1;
 }
 
-int replace_file(const place *p, const uint8_t *from, size_t length, const struct stat *like)
+/* As `install`, where no file has the name: one that another program has made meanwhile is not overwritten. */
+static int install_new(const place *p, const char *temp, const char *name)
+{
+    if (linkat(p->folder, temp, p->folder, name, 0) == 0) {
+        discard(p, temp);
+        return 0;
+    }
+    /* Some file systems have no hard links. */
+    return errno == EPERM || errno == ENOTSUP ? install(p, temp, name) : -1;
+}
+
+typedef int naming(const place *p, const char *temp, const char *name);
+
+static in_place write_file(const place *p, const uint8_t *from, size_t length, const struct stat *like, naming *give_name)
 {
     if (stage(p, p->temp, from, length, like) != 0)
-        return -1;
-    if (install(p, p->temp, p->name) != 0) {
+        return OLD_IN_PLACE;
+    if (give_name(p, p->temp, p->name) != 0) {
         discard(p, p->temp);
-        return -1;
+        return OLD_IN_PLACE;
     }
-    return confirm(p);
+    return confirm(p) == 0 ? NEW_IN_PLACE : NEW_UNCONFIRMED;
+}
+
+in_place make_file(const place *p, const uint8_t *from, size_t length)
+{
+    return write_file(p, from, length, NULL, install_new);
+}
+
+in_place replace_file(const place *p, const uint8_t *from, size_t length, const struct stat *like)
+{
+    return write_file(p, from, length, like, install);
 }
 
 void discard(const place *p, const char *name)

@@ -11,12 +11,12 @@
 
 /* Where a file is: its folder, held open and locked against other runs of this program, and the names in it. */
 typedef struct place {
-    const char *shown; /* the path as the user gave it, for messages */
     int folder;
     char *name;        /* FILE */
     char *temp;        /* FILE.blorb-temp */
     char *undo;        /* FILE.undo */
     char *undo_temp;   /* FILE.undo.blorb-temp */
+    char *undo_path;   /* FILE.undo with its folder, for messages */
 } place;
 
 /* All of these give 0, or -1 and errno. */
@@ -40,8 +40,12 @@ int stage(const place *p, const char *temp, const uint8_t *from, size_t length, 
 int install(const place *p, const char *temp, const char *name);
 int confirm(const place *p);
 
-/* All three for one file by itself. On failure the old file is in place, or the new one unconfirmed. */
-int replace_file(const place *p, const uint8_t *from, size_t length, const struct stat *like);
+/* Which file is in place after writing. The last two set errno: no new one; the new one, but the disk has not confirmed it. */
+typedef enum in_place { NEW_IN_PLACE, OLD_IN_PLACE, NEW_UNCONFIRMED } in_place;
+
+/* All three for one file by itself; `make_file` overwrites none (EEXIST). */
+in_place make_file(const place *p, const uint8_t *from, size_t length);
+in_place replace_file(const place *p, const uint8_t *from, size_t length, const struct stat *like);
 
 /* Removes a name, if it is there. */
 void discard(const place *p, const char *name);

@@ -1,5 +1,6 @@
 /* blorb: a command line program for those who pack and write text adventures. docs/COMMAND.md describes it. */
 #define _XOPEN_SOURCE 700
+#include <errno.h>
 #include <fcntl.h>
 #include <signal.h>
 #include <stdio.h>
@@ -20,7 +21,8 @@ typedef struct command {
 static const command commands[] = {
     {"list", "f", "list FILE", "print the file's length and its resources, in the order of the index", run_list},
     {"check", "f", "check FILE", "say whether the file keeps every rule, or which one it breaks and where", run_check},
-    {"get", "funo", "get FILE USAGE NUMBER [-o OUT]", "write a resource's data to standard output or to OUT", run_get},
+    {"get", "funo", "get FILE USAGE NUMBER [-o OUT]", "write a resource's data to OUT; without it, or with -, to standard output",
+     run_get},
     {"new", "f", "new FILE", "make a file with no resources", run_new},
     {"add", "funtd", "add FILE USAGE NUMBER TYPE DATAFILE", "add a resource with the data of DATAFILE; - is standard input",
      run_add},
@@ -150,13 +152,24 @@ static void hold_streams(void)
             _exit(FAILED);
 }
 
+/* Gives 0, or -1 and errno. The reason of a failure before the last write is no longer known. */
+static int close_output(void)
+{
+    int lost = ferror(stdout);
+    if (fclose(stdout) != 0)
+        return -1;
+    if (lost != 0)
+        errno = EIO;
+    return lost != 0 ? -1 : 0;
+}
+
 int main(int count, char **words)
 {
     hold_streams();
     /* A limit on file sizes is then a failed write like any other, and cleaned up after. */
     signal(SIGXFSZ, SIG_IGN);
     int status = run(count > 0 ? count - 1 : 0, words + 1);
-    if (fclose(stdout) != 0)
+    if (close_output() != 0)
         return say_failed("standard output", "the text cannot be written");
     return status;
 }

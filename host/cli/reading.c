@@ -4,6 +4,7 @@
 #include <fcntl.h>
 #include <inttypes.h>
 #include <stdio.h>
+#include <string.h>
 #include <unistd.h>
 
 #include "blorb.h"
@@ -71,10 +72,8 @@ static int put_in_device(const char *path, const uint8_t *from, size_t length)
 static int put_in_file(const char *path, const struct stat *old, const uint8_t *from, size_t length)
 {
     place p;
-    int done = open_place(&p, path);
-    if (done == 0)
-        done = replace_file(&p, from, length, old);
-    int status = done == 0 ? CARRIED_OUT : say_failed(path, "the data cannot be written");
+    in_place answer = open_place(&p, path) == 0 ? replace_file(&p, from, length, old) : OLD_IN_PLACE;
+    int status = say_stored(path, answer, "the data cannot be written");
     close_place(&p);
     return status;
 }
@@ -82,7 +81,7 @@ static int put_in_file(const char *path, const struct stat *old, const uint8_t *
 static int put(const request *r, const contents *c, const uint8_t *from, size_t length)
 {
     struct stat old;
-    if (r->out == NULL)
+    if (r->out == NULL || strcmp(r->out, "-") == 0)
         return put_on_output(from, length);
     if (stat(r->out, &old) != 0)
         return errno == ENOENT ? put_in_file(r->out, NULL, from, length) : say_failed(r->out, "the file cannot be reached");

@@ -134,8 +134,8 @@ static size_t sealed(journal *j, const file_state *before, const file_state *aft
     return end + SHA256_SIZE;
 }
 
-pair_answer store_pair(const place *p, const struct stat *like, const uint8_t *new_file, journal *j,
-                       const file_state *before, const file_state *after)
+in_place store_pair(const place *p, const struct stat *like, const uint8_t *new_file, journal *j, const file_state *before,
+                    const file_state *after)
 {
     size_t size = sealed(j, before, after);
     /* Both are on the disk before either takes its place, so a full disk leaves the old pair as it was. */
@@ -152,12 +152,12 @@ pair_answer store_pair(const place *p, const struct stat *like, const uint8_t *n
     if (done != 0) {
         discard(p, p->temp);
         discard(p, p->undo_temp);
-        return PAIR_OLD;
+        return OLD_IN_PLACE;
     }
     if (confirm(p) != 0)
-        return PAIR_UNSURE;
+        return NEW_UNCONFIRMED;
     /* With nothing left to undo, no journal says the same and does not go stale. */
     if (after->used == 0)
         discard(p, p->undo);
-    return PAIR_NEW;
+    return NEW_IN_PLACE;
 }

@@ -46,12 +46,8 @@ file_state state_of(const uint8_t *file, size_t length, size_t used);
  */
 journal_answer load_journal(const place *p, file_state *present, journal *j);
 
-/*
- * Puts `new_file` and the journal in the place of the old pair. PAIR_OLD and PAIR_UNSURE set errno: the old pair is in place; the
- * new one is, but the disk has not confirmed it.
- */
-typedef enum pair_answer { PAIR_NEW, PAIR_OLD, PAIR_UNSURE } pair_answer;
-pair_answer store_pair(const place *p, const struct stat *like, const uint8_t *new_file, journal *j,
-                       const file_state *before, const file_state *after);
+/* Puts `new_file` and the journal in the place of the old pair. */
+in_place store_pair(const place *p, const struct stat *like, const uint8_t *new_file, journal *j, const file_state *before,
+                    const file_state *after);
 
 #endif

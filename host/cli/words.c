@@ -26,7 +26,7 @@ static const meaning meanings[] = {
     {BLORB_TOO_SHORT, "the file has fewer than 12 bytes", GET_AGAIN},
     {BLORB_NO_FORM, "the file does not begin with 'FORM', so it is no Blorb file", "Check the file's name."},
     {BLORB_NO_IFRS, "the file's form type is not 'IFRS', so it is no Blorb file", "Check the file's name."},
-    {BLORB_FORM_LENGTH, "the length in the file's first chunk is not the file's length less 8", GET_AGAIN},
+    {BLORB_FORM_LENGTH, "the FORM length is not the file's length less 8", GET_AGAIN},
     {BLORB_CHUNK_CUT, "a chunk runs past the end of the file", GET_AGAIN},
     {BLORB_PADDING, "the padding byte behind a chunk of odd length is not zero", "Set it to zero, or pack the file again."},
     {BLORB_NO_INDEX, "the first chunk is not the index 'RIdx'", PACK_AGAIN},
@@ -35,7 +35,7 @@ static const meaning meanings[] = {
     {BLORB_TOO_MANY, "the index has more than 4,096 entries", "Pack the file again with fewer resources."},
     {BLORB_USAGE, "the usage of an entry is none of Pict, Snd, Data and Exec", PACK_AGAIN},
     {BLORB_START, "no chunk other than the index begins where an entry says", PACK_AGAIN},
-    {BLORB_TYPE, "the type of a chunk does not suit the usage of its entry", TYPES},
+    {BLORB_TYPE, "the type of a chunk does not suit the usage of its entry", PACK_AGAIN "\n  " TYPES},
     {BLORB_EXEC_NUMBER, "an Exec has a number other than 0", PACK_AGAIN},
     {BLORB_REPEATED, "an earlier entry has the same usage and number", PACK_AGAIN},
     {BLORB_SECOND_OPTIONAL, "there is a second 'RelN' or 'Fspc' chunk", PACK_AGAIN},
@@ -122,8 +122,10 @@ static const char *advice_for(int error)
         return "Change the permissions of the file and its folder, or work on a copy in a folder of your own.";
     case ENOLCK:
         return "The folder cannot be locked: work on a copy on a local disk.";
+    case EEXIST:
+        return "Move away what has this name, or this name with .blorb-temp or .undo.blorb-temp at its end.";
     default:
-        return NULL;
+        return "Try again; if it fails again, work on a copy in another place.";
     }
 }
 
@@ -134,6 +136,13 @@ int say_failed(const char *file, const char *what)
     fprintf(stderr, ": %s: %s.\n", what, strerror(error));
     say_advice(advice_for(error));
     return FAILED;
+}
+
+int say_stored(const char *file, in_place answer, const char *old)
+{
+    if (answer == NEW_IN_PLACE)
+        return CARRIED_OUT;
+    return say_failed(file, answer == OLD_IN_PLACE ? old : "the new file is in place, but the disk has not confirmed it");
 }
 
 int say_cannot(const char *file, const char *why, const char *advice)

@@ -4,6 +4,8 @@
 
 #include <stdint.h>
 
+#include "files.h"
+
 /* The program's exit statuses. */
 enum { CARRIED_OUT = 0, REFUSED = 1, FAILED = 2 };
 
@@ -22,6 +24,9 @@ int say_refused(const char *file, uint64_t number, uint64_t place, const char *a
 
 /* A failure that errno describes. Gives FAILED. */
 int say_failed(const char *file, const char *what);
+
+/* What came of writing a file; `old` says it where no new one is in place. Gives CARRIED_OUT or FAILED. */
+int say_stored(const char *file, in_place answer, const char *old);
 
 /* Any other failure, in a whole sentence, and what to do. Gives FAILED. */
 int say_cannot(const char *file, const char *why, const char *advice);

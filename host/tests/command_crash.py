@@ -1,5 +1,6 @@
 """The file and its journal as a pair: ended and failing at every step, after a power loss, and with another journal."""
 import errno
+import hashlib
 import itertools
 
 from building import Dice, blorb, put
@@ -42,10 +43,8 @@ class Case:
             same(call(self.folder, each).status, 0, f"{each[0]} in preparation")
             history = history[:-1] if each is UNDO_ONE else history + [self.file()]
         self.before, self.old = contents(self.folder), history[::-1]
-        log = work / "log"
-        same(call(self.folder, step, shim={"CRASH_LOG": str(log)}).status, 0, f"{step[0]} to its end")
-        self.steps = [tuple(line.split("\t")) for line in log.read_text().splitlines()]
-        log.unlink()
+        words, data = step
+        self.steps = steps_of(self.folder, words[0], self.folder / FILE, *words[1:], stdin=data)
         self.after = contents(self.folder)
         self.new = (history[:-1] if step is UNDO_ONE else history + [self.file()])[::-1]
         same(self.file(), self.new[0], "the new file")
@@ -92,24 +91,74 @@ def ended_at_every_step(work):
         same(kinds, {"old", "new"}, f"{step[0]}: both pairs were met")
 
 
+def single_calls(work):
+    """new and get -o: the words, the name of the file written, what it was before, and what it becomes."""
+    get = "get", work / FILE, "Pict", "1", "-o", work / "out"
+    return [(("new", work / "n.blb"), "n.blb", None, editing_reference.BLANK),
+            (get, "out", None, jpeg()), (get, "out", b"old", jpeg())]
+
+
+def single_before(work, name, old):
+    restore(work, {FILE: START} if old is None else {FILE: START, name: old})
+
+
 def single_files(work):
     """new and get -o, ended at every step: there is the old file or the whole new one."""
-    for words, name, olds, wanted in ((("new", work / "n.blb"), "n.blb", [None], editing_reference.BLANK),
-                                      (("get", work / FILE, "Pict", "1", "-o", work / "out"), "out", [None, b"old"], jpeg())):
-        for old in olds:
-            seen = set()
-            for n in itertools.count(1):
-                restore(work, {FILE: START} if old is None else {FILE: START, name: old})
-                status = run(*words, shim={"CRASH_AT": str(n)}).status
-                left = contents(work).get(name)
-                expect(left in (old, wanted), f"{words} ended at step {n}: the old file or the new one")
-                seen.add(left)
-                if status == 0:
-                    break
-                same(status, ENDED_BY_SHIM, f"{words} at step {n}")
-                same(done(*words) if left == old or words[0] == "get" else b"", b"", f"{words} once more")
-                same(contents(work)[name], wanted, f"{words} once more")
-            same(seen, {old, wanted}, f"{words}: both were met")
+    for words, name, old, wanted in single_calls(work):
+        seen = set()
+        for n in itertools.count(1):
+            single_before(work, name, old)
+            status = run(*words, shim={"CRASH_AT": str(n)}).status
+            left = contents(work).get(name)
+            expect(left in (old, wanted), f"{words} ended at step {n}: the old file or the new one")
+            seen.add(left)
+            if status == 0:
+                break
+            same(status, ENDED_BY_SHIM, f"{words} at step {n}")
+            same(done(*words) if left == old or words[0] == "get" else b"", b"", f"{words} once more")
+            same(contents(work)[name], wanted, f"{words} once more")
+        same(seen, {old, wanted}, f"{words}: both were met")
+
+
+def steps_of(work, *words, **more):
+    """Runs it to its end, and gives its steps."""
+    log = work.parent / "log"
+    same(run(*words, shim={"CRASH_LOG": str(log)}, **more).status, 0, f"{words} to its end")
+    steps = [tuple(line.split("\t")) for line in log.read_text().splitlines()]
+    log.unlink()
+    return steps
+
+
+def single_files_failing(work):
+    """new and get -o, each step failing instead: what is said about the file is so, and nothing else is left."""
+    for words, name, old, wanted in single_calls(work):
+        single_before(work, name, old)
+        said = set()
+        for (n, step), error in itertools.product(enumerate(steps_of(work, *words), 1), (errno.ENOSPC, errno.EIO)):
+            single_before(work, name, old)
+            result = run(*words, shim={"CRASH_AT": str(n), "CRASH_FAIL": str(error)})
+            left, what = contents(work), f"{words} failing at step {n}, {step}: {result}"
+            expect(result.status == 0 or result.status == 2 and result.err.count("\n") == 2, f"with advice: {what}")
+            unconfirmed = "in place, but the disk has not confirmed it" in result.err
+            same(left.get(name), wanted if result.status == 0 or unconfirmed else old, what)
+            # A temporary file that cannot be removed stays; the file itself is as it should be.
+            spare = {name + ".blorb-temp"} if step[0] == "unlink" else set()
+            same(set(left) - {name} - spare, {FILE}, what)
+            said.add((result.status, unconfirmed))
+        same(said, {(0, False), (2, False), (2, True)}, f"{words}: all three were met")
+
+
+def new_beside_others(work):
+    """A file that another program makes in the last moment is not overwritten by new. Without hard links new works too."""
+    file = work / "n.blb"
+    at = str([step[0] for step in steps_of(work, "new", file)].index("link") + 1)
+    file.unlink()
+    failed("new", file, shim={"CRASH_AT": at, "CRASH_MAKE": str(file)}, saying="Move away")
+    same(contents(work), {"n.blb": b""}, "another program's file stays, and nothing else is left")
+    for error in (errno.EPERM, errno.ENOTSUP):
+        file.unlink()
+        done("new", file, shim={"CRASH_AT": at, "CRASH_FAIL": str(error)})
+        same(contents(work), {"n.blb": editing_reference.BLANK}, "new on a file system without hard links")
 
 
 def failing_at_every_step(work):
@@ -186,7 +235,7 @@ def power_loss(work):
 def untouched(work, held, *step):
     """Undo is refused with 21, an edit ends with 2, and no byte changes."""
     refused(21, 0, "undo", work / FILE)
-    failed("remove", work / FILE, "Data", "3", saying="journal")
+    failed("remove", work / FILE, "Data", "3", saying=f"the journal {work.resolve() / UNDO} is ")
     failed("add", work / FILE, "Data", "10", "TEXT", "-", saying="Put back")
     same(contents(work), held, f"a journal that is not this file's, {step}: nothing changes")
 
@@ -235,8 +284,26 @@ def damaged_journals(work):
     failed("remove", work / FILE, "Data", "3")
     (work / UNDO).rmdir()
     (work / UNDO).symlink_to("elsewhere")
-    failed("remove", work / FILE, "Data", "3")
+    failed("remove", work / FILE, "Data", "3", saying=f"{work.resolve() / UNDO}: a symbolic link")
     expect((work / UNDO).is_symlink(), "a link in the journal's place stays")
 
 
-PARTS = (ended_at_every_step, single_files, failing_at_every_step, power_loss, other_journals, damaged_journals)
+def journal_format(work):
+    """FILE.undo by its description, with hashlib's SHA-256: old data of 0 to 129 bytes gives journals of every length modulo 64."""
+    def state(file):
+        return len(file).to_bytes(8, "big") + hashlib.sha256(file).digest()
+
+    file, undo, lengths = work / FILE, work / UNDO, set()
+    for n in range(130):
+        old = blorb([(b"Data", 3, 0)], [(b"TEXT", bytes(n))])
+        restore(work, {FILE: old})
+        done("replace", file, "Data", "3", "BINA", "-", stdin=b"new")
+        held, used = undo.read_bytes(), (len(undo.read_bytes()) - 136).to_bytes(8, "big")
+        same(held[:104], b"BLORBUN1" + bytes(8) + state(old) + used + state(file.read_bytes()), f"the head, {n} bytes of old data")
+        same(held[-32:], hashlib.sha256(held[:-32]).digest(), f"the end, {n} bytes of old data")
+        lengths.add(len(held) % 64)
+    same(len(lengths), 64, "lengths modulo 64")
+
+
+PARTS = (ended_at_every_step, single_files, single_files_failing, new_beside_others, failing_at_every_step, power_loss,
+         other_journals, journal_format, damaged_journals)

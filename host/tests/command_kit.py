@@ -39,14 +39,14 @@ def shortened(value):
     return text if len(text) < 600 else f"{text[:300]} .. {text[-100:]}"
 
 
-def run(*words, stdin=b"", shim=None, **more):
+def run(*words, stdin=b"", shim=None, program=PROGRAM, **more):
     """Runs the program. It must end by itself, with 0, 1 or 2, or where the shim ends it."""
     env = dict(os.environ, LC_ALL="C",
                ASAN_OPTIONS="exitcode=99:verify_asan_link_order=0", UBSAN_OPTIONS="halt_on_error=1:exitcode=99")
     if shim is not None:
         env.update(shim, LD_PRELOAD=str(SHIM))
     more.setdefault("stdout", subprocess.PIPE)
-    done = subprocess.run([PROGRAM, *words], input=stdin, stderr=subprocess.PIPE, env=env, timeout=120, **more)
+    done = subprocess.run([program, *words], input=stdin, stderr=subprocess.PIPE, env=env, timeout=120, **more)
     result = Result(done.returncode, done.stdout, done.stderr.decode(errors="replace"))
     allowed = (0, 1, 2) if shim is None else (0, 1, 2, ENDED_BY_SHIM)
     expect(result.status in allowed, f"{words} ended with {result}")
@@ -128,21 +128,14 @@ def jpeg():
         "1011100a0c12131210130f101010ffc9000b080001000101011100ffcc000600101005ffda0008010100003f00d2cf20ffd9")
 
 
-def ogg_sum(page):
-    """The checksum of an Ogg page: polynomial 04c11db7, no reflection."""
-    total = 0
-    for byte in page:
-        total ^= byte << 24
-        for _ in range(8):
-            total = (total << 1 ^ (0x04c11db7 if total >> 31 else 0)) & 0xffffffff
-    return total
-
-
 def ogg():
-    """The first page of an Ogg Vorbis stream: the identification header, one channel, 8000 Hz."""
-    packet = b"\x01vorbis" + bytes(4) + b"\x01" + (8000).to_bytes(4, "little") + bytes(12) + b"\xb8\x01"
-    page = b"OggS\0\x02" + bytes(8) + b"\x07\0\0\0" + bytes(4) + bytes(4) + b"\x01" + bytes([len(packet)]) + packet
-    return page[:22] + ogg_sum(page).to_bytes(4, "little") + page[26:]
+    """A whole Ogg Vorbis file: a tone of 440 Hz for a tenth of a second, one channel, 8000 Hz; oggenc made it (-q -1 -s 1)."""
+    return (ROOT / "host/tests/data/tone.ogg").read_bytes()
+
+
+def mod():
+    """A whole module of four channels: a title, 31 empty samples, one position, one pattern without notes."""
+    return b"quiet".ljust(20, b"\0") + bytes(31 * 30) + b"\x01\x7f" + bytes(128) + b"M.K." + bytes(64 * 4 * 4)
 
 
 def aiff(samples=b"\0\x40\0\xc0"):

@@ -2,13 +2,14 @@
 import fcntl
 import os
 import resource
+import shutil
 import stat
 import subprocess
 import time
 
 from building import Dice, blorb, chunk, form, index, put, put32
-from command_kit import (PROGRAM, aiff, be, contents, done, edited, editing_reference, expect, failed, jpeg, listing, ogg, png,
-                         reference, refused, run, same)
+from command_kit import (PROGRAM, aiff, be, contents, done, edited, editing_reference, expect, failed, jpeg, listing, mod, ogg,
+                         png, reference, refused, run, same)
 
 BLANK = bytes.fromhex("464f524d000000104946525352496478 0000000400000000")
 SAMPLE_A = bytes.fromhex("464f524d00000028 49465253 5249647800000010 00000001 446174610000000700000024 5445585400000003 65656c00")
@@ -74,12 +75,11 @@ def samples_of_01(work):
 
 
 def media(work):
-    """Real data of each kind goes in and comes out byte for byte; usages and types without their spaces."""
+    """Whole pictures and sounds of each kind, and other data, go in and come out byte for byte; tags without their spaces."""
     file, out = work / "game.blb", work / "out"
-    song = b"song" + bytes(1080) + b"M.K."
     parts = [("Pict", "1", "PNG", png()), ("Pict", "2", "JPEG", jpeg()), ("Snd", "3", "OGGV", ogg()),
              ("Snd", "4", "FORM", aiff()), ("Snd", "5", "FORM", aiff(b"odd")),
-             ("Snd ", "6", "MOD ", song), ("Exec", "0", "AGT", b"\1\2\3"),
+             ("Snd ", "6", "MOD ", mod()), ("Exec", "0", "AGT", b"\1\2\3"),
              ("Data", "4294967295", "TEXT", "Wie geht's?\n".encode()), ("Data", "0", "BINA", b"")]
     done("new", file)
     wanted = BLANK
@@ -281,6 +281,7 @@ def new_and_names(work):
     file.unlink()
     failed("new", file, saying="Move it away")
     expect(not file.exists() and (work / "game.blb.undo").read_bytes() == journal, "an older journal is neither used nor lost")
+    expect(str(work.resolve() / "game.blb.undo") in failed("new", file).err, "a journal is named with its folder")
     failed("new", work / "no" / "game.blb")
     failed("add", work / "none.blb", "Data", "7", "TEXT", "-", saying="Check the name")
     failed("add", work, "Data", "7", "TEXT", "-", saying="plain file")
@@ -290,6 +291,13 @@ def new_and_names(work):
     failed("add", file, "Data", "7", "TEXT", work / "no data", saying="no data")
     text = failed("list", work / "\x1b[2J\n.blb").err
     expect("\x1b" not in text and text.count("\n") == 2, f"a name is shown safely: {text!r}")
+    other = work / "other.blb"
+    done("new", other)
+    for name in ("other.blb.blorb-temp", "other.blb.undo.blorb-temp"):
+        (work / name).mkdir()
+        failed("add", other, "Data", "7", "TEXT", "-", saying="Move away")
+        (work / name).rmdir()
+    same(other.read_bytes(), BLANK, "a folder of a temporary file's name")
     long = work / ("n" * 241)
     done("new", long)
     failed("add", long, "Data", "7", "TEXT", "-", saying="shorter name")
@@ -334,6 +342,7 @@ def outputs(work):
             expect(result.status == 2 and "Make room" in result.err, f"{words} on a full device: {result}")
     failed("get", file, "Data", "7", "-o", "/dev/full", saying="Make room")
     expect(stat.S_ISCHR(os.stat("/dev/full").st_mode), "a device is written to, not replaced")
+    same(done("get", file, "Data", "7", "-o", "-", cwd=work), b"eel", "get -o - writes to standard output")
     failed("get", file, "Data", "7", "-o", work / "no" / "out")
     failed("get", file, "Data", "7", "-o", work)
     result = run("get", file, "Data", "7", preexec_fn=lambda: os.close(1))
@@ -392,7 +401,9 @@ def full_disk(work):
 
 def permissions(work):
     """What the user may not write is left alone. Run as another user where this one may write everything."""
-    user = {"user": NOBODY, "group": NOBODY, "extra_groups": []} if os.getuid() == 0 else {}
+    # A copy of the program: the other user may not reach the folder in which it was built.
+    copy = shutil.copy(PROGRAM, work / "blorb")
+    user = {"program": copy, "user": NOBODY, "group": NOBODY, "extra_groups": []} if os.getuid() == 0 else {}
     folder, file = work / "closed", work / "closed" / "game.blb"
     folder.mkdir()
     done("new", file)

@@ -24,13 +24,13 @@ const DEFAULT_COUNT: u64 = 400_000;
 // ---- Reports -------------------------------------------------------------------------------------------------------
 
 /// The case under way, and how often each number was seen in each row of the table.
-pub struct Session {
+pub struct Tally {
     pub case: u64,
     calls: u64,
     table: BTreeMap<(&'static str, u64), u64>,
 }
 
-impl Session {
+impl Tally {
     pub fn count(&mut self, row: &'static str, number: u64) {
         *self.table.entry((row, number)).or_default() += 1;
     }
@@ -90,35 +90,35 @@ fn describe(call: &Call, state: &State) -> String {
 
 /// Compares one reading call's answer and counts it.
 fn check_reading<T: PartialEq + Debug>(
-    session: &mut Session,
+    tally: &mut Tally,
     row: &'static str,
     arguments: &str,
     file: &[u8],
     expected: Result<T, Refusal>,
     found: Result<Result<T, Refusal>, String>,
 ) {
-    session.count_call(row, expected.as_ref().map_or_else(|refusal| refusal.number, |_| 0));
+    tally.count_call(row, expected.as_ref().map_or_else(|refusal| refusal.number, |_| 0));
     if found.as_ref() != Ok(&expected) {
         let call = format!("blorb_{row} {arguments} size={}\n  file={}", file.len(), hex(file));
-        session.fail(&call, &format!("expected {expected:?}\nfound    {found:?}"));
+        tally.fail(&call, &format!("expected {expected:?}\nfound    {found:?}"));
     }
 }
 
 /// The reading calls on one file: all entries and pairs of small files, some of large ones.
-pub fn check_file(session: &mut Session, rng: &mut Rng, file: &[u8]) {
+pub fn check_file(tally: &mut Tally, rng: &mut Rng, file: &[u8]) {
     let mut lent = Lent::new(file, rng.below(16));
     let view = reference::read(file);
     let found = archive::read(&mut lent);
-    check_reading(session, "read", "", file, reference::read_answer(file), found);
+    check_reading(tally, "read", "", file, reference::read_answer(file), found);
     for i in entry_numbers(rng, view.as_ref().map_or(0, |view| view.entries.len())) {
         let found = archive::entry(&mut lent, i);
-        check_reading(session, "entry", &format!("i={i}"), file, reference::entry_answer(&view, i), found);
+        check_reading(tally, "entry", &format!("i={i}"), file, reference::entry_answer(&view, i), found);
     }
     for (usage, number) in lookup_pairs(rng, file, view.is_ok()) {
         let found = archive::lookup(&mut lent, &usage, number);
         let arguments = format!("usage=\"{}\" number={number}", usage.escape_ascii());
         check_reading(
-            session,
+            tally,
             "lookup",
             &arguments,
             file,
@@ -127,7 +127,7 @@ pub fn check_file(session: &mut Session, rng: &mut Rng, file: &[u8]) {
         );
     }
     if let Some(complaint) = lent.complaint("file", file) {
-        session.fail(&format!("reading file={}", hex(file)), &complaint);
+        tally.fail(&format!("reading file={}", hex(file)), &complaint);
     }
 }
 
@@ -154,32 +154,32 @@ fn lookup_pairs(rng: &mut Rng, file: &[u8], accepted: bool) -> Vec<(Tag, u32)> {
 }
 
 /// One editing call on these buffers. Gives what they hold afterwards.
-fn check_call_on(session: &mut Session, buffers: &mut Buffers, call: &Call, state: &State) -> (Answer, State) {
+fn check_call_on(tally: &mut Tally, buffers: &mut Buffers, call: &Call, state: &State) -> (Answer, State) {
     let (expected, after) = reference::call(call, state);
     let (found, complaint) = buffers.call(call, state, &after);
-    session.count_call(call.name(), expected.refusal);
+    tally.count_call(call.name(), expected.refusal);
     if found != expected {
         let complaint = complaint.map_or(String::new(), |complaint| format!("\n{complaint}"));
-        session.fail(&describe(call, state), &format!("expected {expected:?}\nfound    {found:?}{complaint}"));
+        tally.fail(&describe(call, state), &format!("expected {expected:?}\nfound    {found:?}{complaint}"));
     }
     if let Some(complaint) = complaint {
-        session.fail(&describe(call, state), &format!("both answered {expected:?}\n{complaint}"));
+        tally.fail(&describe(call, state), &format!("both answered {expected:?}\n{complaint}"));
     }
     if let (Call::Undo, 0) = (call, expected.refusal) {
-        session.count("undone", state.journal[after.used] as u64);
+        tally.count("undone", state.journal[after.used] as u64);
     }
     (expected, after)
 }
 
 /// One editing call on fresh buffers.
-pub fn check_call(session: &mut Session, rng: &mut Rng, call: &Call, state: &State) -> (Answer, State) {
+pub fn check_call(tally: &mut Tally, rng: &mut Rng, call: &Call, state: &State) -> (Answer, State) {
     let mut buffers = Buffers::new(state, rng.below(16));
-    check_call_on(session, &mut buffers, call, state)
+    check_call_on(tally, &mut buffers, call, state)
 }
 
 // ---- Families ------------------------------------------------------------------------------------------------------
 
-type Family = fn(&mut Session, &mut Rng);
+type Family = fn(&mut Tally, &mut Rng);
 
 /// How many of 100 cases each family has.
 const FAMILIES: [(usize, Family); 10] = [
@@ -200,19 +200,19 @@ fn some_draft(rng: &mut Rng) -> generate::Draft {
     generate::valid(rng, count)
 }
 
-fn valid_files(session: &mut Session, rng: &mut Rng) {
+fn valid_files(tally: &mut Tally, rng: &mut Rng) {
     let file = some_draft(rng).render().bytes;
-    check_expected(session, &file, None);
-    check_file(session, rng, &file);
+    check_expected(tally, &file, None);
+    check_file(tally, rng, &file);
 }
 
 /// The refusal that follows from how a file was built, against the reference.
-pub fn check_expected(session: &mut Session, file: &[u8], built: Option<Refusal>) {
+pub fn check_expected(tally: &mut Tally, file: &[u8], built: Option<Refusal>) {
     let judged = reference::read(file).err();
     if judged != built {
-        session.fail(&format!("file={}", hex(file)), &format!("built {built:?}\nreference {judged:?}"));
+        tally.fail(&format!("file={}", hex(file)), &format!("built {built:?}\nreference {judged:?}"));
     }
-    session.count("built", built.map_or(0, |refusal| refusal.number));
+    tally.count("built", built.map_or(0, |refusal| refusal.number));
 }
 
 /// 11 takes 49 kB and a long search, so it comes less often.
@@ -223,22 +223,22 @@ fn fault(rng: &mut Rng) -> u64 {
     }
 }
 
-fn built_file(session: &mut Session, rng: &mut Rng, faults: &[u64]) -> Vec<u8> {
+fn built_file(tally: &mut Tally, rng: &mut Rng, faults: &[u64]) -> Vec<u8> {
     let draft = some_draft(rng);
     let built = generate::faulty(rng, draft, faults);
-    check_expected(session, &built.file, built.refusal);
+    check_expected(tally, &built.file, built.refusal);
     if let (&[first, second], 2) = (faults, built.faults) {
         if first + 1 == second {
-            session.count("pairs", first);
+            tally.count("pairs", first);
         }
     }
     built.file
 }
 
-fn single_faults(session: &mut Session, rng: &mut Rng) {
+fn single_faults(tally: &mut Tally, rng: &mut Rng) {
     let number = fault(rng);
-    let file = built_file(session, rng, &[number]);
-    check_file(session, rng, &file);
+    let file = built_file(tally, rng, &[number]);
+    check_file(tally, rng, &file);
 }
 
 /// Two faults, mostly neighbours in the table, or the same one twice where a file can have it in two places.
@@ -253,10 +253,10 @@ fn two_faults(rng: &mut Rng) -> [u64; 2] {
     [first, if second > 19 || (second == first && !twice) { 2 } else { second }]
 }
 
-fn double_faults(session: &mut Session, rng: &mut Rng) {
+fn double_faults(tally: &mut Tally, rng: &mut Rng) {
     let numbers = two_faults(rng);
-    let file = built_file(session, rng, &numbers);
-    check_file(session, rng, &file);
+    let file = built_file(tally, rng, &numbers);
+    check_file(tally, rng, &file);
 }
 
 fn damaged_file(rng: &mut Rng) -> Vec<u8> {
@@ -264,14 +264,14 @@ fn damaged_file(rng: &mut Rng) -> Vec<u8> {
     generate::mutated(rng, &layout)
 }
 
-fn damaged_files(session: &mut Session, rng: &mut Rng) {
+fn damaged_files(tally: &mut Tally, rng: &mut Rng) {
     let file = damaged_file(rng);
-    check_file(session, rng, &file);
+    check_file(tally, rng, &file);
 }
 
-fn random_files(session: &mut Session, rng: &mut Rng) {
+fn random_files(tally: &mut Tally, rng: &mut Rng) {
     let file = generate::random_bytes(rng);
-    check_file(session, rng, &file);
+    check_file(tally, rng, &file);
 }
 
 /// Buffers around this file with random bytes as journal, which no edit looks at.
@@ -281,7 +281,7 @@ fn edit_state(rng: &mut Rng, file: Vec<u8>) -> State {
     generate::lend(rng, file, records, file_more, journal_more)
 }
 
-fn edits_of_valid_files(session: &mut Session, rng: &mut Rng) {
+fn edits_of_valid_files(tally: &mut Tally, rng: &mut Rng) {
     let file = some_draft(rng).render().bytes;
     for _ in 0..4 {
         let mut state = edit_state(rng, file.clone());
@@ -292,19 +292,19 @@ fn edits_of_valid_files(session: &mut Session, rng: &mut Rng) {
         if rng.chance(5) {
             generate::exceed(rng, &mut state);
         }
-        check_call(session, rng, &call, &state);
+        check_call(tally, rng, &call, &state);
     }
 }
 
-fn edits_of_bad_files(session: &mut Session, rng: &mut Rng) {
+fn edits_of_bad_files(tally: &mut Tally, rng: &mut Rng) {
     let file = match rng.below(10) {
         0..=4 => {
             let number = fault(rng);
-            built_file(session, rng, &[number])
+            built_file(tally, rng, &[number])
         }
         5..=6 => {
             let numbers = two_faults(rng);
-            built_file(session, rng, &numbers)
+            built_file(tally, rng, &numbers)
         }
         7..=8 => damaged_file(rng),
         _ => generate::random_bytes(rng),
@@ -320,31 +320,31 @@ fn edits_of_bad_files(session: &mut Session, rng: &mut Rng) {
             1 => state.length = rng.between(0, state.file.len()),
             _ => {}
         }
-        check_call(session, rng, &call, &state);
+        check_call(tally, rng, &call, &state);
     }
 }
 
-fn undos(session: &mut Session, rng: &mut Rng) {
+fn undos(tally: &mut Tally, rng: &mut Rng) {
     let mut state = generate::undo_state(rng);
     if rng.chance(5) {
         generate::exceed(rng, &mut state);
     }
-    check_call(session, rng, &Call::Undo, &state);
+    check_call(tally, rng, &Call::Undo, &state);
 }
 
-fn blanks(session: &mut Session, rng: &mut Rng) {
+fn blanks(tally: &mut Tally, rng: &mut Rng) {
     let size = rng.between(0, 60);
     let buffer = rng.bytes(size);
     let mut lent = Lent::new(&buffer, rng.below(16));
     let (expected, after) = reference::blank(&buffer);
     let found = archive::blank(&mut lent);
-    session.count_call("blank", expected.refusal);
+    tally.count_call("blank", expected.refusal);
     let call = format!("blorb_blank size={size} file={}", hex(&buffer));
     if found != expected {
-        session.fail(&call, &format!("expected {expected:?}\nfound    {found:?}"));
+        tally.fail(&call, &format!("expected {expected:?}\nfound    {found:?}"));
     }
     if let Some(complaint) = lent.complaint("file buffer", &after) {
-        session.fail(&call, &complaint);
+        tally.fail(&call, &complaint);
     }
 }
 
@@ -384,7 +384,7 @@ fn start_of_run(rng: &mut Rng) -> State {
 
 /// A run in the same two buffers from an accepted file and an empty journal, with the ledger beside it.
 pub fn check_run(
-    session: &mut Session,
+    tally: &mut Tally,
     rng: &mut Rng,
     start: State,
     calls: usize,
@@ -395,20 +395,20 @@ pub fn check_run(
     let mut buffers = Buffers::new(&state, rng.below(16));
     for step in 0..calls {
         let call = next(rng, &state, step);
-        let (answer, after) = check_call_on(session, &mut buffers, &call, &state);
-        session.count("ledger", answer.refusal);
+        let (answer, after) = check_call_on(tally, &mut buffers, &call, &state);
+        tally.count("ledger", answer.refusal);
         if let Some(complaint) = against_ledger(&mut ledger, &call, answer, &after) {
-            session.fail(&describe(&call, &state), &format!("call {step} of the run: {complaint}"));
+            tally.fail(&describe(&call, &state), &format!("call {step} of the run: {complaint}"));
         }
         state = after;
     }
 }
 
-fn runs(session: &mut Session, rng: &mut Rng) {
+fn runs(tally: &mut Tally, rng: &mut Rng) {
     let start = start_of_run(rng);
     let style = rng.below(4);
     let calls = rng.between(50, 200);
-    check_run(session, rng, start, calls, |rng, state, step| {
+    check_run(tally, rng, start, calls, |rng, state, step| {
         let undo = if state.used == 0 { 4 } else { undo_chance(style, step) };
         match rng.chance(undo) {
             true => Call::Undo,
@@ -451,13 +451,13 @@ fn rows() -> Vec<(&'static str, Vec<u64>)> {
 }
 
 /// Prints the table. False where a number was seen that cannot be, or (if asked) one that must be was not.
-fn print_table(session: &Session, complete: bool) -> bool {
+fn print_table(tally: &Tally, complete: bool) -> bool {
     println!("how often each number was seen (built: refusals by construction, pairs: k with k + 1 in one file,");
     println!("ledger: answers in runs, undone: kinds of records):");
     let mut good = true;
     for (row, numbers) in rows() {
         let seen: BTreeMap<u64, u64> =
-            session.table.range((row, 0)..=(row, u64::MAX)).map(|((_, number), count)| (*number, *count)).collect();
+            tally.table.range((row, 0)..=(row, u64::MAX)).map(|((_, number), count)| (*number, *count)).collect();
         let list: Vec<String> = seen.iter().map(|(number, count)| format!("{number}:{count}")).collect();
         println!("  {row:7} {}", list.join(" "));
         for number in numbers.iter().filter(|number| complete && !seen.contains_key(number)) {
@@ -486,14 +486,14 @@ fn family_of(i: u64) -> u64 {
     unreachable!("the shares make 100")
 }
 
-fn run_case(session: &mut Session, case: u64) {
-    session.case = case;
+fn run_case(tally: &mut Tally, case: u64) {
+    tally.case = case;
     fence::CASE.store(case, Ordering::Relaxed);
     let mut rng = Rng(case);
     let family = (case & 0xFF) as usize;
     match FAMILIES.get(family) {
-        Some((_, run)) => run(session, &mut rng),
-        None => large::run(session, &mut rng, family),
+        Some((_, run)) => run(tally, &mut rng),
+        None => large::run(tally, &mut rng, family),
     }
 }
 
@@ -535,22 +535,22 @@ fn main() {
         println!("compare: DIFFERENCE, case {:#x} ended with {panic}", fence::CASE.load(Ordering::Relaxed));
         exit(1);
     }));
-    let mut session = Session { case: 0, calls: 0, table: BTreeMap::new() };
+    let mut tally = Tally { case: 0, calls: 0, table: BTreeMap::new() };
     if let Some(case) = options.case {
-        run_case(&mut session, case);
+        run_case(&mut tally, case);
         println!("compare: case {case:#x} shows no difference");
         return;
     }
     println!("compare: seed {} count {}", options.seed, options.count);
     let mut rng = Rng(options.seed);
     for i in 0..options.count {
-        run_case(&mut session, rng.next() & !0xFF | family_of(i));
+        run_case(&mut tally, rng.next() & !0xFF | family_of(i));
     }
     for family in large::FAMILIES {
-        run_case(&mut session, rng.next() & !0xFF | family as u64);
+        run_case(&mut tally, rng.next() & !0xFF | family as u64);
     }
-    println!("compare: {} inputs, {} calls", options.count + large::FAMILIES.len() as u64, session.calls);
-    if !print_table(&session, options.count >= DEFAULT_COUNT / 4) {
+    println!("compare: {} inputs, {} calls", options.count + large::FAMILIES.len() as u64, tally.calls);
+    if !print_table(&tally, options.count >= DEFAULT_COUNT / 4) {
         exit(1);
     }
     println!("compare: ok");

@@ -4,6 +4,7 @@
  *   CRASH_AT    the step at which the program ends, counted from 1, before that step is carried out
  *   CRASH_HALF  if set and the step is a write, its first half is carried out
  *   CRASH_FAIL  if set, the step fails with this errno instead of ending the program
+ *   CRASH_MAKE  if set, an empty file of this name is made just before the step, as another program might; the step is carried out
  *   CRASH_LOG   the file to which a line is appended for each step carried out
  *
  * A step is a call that can change what lies on the disk or when. Exit status 77 says that the program was ended here.
@@ -55,10 +56,23 @@ static void note(const char *what, const char *name, const char *other)
     syscall(SYS_close, fd);
 }
 
+/* Gives 1 where a file is to be made before the step. */
+static int made_before(void)
+{
+    const char *path = getenv("CRASH_MAKE");
+    if (path == NULL)
+        return 0;
+    int fd = (int)syscall(SYS_openat, AT_FDCWD, path, O_WRONLY | O_CREAT | O_EXCL, 0600);
+    if (fd < 0)
+        abort();
+    syscall(SYS_close, fd);
+    return 1;
+}
+
 /* Gives 1 where the step is to fail. */
 static int step(const char *what, const char *name, const char *other)
 {
-    if (++steps == setting("CRASH_AT")) {
+    if (++steps == setting("CRASH_AT") && !made_before()) {
         int error = setting("CRASH_FAIL");
         if (error == 0)
             _exit(ENDED_HERE);
@@ -121,6 +135,11 @@ int flock(int fd, int how)
 int renameat(int from, const char *old, int to, const char *new)
 {
     return step("rename", old, new) ? -1 : (int)syscall(SYS_renameat, from, old, to, new);
+}
+
+int linkat(int from, const char *old, int to, const char *new, int flags)
+{
+    return step("link", old, new) ? -1 : (int)syscall(SYS_linkat, from, old, to, new, flags);
 }
 
 int unlinkat(int folder, const char *name, int flags)

@@ -5,11 +5,11 @@ use crate::fence;
 use crate::generate::{self, Rng};
 use crate::reference::{Call, Chunk, Edit, Entry, File, Record, State, Tag, LIMIT, MOST_ENTRIES};
 use crate::samples::samples;
-use crate::{check_call, check_file, check_run, Session};
+use crate::{check_call, check_file, check_run, Tally};
 use std::ops::Range;
 
 const FIRST: usize = 0xE0;
-const CASES: [fn(&mut Session, &mut Rng); 11] = [
+const CASES: [fn(&mut Tally, &mut Rng); 11] = [
     samples,
     at_limit,
     over_limit,
@@ -24,10 +24,10 @@ const CASES: [fn(&mut Session, &mut Rng); 11] = [
 ];
 pub const FAMILIES: Range<usize> = FIRST..FIRST + CASES.len();
 
-pub fn run(session: &mut Session, rng: &mut Rng, family: usize) {
+pub fn run(tally: &mut Tally, rng: &mut Rng, family: usize) {
     match family.checked_sub(FIRST).and_then(|i| CASES.get(i)) {
-        Some(case) => case(session, rng),
-        None => session.fail("no call", &format!("there is no family {family:#x}")),
+        Some(case) => case(tally, rng),
+        None => tally.fail("no call", &format!("there is no family {family:#x}")),
     }
 }
 
@@ -74,50 +74,50 @@ pub fn remove(usage: &Tag, number: u32) -> Call {
 }
 
 /// A call that must be answered with this number, which 01 names for the case. Gives the buffers afterwards.
-pub fn expect(session: &mut Session, rng: &mut Rng, call: &Call, state: &State, number: u64) -> State {
-    let (answer, after) = check_call(session, rng, call, state);
+pub fn expect(tally: &mut Tally, rng: &mut Rng, call: &Call, state: &State, number: u64) -> State {
+    let (answer, after) = check_call(tally, rng, call, state);
     if answer.refusal != number {
-        session.fail(call.name(), &format!("must give {number}, gave {answer:?}"));
+        tally.fail(call.name(), &format!("must give {number}, gave {answer:?}"));
     }
     after
 }
 
 // ---- 16,777,216 bytes ----------------------------------------------------------------------------------------------
 
-fn at_limit(session: &mut Session, rng: &mut Rng) {
+fn at_limit(tally: &mut Tally, rng: &mut Rng) {
     let file = filled(rng, LIMIT).write();
-    check_file(session, rng, &file);
+    check_file(tally, rng, &file);
     let state = generate::lend(rng, file, Vec::new(), 100, LIMIT);
-    expect(session, rng, &add(b"Data", 9, b"TEXT", vec![]), &state, 101);
-    expect(session, rng, &add(b"Data", 9, b"RIdx", vec![]), &state, 101);
-    expect(session, rng, &replace(b"Data", 2, b"TEXT", vec![7; 5]), &state, 101);
-    expect(session, rng, &replace(b"Data", 2, b"RIdx", vec![7; 5]), &state, 101);
-    expect(session, rng, &replace(b"Data", 2, b"BINA", vec![7; 4]), &state, 0);
-    expect(session, rng, &remove(b"Pict", 3), &state, 119);
+    expect(tally, rng, &add(b"Data", 9, b"TEXT", vec![]), &state, 101);
+    expect(tally, rng, &add(b"Data", 9, b"RIdx", vec![]), &state, 101);
+    expect(tally, rng, &replace(b"Data", 2, b"TEXT", vec![7; 5]), &state, 101);
+    expect(tally, rng, &replace(b"Data", 2, b"RIdx", vec![7; 5]), &state, 101);
+    expect(tally, rng, &replace(b"Data", 2, b"BINA", vec![7; 4]), &state, 0);
+    expect(tally, rng, &remove(b"Pict", 3), &state, 119);
     for call in [remove(b"Data", 1), remove(b"Data", 2), replace(b"Data", 1, b"BINA", vec![])] {
-        let after = expect(session, rng, &call, &state, 0);
-        expect(session, rng, &Call::Undo, &after, 0);
+        let after = expect(tally, rng, &call, &state, 0);
+        expect(tally, rng, &Call::Undo, &after, 0);
     }
     let tight = State { file: state.file[..LIMIT].to_vec(), journal: Vec::new(), ..state };
-    expect(session, rng, &add(b"Data", 9, b"TEXT", vec![]), &tight, 101);
+    expect(tally, rng, &add(b"Data", 9, b"TEXT", vec![]), &tight, 101);
 }
 
 /// One byte over with whatever contents, and two over with a file that is good but for its length.
-fn over_limit(session: &mut Session, rng: &mut Rng) {
+fn over_limit(tally: &mut Tally, rng: &mut Rng) {
     let good = filled(rng, LIMIT + 2).write();
     for file in [good[..LIMIT + 1].to_vec(), good, vec![0; LIMIT + 1]] {
-        check_file(session, rng, &file);
-        session.count("built", 1);
+        check_file(tally, rng, &file);
+        tally.count("built", 1);
         let state = generate::lend(rng, file, vec![1; 29], 50, 50);
         for call in
             [add(b"Data", 9, b"TEXT", vec![]), replace(b"Data", 2, b"TEXT", vec![]), remove(b"Data", 2), Call::Undo]
         {
-            expect(session, rng, &call, &state, 1);
+            expect(tally, rng, &call, &state, 1);
         }
     }
 }
 
-fn add_to_limit(session: &mut Session, rng: &mut Rng) {
+fn add_to_limit(tally: &mut Tally, rng: &mut Rng) {
     let data_size = 2 * rng.between(1, 400);
     let file = filled(rng, LIMIT - 20 - data_size).write();
     let roomy = generate::lend(rng, file, vec![9; 5], data_size + 60, 29);
@@ -131,11 +131,11 @@ fn add_to_limit(session: &mut Session, rng: &mut Rng) {
         (data_size + 2, sized(0), 101),
     ] {
         let call = call(size, rng);
-        expect(session, rng, &call, &state, number);
+        expect(tally, rng, &call, &state, number);
     }
 }
 
-fn replace_to_limit(session: &mut Session, rng: &mut Rng) {
+fn replace_to_limit(tally: &mut Tally, rng: &mut Rng) {
     let data_size = 2 * rng.between(3, 400);
     // Data 2 has three bytes and one of padding.
     let file = filled(rng, LIMIT + 4 - data_size).write();
@@ -149,12 +149,12 @@ fn replace_to_limit(session: &mut Session, rng: &mut Rng) {
         (data_size + 2, &tight, 101),
     ] {
         let call = replace(b"Data", 2, b"BINA", rng.bytes(size));
-        expect(session, rng, &call, state, number);
+        expect(tally, rng, &call, state, number);
     }
 }
 
 /// Records of a removal and a replacement whose undo gives the longest file, or a longer one, which is never accepted.
-fn undo_to_limit(session: &mut Session, rng: &mut Rng) {
+fn undo_to_limit(tally: &mut Tally, rng: &mut Rng) {
     let list = filled(rng, LIMIT - 1000);
     let file = list.write();
     let (place, start) = (0, file.len() as u32 + 12);
@@ -163,57 +163,57 @@ fn undo_to_limit(session: &mut Session, rng: &mut Rng) {
         let removed =
             Record { kind: 3, usage: *b"Snd ", number: 4, place, start, tag: *b"MOD ", data: rng.bytes(size) };
         let state = generate::lend(rng, file.clone(), removed.write(), 1100, 3);
-        expect(session, rng, &Call::Undo, &state, number);
+        expect(tally, rng, &Call::Undo, &state, number);
         let data = rng.bytes(size + 24);
         let replaced = Record { kind: 2, usage: *b"Data", number: 2, place: 1, start: data_start, tag: *b"TEXT", data };
         let state = generate::lend(rng, file.clone(), replaced.write(), 1100, 3);
-        expect(session, rng, &Call::Undo, &state, number);
+        expect(tally, rng, &Call::Undo, &state, number);
     }
 }
 
 // ---- 4,096 entries -------------------------------------------------------------------------------------------------
 
-fn most_entries(session: &mut Session, rng: &mut Rng) {
+fn most_entries(tally: &mut Tally, rng: &mut Rng) {
     for chunks in [1, 60, MOST_ENTRIES] {
         let list = many_entries(rng, MOST_ENTRIES, chunks);
         let file = list.write();
-        check_file(session, rng, &file);
+        check_file(tally, rng, &file);
         let state = generate::lend(rng, file.clone(), Vec::new(), 100, 100);
-        expect(session, rng, &add(b"Data", 9, b"TEXT", vec![]), &state, 111);
-        expect(session, rng, &add(b"Data", 9, b"RIdx", vec![]), &state, 109);
-        expect(session, rng, &add(b"Dat?", 9, b"TEXT", vec![]), &state, 111);
+        expect(tally, rng, &add(b"Data", 9, b"TEXT", vec![]), &state, 111);
+        expect(tally, rng, &add(b"Data", 9, b"RIdx", vec![]), &state, 109);
+        expect(tally, rng, &add(b"Dat?", 9, b"TEXT", vec![]), &state, 111);
         let last = MOST_ENTRIES as u32 - 1;
-        let after = expect(session, rng, &remove(b"Pict", last), &state, 0);
-        expect(session, rng, &Call::Undo, &after, 0);
-        let after = expect(session, rng, &remove(b"Pict", 0), &state, 0);
-        expect(session, rng, &add(b"Data", 9, b"TEXT", vec![]), &after, 0);
+        let after = expect(tally, rng, &remove(b"Pict", last), &state, 0);
+        expect(tally, rng, &Call::Undo, &after, 0);
+        let after = expect(tally, rng, &remove(b"Pict", 0), &state, 0);
+        expect(tally, rng, &add(b"Data", 9, b"TEXT", vec![]), &after, 0);
         let start = list.starts()[0] as u32 + 12;
         for (kind, tag) in [(3, *b"TEXT"), (4, [0; 4])] {
             let usage = if kind == 3 { *b"Data" } else { *b"Pict" };
             let record = Record { kind, usage, number: 9999, place: 7, start, tag, data: Vec::new() };
             let state = generate::lend(rng, file.clone(), record.write(), 100, 3);
-            expect(session, rng, &Call::Undo, &state, 21);
+            expect(tally, rng, &Call::Undo, &state, 21);
         }
     }
 }
 
-fn too_many_entries(session: &mut Session, rng: &mut Rng) {
+fn too_many_entries(tally: &mut Tally, rng: &mut Rng) {
     let file = many_entries(rng, MOST_ENTRIES + 1, 50).write();
-    check_file(session, rng, &file);
+    check_file(tally, rng, &file);
     let state = generate::lend(rng, file, vec![1; 29], 100, 100);
     for call in [add(b"Data", 9, b"TEXT", vec![]), replace(b"Pict", 2, b"JPEG", vec![]), remove(b"Pict", 2), Call::Undo]
     {
-        expect(session, rng, &call, &state, 11);
+        expect(tally, rng, &call, &state, 11);
     }
 }
 
 // ---- Sizes beyond 32 bits ------------------------------------------------------------------------------------------
 
 /// Lent arrays of more than 4 GiB. They are too large to be copied, so only answers and the first bytes are compared.
-fn beyond_32_bits(session: &mut Session, _: &mut Rng) {
+fn beyond_32_bits(tally: &mut Tally, _: &mut Rng) {
     for (what, found, expected) in archive::on_huge_arrays(fence::huge_zeros((1 << 32) + 24)) {
         if found != expected {
-            session.fail(what, &format!("expected {expected}\nfound    {found}"));
+            tally.fail(what, &format!("expected {expected}\nfound    {found}"));
         }
     }
 }
@@ -221,10 +221,10 @@ fn beyond_32_bits(session: &mut Session, _: &mut Rng) {
 // ---- Runs ----------------------------------------------------------------------------------------------------------
 
 /// The first call goes past the limit.
-fn run_at_length_limit(session: &mut Session, rng: &mut Rng) {
+fn run_at_length_limit(tally: &mut Tally, rng: &mut Rng) {
     let file = filled(rng, LIMIT - 60).write();
     let state = generate::lend(rng, file, Vec::new(), 100, 400);
-    check_run(session, rng, state, 40, |rng, _, step| match rng.below(8) {
+    check_run(tally, rng, state, 40, |rng, _, step| match rng.below(8) {
         _ if step == 0 => add(b"Data", 4, b"TEXT", vec![1; 60]),
         0..=2 => {
             let size = rng.below(30);
@@ -240,10 +240,10 @@ fn run_at_length_limit(session: &mut Session, rng: &mut Rng) {
 }
 
 /// The third call is one entry too many.
-fn run_at_entry_limit(session: &mut Session, rng: &mut Rng) {
+fn run_at_entry_limit(tally: &mut Tally, rng: &mut Rng) {
     let file = many_entries(rng, MOST_ENTRIES - 2, 3).write();
     let state = generate::lend(rng, file, Vec::new(), 200, 400);
-    check_run(session, rng, state, 60, |rng, _, step| match rng.below(8) {
+    check_run(tally, rng, state, 60, |rng, _, step| match rng.below(8) {
         _ if step < 3 => add(b"Snd ", step as u32, b"MOD ", vec![1]),
         0..=4 => add(b"Snd ", rng.below(9) as u32, b"MOD ", vec![1]),
         5 => remove(b"Pict", rng.below(MOST_ENTRIES) as u32),

@@ -3,29 +3,29 @@
 use crate::generate::{self, Rng};
 use crate::large::{add, expect, remove, replace};
 use crate::reference::{self, Call, Refusal, State};
-use crate::{check_expected, check_file, Session};
+use crate::{check_expected, check_file, Tally};
 
-pub fn samples(session: &mut Session, rng: &mut Rng) {
+pub fn samples(tally: &mut Tally, rng: &mut Rng) {
     let blank = generate::lend(rng, reference::blank_file(), Vec::new(), 100, 200);
-    let a = expect(session, rng, &add(b"Data", 7, b"TEXT", b"eel".to_vec()), &blank, 0);
+    let a = expect(tally, rng, &add(b"Data", 7, b"TEXT", b"eel".to_vec()), &blank, 0);
     let rectangle = vec![0, 0, 1, 64, 0, 0, 0, 0];
-    let b = expect(session, rng, &add(b"Pict", 1, b"Rect", rectangle), &a, 0);
-    let b_without = expect(session, rng, &remove(b"Data", 7), &b, 0);
-    let b_emptied = expect(session, rng, &replace(b"Data", 7, b"BINA", vec![]), &b, 0);
-    numbers(session, &a, &[(4, 40), (16, 16), (32, 36)], 48);
-    numbers(session, &b, &[(4, 68), (16, 28), (32, 48), (44, 60)], 76);
-    numbers(session, &b_without, &[(4, 44), (16, 16), (32, 36)], 52);
-    numbers(session, &b_emptied, &[(4, 64), (32, 48), (44, 56)], 72);
+    let b = expect(tally, rng, &add(b"Pict", 1, b"Rect", rectangle), &a, 0);
+    let b_without = expect(tally, rng, &remove(b"Data", 7), &b, 0);
+    let b_emptied = expect(tally, rng, &replace(b"Data", 7, b"BINA", vec![]), &b, 0);
+    numbers(tally, &a, &[(4, 40), (16, 16), (32, 36)], 48);
+    numbers(tally, &b, &[(4, 68), (16, 28), (32, 48), (44, 60)], 76);
+    numbers(tally, &b_without, &[(4, 44), (16, 16), (32, 36)], 52);
+    numbers(tally, &b_emptied, &[(4, 64), (32, 48), (44, 56)], 72);
     if b.used - a.used != 29 || reference::number_at(&b.journal, b.used - 4) != 25 {
-        session.fail("add", "the record has 29 bytes and the trailer 25");
+        tally.fail("add", "the record has 29 bytes and the trailer 25");
     }
     for (after, before) in [(&b, &a), (&b_without, &b), (&b_emptied, &b)] {
-        let undone = expect(session, rng, &Call::Undo, after, 0);
+        let undone = expect(tally, rng, &Call::Undo, after, 0);
         if file_of(&undone) != file_of(before) {
-            session.fail("undo", "does not give the file before");
+            tally.fail("undo", "does not give the file before");
         }
     }
-    refused(session, rng, file_of(&a), file_of(&b));
+    refused(tally, rng, file_of(&a), file_of(&b));
 }
 
 fn file_of(state: &State) -> &[u8] {
@@ -33,14 +33,14 @@ fn file_of(state: &State) -> &[u8] {
 }
 
 /// The file's length and some of the numbers in it.
-fn numbers(session: &Session, state: &State, expected: &[(usize, u32)], length: usize) {
+fn numbers(tally: &Tally, state: &State, expected: &[(usize, u32)], length: usize) {
     let right = expected.iter().all(|&(at, number)| reference::number_at(&state.file, at) == number);
     if state.length != length || !right {
-        session.fail("sample", &format!("{length} bytes with {expected:?} expected"));
+        tally.fail("sample", &format!("{length} bytes with {expected:?} expected"));
     }
 }
 
-fn refused(session: &mut Session, rng: &mut Rng, a: &[u8], b: &[u8]) {
+fn refused(tally: &mut Tally, rng: &mut Rng, a: &[u8], b: &[u8]) {
     let with = |at: usize, bytes: &[u8]| {
         let mut file = a.to_vec();
         file[at..at + bytes.len()].copy_from_slice(bytes);
@@ -63,7 +63,7 @@ fn refused(session: &mut Session, rng: &mut Rng, a: &[u8], b: &[u8]) {
         (frontispiece(b), 19, 76 + 8),
     ];
     for (file, number, place) in samples {
-        check_expected(session, &file, Some(Refusal { number, place }));
-        check_file(session, rng, &file);
+        check_expected(tally, &file, Some(Refusal { number, place }));
+        check_file(tally, rng, &file);
     }
 }
