@@ -56,7 +56,7 @@ pub(crate) fn copy_in(buf: &mut [u8], at: usize, d: &[u8])
     requires { ⌜ at + length (now d) ≤ length (now buf) ⌝ }
     ensures { λ _. ⌜ now (buf .exit) ≡ noted (now (buf .entry)) at (now (d .entry)) ⌝ }
 {
-    crate::shift::copy_pages(buf, at, d);
+    crate::shift::copy_parts(buf, at, d);
 }
 
 // Zeros from `at`, `n` of them.

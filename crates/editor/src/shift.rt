@@ -1,180 +1,88 @@
-// Overlapping moves of bytes within one lent buffer, and copies into it, by blocks.
+// Overlapping moves of bytes within one lent buffer, and copies into it, by parts.
 ghost use mathlib.Core.Path.{_≡_};
 ghost use Prim.Native.Nat.{_+_, _-_, _≤_, _<_};
 ghost use lib.ListN.{length, take, drop};
 ghost use Rattle.editor.specs.Shift.{slid, laid};
 
-// The 1,024 bytes at `at`.
-fn load(s: &[u8], at: usize) -> [u8; 1024]
-    requires { ⌜ at + 1024 ≤ length (now s) ⌝ }
-    ensures { λ r. ⌜ r ≡ take 1024 (drop at (now (s .entry))) ⌝ }
+// The bytes of `d` at `at`, one by one.
+fn put_bytes(buf: &mut [u8], at: usize, d: &[u8])
+    requires { ⌜ at + length (now d) ≤ length (now buf) ⌝ }
+    ensures { λ _. ⌜ now (buf .exit) ≡ laid (now (buf .entry)) at (now (d .entry)) (length (now (d .entry))) ⌝ }
 {
-    let mut t = [0u8; 1024];
-    let mut j: usize = 0;
-    while j < 1024 {
-        t[j] = s[at + j];
-        j += 1;
-    }
-    t
-}
-
-// A block written at `at`.
-fn store(buf: &mut [u8], at: usize, t: [u8; 1024])
-    requires { ⌜ at + 1024 ≤ length (now buf) ⌝ }
-    ensures { λ _. ⌜ now (buf .exit) ≡ laid (now (buf .entry)) at t 1024 ⌝ }
-{
-    let mut j: usize = 0;
-    while j < 1024 {
-        buf[at + j] = t[j];
-        j += 1;
-    }
-}
-
-// The 16,384 bytes at `at`.
-fn load_page(s: &[u8], at: usize) -> [u8; 16384]
-    requires { ⌜ at + 16384 ≤ length (now s) ⌝ }
-    ensures { λ r. ⌜ r ≡ take 16384 (drop at (now (s .entry))) ⌝ }
-{
-    let mut t = [0u8; 16384];
-    let mut j: usize = 0;
-    while j < 16384 {
-        t[j] = s[at + j];
-        j += 1;
-    }
-    t
-}
-
-// A page written at `at`.
-fn store_page(buf: &mut [u8], at: usize, t: [u8; 16384])
-    requires { ⌜ at + 16384 ≤ length (now buf) ⌝ }
-    ensures { λ _. ⌜ now (buf .exit) ≡ laid (now (buf .entry)) at t 16384 ⌝ }
-{
-    let mut j: usize = 0;
-    while j < 16384 {
-        buf[at + j] = t[j];
-        j += 1;
-    }
-}
-
-// The bytes from `at` up to `len` go `k` further right, one by one.
-fn right_rest(buf: &mut [u8], at: usize, len: usize, k: usize)
-    requires { ⌜ (at ≤ len) × (len + k ≤ length (now buf)) ⌝ }
-    ensures { λ _. ⌜ now (buf .exit) ≡ slid (now (buf .entry)) (at + k) at (len - at) ⌝ }
-{
-    let mut i = len;
-    while at < i {
-        i -= 1;
-        let x = buf[i];
-        buf[i + k] = x;
-    }
-}
-
-// The bytes from `at` up to `len` go `k` further left, one by one.
-fn left_rest(buf: &mut [u8], at: usize, len: usize, k: usize)
-    requires { ⌜ (k ≤ at) × ((at ≤ len) × (len ≤ length (now buf))) ⌝ }
-    ensures { λ _. ⌜ now (buf .exit) ≡ slid (now (buf .entry)) (at - k) at (len - at) ⌝ }
-{
-    let mut i = at;
-    while i < len {
-        let x = buf[i];
-        buf[i - k] = x;
-        i += 1;
-    }
-}
-
-// The data from its byte `from` on, at `at`, one by one.
-fn copy_rest(buf: &mut [u8], at: usize, d: &[u8], from: usize)
-    requires { ⌜ (from ≤ length (now d)) × (at + (length (now d) - from) ≤ length (now buf)) ⌝ }
-    ensures { λ _. ⌜ now (buf .exit) ≡ laid (now (buf .entry)) at (drop from (now (d .entry))) (length (now (d .entry)) - from) ⌝ }
-{
-    let n = d.len() - from;
+    let n = d.len();
     let mut i: usize = 0;
     while i < n {
-        buf[at + i] = d[from + i];
+        buf[at + i] = d[i];
         i += 1;
     }
 }
 
-// The bytes from `at` up to `len` go `k` further right, by blocks.
-fn right_blocks(buf: &mut [u8], at: usize, len: usize, k: usize)
-    requires { ⌜ (at ≤ len) × (len + k ≤ length (now buf)) ⌝ }
-    ensures { λ _. ⌜ now (buf .exit) ≡ slid (now (buf .entry)) (at + k) at (len - at) ⌝ }
+// The `n` bytes at `from` go to `to`, overlapping or not: the compiler makes one call of the C library's memmove of it, and the array goes.
+fn move_part(buf: &mut [u8], to: usize, from: usize, n: usize)
+    requires { ⌜ (n ≤ 16384) × ((to + n ≤ length (now buf)) × (from + n ≤ length (now buf))) ⌝ }
+    ensures { λ _. ⌜ now (buf .exit) ≡ slid (now (buf .entry)) to from n ⌝ }
 {
-    let mut i = len;
-    while 1024 <= i - at {
-        i -= 1024;
-        let t = load(buf, i);
-        store(buf, i + k, t);
-    }
-    right_rest(buf, at, i, k);
+    let mut t = [0u8; 16384];
+    put_bytes(&mut t, 0, &buf[from..from + n]);
+    put_bytes(buf, to, &t[..n]);
 }
 
-// The bytes from `at` up to `len` go `k` further left, by blocks.
-fn left_blocks(buf: &mut [u8], at: usize, len: usize, k: usize)
-    requires { ⌜ (k ≤ at) × ((at ≤ len) × (len ≤ length (now buf))) ⌝ }
-    ensures { λ _. ⌜ now (buf .exit) ≡ slid (now (buf .entry)) (at - k) at (len - at) ⌝ }
+// The bytes of `d` at `at`, by an array for the same reason.
+fn copy_part(buf: &mut [u8], at: usize, d: &[u8])
+    requires { ⌜ (length (now d) ≤ 16384) × (at + length (now d) ≤ length (now buf)) ⌝ }
+    ensures { λ _. ⌜ now (buf .exit) ≡ laid (now (buf .entry)) at (now (d .entry)) (length (now (d .entry))) ⌝ }
 {
-    let mut i = at;
-    while 1024 <= len - i {
-        let t = load(buf, i);
-        store(buf, i - k, t);
-        i += 1024;
-    }
-    left_rest(buf, i, len, k);
+    let n = d.len();
+    let mut t = [0u8; 16384];
+    put_bytes(&mut t, 0, d);
+    put_bytes(buf, at, &t[..n]);
 }
 
-// The bytes from `at` up to `len` go `k` further right, by pages. All others stay.
+// How many of `n` bytes go at once.
+fn part_of(n: usize) -> usize
+    ensures { λ r. ⌜ (r ≤ n) × ((r ≤ 16384) × ((0 < n) → (0 < r))) ⌝ }
+{
+    if 16384 < n {
+        return 16384;
+    }
+    n
+}
+
+// The bytes from `at` up to `len` go `k` further right. All others stay.
 pub(crate) fn shift_right(buf: &mut [u8], at: usize, len: usize, k: usize)
     requires { ⌜ (at ≤ len) × (len + k ≤ length (now buf)) ⌝ }
     ensures { λ _. ⌜ now (buf .exit) ≡ slid (now (buf .entry)) (at + k) at (len - at) ⌝ }
 {
     let mut i = len;
-    while 16384 <= i - at {
-        i -= 16384;
-        let t = load_page(buf, i);
-        store_page(buf, i + k, t);
+    while at < i {
+        let n = part_of(i - at);
+        i -= n;
+        move_part(buf, i + k, i, n);
     }
-    right_blocks(buf, at, i, k);
 }
 
-// The bytes from `at` up to `len` go `k` further left, by pages. All others stay.
+// The bytes from `at` up to `len` go `k` further left. All others stay.
 pub(crate) fn shift_left(buf: &mut [u8], at: usize, len: usize, k: usize)
     requires { ⌜ (k ≤ at) × ((at ≤ len) × (len ≤ length (now buf))) ⌝ }
     ensures { λ _. ⌜ now (buf .exit) ≡ slid (now (buf .entry)) (at - k) at (len - at) ⌝ }
 {
     let mut i = at;
-    while 16384 <= len - i {
-        let t = load_page(buf, i);
-        store_page(buf, i - k, t);
-        i += 16384;
+    while i < len {
+        let n = part_of(len - i);
+        move_part(buf, i - k, i, n);
+        i += n;
     }
-    left_blocks(buf, i, len, k);
 }
 
-// The data at `at`, by blocks.
-fn copy_blocks(buf: &mut [u8], at: usize, d: &[u8])
+// The data at `at`.
+pub(crate) fn copy_parts(buf: &mut [u8], at: usize, d: &[u8])
     requires { ⌜ at + length (now d) ≤ length (now buf) ⌝ }
     ensures { λ _. ⌜ now (buf .exit) ≡ laid (now (buf .entry)) at (now (d .entry)) (length (now (d .entry))) ⌝ }
 {
     let mut i: usize = 0;
-    while 1024 <= d.len() - i {
-        let t = load(d, i);
-        store(buf, at + i, t);
-        i += 1024;
+    while i < d.len() {
+        let n = part_of(d.len() - i);
+        copy_part(buf, at + i, &d[i..i + n]);
+        i += n;
     }
-    copy_rest(buf, at + i, d, i);
-}
-
-// The data at `at`, by pages: the compiler turns each into one copy of the C library.
-pub(crate) fn copy_pages(buf: &mut [u8], at: usize, d: &[u8])
-    requires { ⌜ at + length (now d) ≤ length (now buf) ⌝ }
-    ensures { λ _. ⌜ now (buf .exit) ≡ laid (now (buf .entry)) at (now (d .entry)) (length (now (d .entry))) ⌝ }
-{
-    let mut i: usize = 0;
-    while 16384 <= d.len() - i {
-        let t = load_page(d, i);
-        store_page(buf, at + i, t);
-        i += 16384;
-    }
-    copy_blocks(buf, at + i, &d[i..]);
 }

@@ -5,11 +5,11 @@ use Rattle.editor.proofs.moves.copy_in.Statement.{statement}
 use Rattle.editor.proofs.moves.copy_in.Tie as tie
 use Rattle.editor.proofs.moves.copy_in.Reads as reads
 use Rattle.editor.proofs.moves.copy_in.Lts as lts
-use Rattle.editor.proofs.shift.copy_pages.Reads as copy-pages-reads
+use Rattle.editor.proofs.shift.copy_parts.Reads as copy-parts-reads
 
 -- src/moves.rt:46:5
-copy-pages-requires : tie.Need-copy-pages-requires
-copy-pages-requires c κs = search needs
+copy-parts-requires : tie.Need-copy-parts-requires
+copy-parts-requires c κs = search needs
 
 -- src/moves.rt:42:1
 same-length : tie.Need-same-length
@@ -17,7 +17,7 @@ same-length c = search needs
 
 -- src/moves.rt:42:1
 returns : tie.Need-returns
-returns c = c .before .before .copy-pages .ensures ∙ copied _ _ _ _ refl
+returns c = c .before .before .copy-parts .ensures ∙ copied _ _ _ _ refl
 
 pub copy-in-spec : {M : Type 1} → statement M
-copy-in-spec = tie.close (tie.spec copy-pages-requires same-length returns)
+copy-in-spec = tie.close (tie.spec copy-parts-requires same-length returns)
