@@ -28,7 +28,7 @@ use Rattle.blorb.specs.declared.Known.the-variants.{Is, Unknown}
 use Rattle.reader.specs.declared.entries.Judged.{Judged}
 use Rattle.reader.specs.declared.entries.Judged.the-variants.{At, Fault}
 use Rattle.blorb.specs.Usages.{codeOf, pickKnown, usageOf, pictType, sndType, dataType, execType}
-use Rattle.reader.specs.Entries.{usageAt, numberAt, startAt, place, typedAt, entryFault, judgedBy, earlier, samePair, Topped, slotOf, Below, entriesFrom}
+use Rattle.reader.specs.Entries.{usageAt, numberAt, startAt, place, typedAt, entryFault, unstartedFault, judgedBy, earlier, samePair, Topped, slotOf, Below, entriesFrom}
 
 -- rule 5 of the chunk at x, by its type and its data
 pub typed-at : (f : List ℕ) (u x from to t : ℕ) → from ≡ x + 8 → to ≡ from + rd32 (drop (x + 4) f) → t ≡ rd32 (drop x f)
@@ -137,10 +137,6 @@ module _ (f : List ℕ) (base p : ℕ) where
   judge-12 e = judged (refuse 12 p) (stop _ _ _ _ (known-not _ e))
 
   module _ (k : Usage) (e : usageOf (usageAt f p) ≡ Is k) where
-    pub judge-13 : isStart (startAt f p) base (chunksFrom f base) ≡ false → Fault 13 (p + 8) ≡ judgedBy (entryFault f base p) (startAt f p)
-    unfolding entryFault
-    judge-13 h = judged (refuse 13 (p + 8)) (pass _ _ _ _ (known-is _ k e .0) ∙ stop _ _ _ _ h)
-
     module _ (b : isStart (startAt f p) base (chunksFrom f base) ≡ true) where
       pub judge-14 : typedAt f (codeOf k) (startAt f p) ≡ false → Fault 14 p ≡ judgedBy (entryFault f base p) (startAt f p)
       unfolding entryFault
@@ -159,6 +155,25 @@ module _ (f : List ℕ) (base p : ℕ) where
         pub judge-good : not (eqb (usageAt f p) (codeOf Exec)) || eqb (numberAt f p) 0 ≡ true → At (startAt f p) ≡ judgedBy (entryFault f base p) (startAt f p)
         unfolding entryFault
         judge-good h = judged accept (pass _ _ _ _ (known-is _ k e .0) ∙ pass _ _ _ _ b ∙ pass _ _ _ _ q14 ∙ holds-last _ _ _ h)
+
+-- an entry where no chunk begins at its start
+module _ (f : List ℕ) (p u : ℕ) (eu : u ≡ usageAt f p) where
+  pub unstarted-12 : usageOf u ≡ Unknown → Fault 12 p ≡ judgedBy (unstartedFault f p) 0
+  unfolding unstartedFault
+  unstarted-12 e = ap (λ (v : Verdict). judgedBy v 0) (sym (stop _ _ _ _ (known-not _ (rw eu at e))))
+
+  pub unstarted-13 : (k : Usage) → usageOf u ≡ Is k → Fault 13 (p + 8) ≡ judgedBy (unstartedFault f p) 0
+  unfolding unstartedFault
+  unstarted-13 k e = ap (λ (v : Verdict). judgedBy v 0) (sym (pass _ _ _ _ (known-is _ k (rw eu at e) .0)))
+
+pub unstarted : (f : List ℕ) (base p : ℕ) → isStart (startAt f p) base (chunksFrom f base) ≡ false
+    → judgedBy (unstartedFault f p) 0 ≡ judgedBy (entryFault f base p) (startAt f p)
+unfolding unstartedFault entryFault
+unstarted f base p h = go (knownUsage (usageAt f p)) refl
+    where
+      go : (b : Bool) → knownUsage (usageAt f p) ≡ b → judgedBy (unstartedFault f p) 0 ≡ judgedBy (entryFault f base p) (startAt f p)
+      go true k = ap (λ (v : Verdict). judgedBy v 0) (pass _ _ _ _ k) ∙ judged f base p (refuse 13 (p + 8)) (pass _ _ _ _ k ∙ stop _ _ _ _ h)
+      go false k = ap (λ (v : Verdict). judgedBy v 0) (stop _ _ _ _ k) ∙ judged f base p (refuse 12 p) (stop _ _ _ _ k)
 
 -- what a good entry tells of its start
 pub entry-start : (f : List ℕ) (base p : ℕ) → entryFault f base p ≡ accept → isStart (startAt f p) base (chunksFrom f base) ≡ true
@@ -189,9 +204,6 @@ module _ (f : List ℕ) (base p u x : ℕ) (eu : u ≡ usageAt f p) where
   by-12 e = judge-12 f base p (rw eu at e)
 
   module _ (k : Usage) (e : usageOf u ≡ Is k) (ex : x ≡ startAt f p) where
-    pub by-13 : isStart x base (chunksFrom f base) ≡ false → Fault 13 (p + 8) ≡ judgedBy (entryFault f base p) (startAt f p)
-    by-13 h = judge-13 f base p k (rw eu at e) (rw ex at h)
-
     module _ (b : isStart x base (chunksFrom f base) ≡ true) where
       pub by-14 : typedAt f (codeOf k) x ≡ false → Fault 14 p ≡ judgedBy (entryFault f base p) (startAt f p)
       by-14 h = judge-14 f base p k (rw eu at e) (rw ex at b) (rw ex at h)

@@ -45,6 +45,10 @@ entryFault f base p =
     then check (typedAt f (usageAt f p) (startAt f p)) 14 p
     then check (not (eqb (usageAt f p) (codeOf Exec)) || eqb (numberAt f p) 0) 15 (p + 4)
 
+-- the same where no chunk begins at its start
+unfoldable pub unstartedFault : List ℕ → ℕ → Verdict
+unstartedFault f p = check (knownUsage (usageAt f p)) 12 p then refuse 13 (p + 8)
+
 -- its start, or its fault
 abbrev pub judgedBy : Verdict → ℕ → Judged
 judgedBy accept x = At x

@@ -13,7 +13,7 @@ ghost use Rattle.blorb.specs.Format.{isStart, entriesIn};
 ghost use Rattle.blorb.specs.Usages.{codeOf};
 ghost use Rattle.blorb.specs.declared.Usage.the-variants.{Exec};
 ghost use Rattle.reader.specs.Walk.{chunkFrom, chunksFrom, walkFrom, verdictOf, Reached};
-ghost use Rattle.reader.specs.Entries.{startAt, place, typedAt, entryFault, judgedBy, samePair, earlier, usageAt, numberAt, Topped, slotOf, entriesFrom, pairPlace};
+ghost use Rattle.reader.specs.Entries.{startAt, place, typedAt, entryFault, unstartedFault, judgedBy, samePair, earlier, usageAt, numberAt, Topped, slotOf, entriesFrom, pairPlace};
 ghost use Rattle.reader.specs.Reading.{hitIn};
 
 // An entry's judgement: its start, where a chunk begins, or its fault.
@@ -132,13 +132,32 @@ pub(crate) fn begins_behind(s: &[u8], base: usize, from: usize, start: usize) ->
     chunks::begins(s, base, start)
 }
 
+// The fault of the entry at `p` where no chunk begins at its start: refusal 12 or 13.
+fn unstarted(s: &[u8], p: usize) -> Judged
+    requires { ⌜ p + 12 ≤ length (now s) ⌝ }
+    ensures { λ r. ⌜ r ≡ judgedBy (unstartedFault (now (s .entry)) p) 0 ⌝ }
+{
+    let Known::Is(_) = Usage::of_code(blorb::be32_at(s, p)) else {
+        return Judged::Fault {
+            number: 12,
+            place: p,
+        };
+    };
+    Judged::Fault {
+        number: 13,
+        place: p + 8,
+    }
+}
+
 // Refusals 12 to 15 of the entry at `p`. The start is looked for first: the usage's test then leads straight to the one of its types.
 fn judge(s: &[u8], base: usize, from: usize, p: usize) -> Judged
     requires { ⌜ (p + 12 ≤ length (now s)) × (walkFrom (now s) base ≡ accept) × (walkFrom (now s) from ≡ accept) × Reached (now s) base from ⌝ }
     ensures { λ r. ⌜ r ≡ judgedBy (entryFault (now (s .entry)) base p) (startAt (now (s .entry)) p) ⌝ }
 {
     let start = blorb::be32_at(s, p + 8) as usize;
-    let begun = begins_behind(s, base, from, start);
+    if !begins_behind(s, base, from, start) {
+        return unstarted(s, p);
+    }
     let code = blorb::be32_at(s, p);
     let Known::Is(usage) = Usage::of_code(code) else {
         return Judged::Fault {
@@ -146,12 +165,6 @@ fn judge(s: &[u8], base: usize, from: usize, p: usize) -> Judged
             place: p,
         };
     };
-    if !begun {
-        return Judged::Fault {
-            number: 13,
-            place: p + 8,
-        };
-    }
     if !typed(s, usage, start) {
         return Judged::Fault {
             number: 14,

@@ -1,7 +1,7 @@
 use mathlib.Core.Path.{sym, _∙_}
 use borrow.Author.Tests.{not-true, not-false}
 use Rattle.reader.proofs.ChunkLaws.{begun}
-use Rattle.reader.proofs.EntryLaws.{by-12, by-13, by-14, by-15, by-good}
+use Rattle.reader.proofs.EntryLaws.{unstarted, by-12, by-14, by-15, by-good}
 use borrow.Author.Needs.{needs}
 use Rattle.reader.proofs.entries.judge.Statement.{statement}
 use Rattle.reader.proofs.entries.judge.Tie as tie
@@ -12,78 +12,79 @@ use Rattle.blorb.proofs.be32_at.Reads as be32-at-reads
 use Rattle.reader.proofs.entries.begins_behind.Reads as begins-behind-reads
 use Rattle.reader.proofs.entries.numbered.Reads as numbered-reads
 use Rattle.reader.proofs.entries.typed.Reads as typed-reads
+use Rattle.reader.proofs.entries.unstarted.Reads as unstarted-reads
 
--- src/entries.rt:140:35
+-- src/entries.rt:157:35
 add-be32-at : tie.Need-add-be32-at
 add-be32-at c = search needs
 
--- src/entries.rt:140:17
+-- src/entries.rt:157:17
 be32-at-requires : tie.Need-be32-at-requires
 be32-at-requires c κs = search needs
 
--- src/entries.rt:141:9
+-- src/entries.rt:158:9
 begins-behind-requires : tie.Need-begins-behind-requires
 begins-behind-requires c κs = search needs
 
--- src/entries.rt:142:9
+-- src/entries.rt:159:9
+unstarted-requires : tie.Need-unstarted-requires
+unstarted-requires c κs = search needs
+
+-- src/entries.rt:159:9
+returns : tie.Need-returns
+returns c = c .unstarted .ensures ∙ unstarted _ _ _ (rw (c .before .before .before .be32-at .ensures .0) at (sym (c .before .before .begins-behind .ensures) ∙ not-true (c .before .before .begins-behind .result) (c .before .if1 .taken)))
+
+-- src/entries.rt:161:9
 be32-at-requires-2 : tie.Need-be32-at-requires-2
 be32-at-requires-2 c κs = search needs
 
--- src/entries.rt:143:28
+-- src/entries.rt:162:28
 of-code-requires : tie.Need-of-code-requires
 of-code-requires c κs = search needs
 
--- src/entries.rt:143:19
+-- src/entries.rt:162:19
 enum-known-usage : tie.Need-enum-known-usage
 enum-known-usage c = search needs
 
--- src/entries.rt:144:9
+-- src/entries.rt:163:9
 enum-told : tie.Need-enum-told
 enum-told c = search needs
 
--- src/entries.rt:144:9
-returns : tie.Need-returns
-returns c = by-12 _ _ _ _ 0 (c .before .before .before .be32-at2 .ensures .0) (sym (c .before .before .of-code .ensures) ∙ c .enum-told .given .1)
-
--- src/entries.rt:152:20
-add-t13 : tie.Need-add-t13
-add-t13 c = search needs
-
--- src/entries.rt:150:9
+-- src/entries.rt:163:9
 returns-2 : tie.Need-returns-2
-returns-2 c = by-13 _ _ _ _ _ (c .before .before .before .before .before .be32-at2 .ensures .0) _ (sym (c .before .before .before .before .of-code .ensures) ∙ c .before .before .usage .given .1) (c .before .before .before .before .before .before .before .be32-at .ensures .0) (sym (c .before .before .before .before .before .before .begins-behind .ensures) ∙ not-true (c .before .before .before .before .before .before .begins-behind .result) (c .if1 .taken))
+returns-2 c = by-12 _ _ _ _ 0 (c .before .before .before .be32-at2 .ensures .0) (sym (c .before .before .of-code .ensures) ∙ c .enum-told .given .1)
 
--- src/entries.rt:155:9
+-- src/entries.rt:168:9
 typed-requires : tie.Need-typed-requires
-typed-requires c κs = let b = begun _ _ _ (c .before .before .before .before .before .before .before .before .before .pre .1) (sym (c .before .before .before .before .before .before .begins-behind .ensures) ∙ not-false (c .before .before .before .before .before .before .begins-behind .result) (c .if1 .left)) in (b .below, b .walks)
+typed-requires c κs = let b = begun _ _ _ (c .before .before .before .before .before .before .before .before .before .pre .1) (sym (c .before .before .before .before .before .before .begins-behind .ensures) ∙ not-false (c .before .before .before .before .before .before .begins-behind .result) (c .before .before .before .before .before .if1 .left)) in (b .below, b .walks)
 
--- src/entries.rt:156:9
+-- src/entries.rt:169:9
 returns-3 : tie.Need-returns-3
-returns-3 c = by-14 _ _ _ _ _ (c .before .before .before .before .before .before .before .be32-at2 .ensures .0) _ (sym (c .before .before .before .before .before .before .of-code .ensures) ∙ c .before .before .before .before .usage .given .1) (c .before .before .before .before .before .before .before .before .before .be32-at .ensures .0) (sym (c .before .before .before .before .before .before .before .before .begins-behind .ensures) ∙ not-false (c .before .before .before .before .before .before .before .before .begins-behind .result) (c .before .before .if1 .left)) (sym (c .before .typed .ensures) ∙ not-true (c .before .typed .result) (c .if2 .taken))
+returns-3 c = by-14 _ _ _ _ _ (c .before .before .before .before .before .before .be32-at2 .ensures .0) _ (sym (c .before .before .before .before .before .of-code .ensures) ∙ c .before .before .before .usage .given .1) (c .before .before .before .before .before .before .before .before .before .be32-at .ensures .0) (sym (c .before .before .before .before .before .before .before .before .begins-behind .ensures) ∙ not-false (c .before .before .before .before .before .before .before .before .begins-behind .result) (c .before .before .before .before .before .before .before .if1 .left)) (sym (c .before .typed .ensures) ∙ not-true (c .before .typed .result) (c .if2 .taken))
 
--- src/entries.rt:161:42
+-- src/entries.rt:174:42
 add-be32-at-2 : tie.Need-add-be32-at-2
 add-be32-at-2 c = search needs
 
--- src/entries.rt:161:24
+-- src/entries.rt:174:24
 be32-at-requires-3 : tie.Need-be32-at-requires-3
 be32-at-requires-3 c κs = search needs
 
--- src/entries.rt:161:9
+-- src/entries.rt:174:9
 numbered-requires : tie.Need-numbered-requires
 numbered-requires c κs = search needs
 
--- src/entries.rt:164:20
-add-t15 : tie.Need-add-t15
-add-t15 c = search needs
+-- src/entries.rt:177:20
+add-t13 : tie.Need-add-t13
+add-t13 c = search needs
 
--- src/entries.rt:162:9
+-- src/entries.rt:175:9
 returns-4 : tie.Need-returns-4
-returns-4 c = by-15 _ _ _ _ _ (c .before .before .before .before .before .before .before .before .before .before .be32-at2 .ensures .0) _ (sym (c .before .before .before .before .before .before .before .before .before .of-code .ensures) ∙ c .before .before .before .before .before .before .before .usage .given .1) (c .before .before .before .before .before .before .before .before .before .before .before .before .be32-at .ensures .0) (sym (c .before .before .before .before .before .before .before .before .before .before .before .begins-behind .ensures) ∙ not-false (c .before .before .before .before .before .before .before .before .before .before .before .begins-behind .result) (c .before .before .before .before .before .if1 .left)) (sym (c .before .before .before .before .typed .ensures) ∙ not-false (c .before .before .before .before .typed .result) (c .before .before .before .if2 .left)) _ (c .before .before .be32-at3 .ensures .0) (sym (c .before .numbered .ensures) ∙ not-true (c .before .numbered .result) (c .if3 .taken))
+returns-4 c = by-15 _ _ _ _ _ (c .before .before .before .before .before .before .before .before .before .be32-at2 .ensures .0) _ (sym (c .before .before .before .before .before .before .before .before .of-code .ensures) ∙ c .before .before .before .before .before .before .usage .given .1) (c .before .before .before .before .before .before .before .before .before .before .before .before .be32-at .ensures .0) (sym (c .before .before .before .before .before .before .before .before .before .before .before .begins-behind .ensures) ∙ not-false (c .before .before .before .before .before .before .before .before .before .before .before .begins-behind .result) (c .before .before .before .before .before .before .before .before .before .before .if1 .left)) (sym (c .before .before .before .before .typed .ensures) ∙ not-false (c .before .before .before .before .typed .result) (c .before .before .before .if2 .left)) _ (c .before .before .be32-at3 .ensures .0) (sym (c .before .numbered .ensures) ∙ not-true (c .before .numbered .result) (c .if3 .taken))
 
--- src/entries.rt:136:1
+-- src/entries.rt:153:1
 returns-5 : tie.Need-returns-5
-returns-5 c = by-good _ _ _ _ _ (c .before .before .before .before .before .before .before .before .before .before .be32-at2 .ensures .0) _ (sym (c .before .before .before .before .before .before .before .before .before .of-code .ensures) ∙ c .before .before .before .before .before .before .before .usage .given .1) (c .before .before .before .before .before .before .before .before .before .before .before .before .be32-at .ensures .0) (sym (c .before .before .before .before .before .before .before .before .before .before .before .begins-behind .ensures) ∙ not-false (c .before .before .before .before .before .before .before .before .before .before .before .begins-behind .result) (c .before .before .before .before .before .if1 .left)) (sym (c .before .before .before .before .typed .ensures) ∙ not-false (c .before .before .before .before .typed .result) (c .before .before .before .if2 .left)) _ (c .before .before .be32-at3 .ensures .0) (sym (c .before .numbered .ensures) ∙ not-false (c .before .numbered .result) (c .if3 .left))
+returns-5 c = by-good _ _ _ _ _ (c .before .before .before .before .before .before .before .before .before .be32-at2 .ensures .0) _ (sym (c .before .before .before .before .before .before .before .before .of-code .ensures) ∙ c .before .before .before .before .before .before .usage .given .1) (c .before .before .before .before .before .before .before .before .before .before .before .before .be32-at .ensures .0) (sym (c .before .before .before .before .before .before .before .before .before .before .before .begins-behind .ensures) ∙ not-false (c .before .before .before .before .before .before .before .before .before .before .before .begins-behind .result) (c .before .before .before .before .before .before .before .before .before .before .if1 .left)) (sym (c .before .before .before .before .typed .ensures) ∙ not-false (c .before .before .before .before .typed .result) (c .before .before .before .if2 .left)) _ (c .before .before .be32-at3 .ensures .0) (sym (c .before .numbered .ensures) ∙ not-false (c .before .numbered .result) (c .if3 .left))
 
 pub judge-spec : {M : Type 1} → statement M
 judge-spec =
@@ -92,18 +93,18 @@ judge-spec =
     add-be32-at
     be32-at-requires
     begins-behind-requires
+    unstarted-requires
+    returns
     be32-at-requires-2
     of-code-requires
     enum-known-usage
     enum-told
-    returns
-    add-t13
     returns-2
     typed-requires
     returns-3
     add-be32-at-2
     be32-at-requires-3
     numbered-requires
-    add-t15
+    add-t13
     returns-4
     returns-5)

@@ -1,0 +1,41 @@
+use mathlib.Core.Path.{sym, _∙_}
+use Rattle.reader.proofs.EntryLaws.{unstarted-12, unstarted-13}
+use borrow.Author.Needs.{needs}
+use Rattle.reader.proofs.entries.unstarted.Statement.{statement}
+use Rattle.reader.proofs.entries.unstarted.Tie as tie
+use Rattle.reader.proofs.entries.unstarted.Reads as reads
+use Rattle.reader.proofs.entries.unstarted.Lts as lts
+use Rattle.blorb.proofs.Usage.of_code.Reads as of-code-reads
+use Rattle.blorb.proofs.be32_at.Reads as be32-at-reads
+
+-- src/entries.rt:140:39
+be32-at-requires : tie.Need-be32-at-requires
+be32-at-requires c κs = search needs
+
+-- src/entries.rt:140:24
+of-code-requires : tie.Need-of-code-requires
+of-code-requires c κs = search needs
+
+enum-told : tie.Need-enum-told
+enum-told c = search needs
+
+-- src/entries.rt:141:9
+enum-told-2 : tie.Need-enum-told-2
+enum-told-2 c = search needs
+
+-- src/entries.rt:141:9
+returns : tie.Need-returns
+returns c = unstarted-12 _ _ _ (c .before .before .before .be32-at .ensures .0) (sym (c .before .before .of-code .ensures) ∙ c .enum-told2 .given .1)
+
+-- src/entries.rt:148:16
+add-t5 : tie.Need-add-t5
+add-t5 c = search needs
+
+-- src/entries.rt:136:1
+returns-2 : tie.Need-returns-2
+returns-2 c = unstarted-13 _ _ _ (c .before .before .before .be32-at .ensures .0) _ (sym (c .before .before .of-code .ensures) ∙ c .enum-told .given .1)
+
+pub unstarted-spec : {M : Type 1} → statement M
+unstarted-spec =
+    tie.close
+    (tie.spec be32-at-requires of-code-requires enum-told enum-told-2 returns add-t5 returns-2)
