@@ -34,14 +34,6 @@ pub length-heading : (n t : ℕ) → length (heading n t) ≡ 24
 unfolding heading
 length-heading n t = simp (length-append, length-be32)
 
--- the chunks behind the index are the rest of the file
-pub drop-base : (m : Model) → drop (base (length (m .refs))) (file m) ≡ chunksBytes (m .chunks)
-unfolding base
-drop-base m =
-    rw (file-parts m, ← append-assoc (heading (length (m .refs)) (total (m .chunks))) (entriesBytes (entries m)) (chunksBytes (m .chunks)))
-    (drop-at (heading (length (m .refs)) (total (m .chunks)) ++ entriesBytes (entries m)) (chunksBytes (m .chunks)) (24 + 12 * length (m .refs))
-    (simp (length-append, length-heading, length-entriesBytes, length-map)))
-
 pub chunks-append : (a b : List Chunk) → chunksBytes (a ++ b) ≡ chunksBytes a ++ chunksBytes b
 unfolding chunksBytes
 chunks-append [] b = refl

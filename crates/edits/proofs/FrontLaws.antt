@@ -56,10 +56,6 @@ pub like-self : (a : List Chunk) → Like a a
 like-self [] = none
 like-self (c ∷ a) = keep c (like-self a)
 
-pub like-append : (a : List Chunk) (c : Chunk) → Plain c → Like a (a ++ (c ∷ []))
-like-append [] c p = put c p none
-like-append (x ∷ a) c p = keep x (like-append a c p)
-
 pub like-set : (a : List Chunk) (k : ℕ) (c : Chunk) → k < length a → Plain (getD a k noChunk) → Plain c → Like a (set a k c)
 like-set [] k c h o p = absurd (not-suc-le-zero h)
 like-set (x ∷ a) zero c h o p = out x o (put c p (like-self a))

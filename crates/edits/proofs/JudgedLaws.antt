@@ -58,12 +58,6 @@ accepted-front false t p = refl
 abbrev pub isFront : List Chunk → ℕ → ℕ → Bool
 isFront cs u n = typeIn Fspc cs && (eqb u Pict && eqb n (frontNumber cs))
 
-pub front-absent : (cs : List Chunk) (u n : ℕ) → typeIn Fspc cs ≡ false → isFront cs u n ≡ false
-front-absent cs u n h = rw h
-
-pub front-present : (cs : List Chunk) (u n q : ℕ) → typeIn Fspc cs ≡ true → frontNumber cs ≡ q → isFront cs u n ≡ (eqb u Pict && eqb n q)
-front-present cs u n q h e = ap (λ (b : Bool). b && (eqb u Pict && eqb n (frontNumber cs))) h ∙ ap (λ (z : ℕ). eqb u Pict && eqb n z) e
-
 -- an entry whose pair stands nowhere else is the one that find gives
 pub find-at : (R : Rules) (cs : List Chunk) (e : List Ref) (p : ℕ) (u n i : ℕ) (rs : List Ref) → refsFault R cs e p rs ≡ accept → i < length rs
     → same (getD rs i noRef) u n ≡ true → find u n rs ≡ i

@@ -93,10 +93,6 @@ optional-added at at′ rs cs x c ok p h =
     (rules-kept rs (rs ++ (x ∷ [])) cs (cs ++ (c ∷ [])) [] at at′ cs (λ n e. picture-more n cs c rs x ok e) h)
 
 -- what rule 5 allows is neither 'RelN' nor 'Fspc'
--- a test that a given type fails
-no-type : (t : ℕ) (u : ℕ) (c : Chunk) → c .type ≡ t → plainAllows u (record { type = t; body = c .body }) ≡ false → plainAllows u c ≡ false
-no-type t u c e h = rw e h
-
 and-none : (a : Bool) → a && false ≡ false
 and-none true = refl
 and-none false = refl

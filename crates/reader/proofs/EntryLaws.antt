@@ -20,7 +20,8 @@ use Rattle.blorb.specs.Tags.{AIFF}
 use Rattle.reader.specs.Walk.{chunkFrom, nextAt, chunksFrom, walkFrom, Reached}
 use Rattle.blorb.proofs.Checks.{pass, stop, holds-last, fails-last, accepts, refuses, then-accept, check-accept}
 use Rattle.blorb.proofs.Checks.{then-assoc}
-use Rattle.reader.proofs.ChunkLaws.{fine, Fine, begun, Begun, resume}
+use Rattle.reader.proofs.ChunkLaws.{fine, Fine}
+use Rattle.reader.proofs.StartLaws.{begun, Begun, resume}
 use Rattle.blorb.specs.declared.Usage.{Usage}
 use Rattle.blorb.specs.declared.Usage.the-variants.{Pict, Snd, Data, Exec}
 use Rattle.blorb.specs.declared.Known.{Known}

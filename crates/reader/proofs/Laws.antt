@@ -19,7 +19,8 @@ use Rattle.blorb.specs.Tags.{Pict, Rect, RelN, Fspc}
 use Rattle.reader.specs.Walk.{chunkFrom, nextAt, skipAt, chunksFrom, walkFrom, firstFault, Reached}
 use Rattle.blorb.specs.Verdict.{headFault}
 use Rattle.reader.specs.Ordinary.{ordinaryType, allOrdinary}
-use Rattle.reader.proofs.ChunkLaws.{ordinary-not, fine, Fine, begun, Begun, resume, chunks-end, first-none}
+use Rattle.reader.proofs.ChunkLaws.{ordinary-not, fine, Fine, chunks-end, first-none}
+use Rattle.reader.proofs.StartLaws.{begun, Begun, resume}
 use Rattle.blorb.proofs.Checks.{pass, stop, holds-last, fails-last, accepts, refuses, then-accept, check-accept, and-both}
 use Rattle.blorb.proofs.Checks.{then-assoc}
 use Rattle.blorb.specs.Usages.{codeOf, usageOf}

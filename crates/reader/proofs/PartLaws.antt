@@ -41,7 +41,8 @@ use Rattle.reader.specs.declared.Judgement.the-variants as judgement
 use Rattle.reader.specs.declared.Reading.the-variants.{Accepted, Refused}
 use Rattle.reader.specs.Reading.{readBy, readOf}
 use Rattle.reader.proofs.AskLaws.{Good}
-use Rattle.reader.proofs.ChunkLaws.{fine, begun, Begun, chunks-end, start-ge, ordinary-not}
+use Rattle.reader.proofs.ChunkLaws.{fine, chunks-end, ordinary-not}
+use Rattle.reader.proofs.StartLaws.{begun, Begun, start-ge}
 use Rattle.reader.proofs.Laws.{length-entriesIn, entry-getD, body-word}
 
 -- an element of a list and of its image
@@ -263,14 +264,6 @@ ordinary-fronts (c ∷ cs) e =
 pub front-ordinary : (f : List ℕ) (count : ℕ) → allOrdinary (chunksFrom f (place count)) ≡ true → front.Nothing ≡ frontOf (modelAt f count)
 unfolding frontOf
 front-ordinary f count e = rw (ordinary-fronts (chunksFrom f (place count)) e)
-
--- no chunk begins before the first one
-pub before-base : (x at : ℕ) (cs : List Chunk) → x < at → false ≡ isStart x at cs
-before-base x at cs h = go (isStart x at cs) refl
-  where
-    go : (b : Bool) → isStart x at cs ≡ b → false ≡ b
-    go true e = let q : at ≤ x = start-ge x at cs e in absurd (omega arith)
-    go false e = refl
 
 -- all together
 pub facts-are : (f : List ℕ) (count u n x : ℕ) (t : Target) (r : Front) (b : Bool)

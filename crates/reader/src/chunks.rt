@@ -233,12 +233,12 @@ pub(crate) fn begins(s: &[u8], from: usize, start: usize) -> bool
     requires { ⌜ walkFrom (now s) from ≡ accept ⌝ }
     ensures { λ r. ⌜ r ≡ isStart start from (chunksFrom (now (s .entry)) from) ⌝ }
 {
+    if s.len() <= start {
+        return false;
+    }
     let mut at = from;
-    while at < s.len() {
-        if at == start {
-            return true;
-        }
+    while at < start {
         at = skip(s, at);
     }
-    false
+    at == start
 }

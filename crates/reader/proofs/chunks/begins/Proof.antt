@@ -1,16 +1,13 @@
-use Rattle.reader.specs.Walk.{walkFrom, chunksFrom}
-use Rattle.blorb.specs.Verdict.{accept}
-use Rattle.blorb.specs.Format.{isStart}
-use Rattle.reader.proofs.ChunkLaws.{find-next, find-hit, find-end, walked, fine}
-use borrow.Author.Needs.{needs}
+use Prim.Native.Nat.{_-_, _<_}
+use mathlib.Core.Path.{_≡_, refl, _∙_}
 use native.Mathlib.Omega.{arith}
-use Prim.Native.Nat.{_-_}
-use mathlib.Core.Path.{_≡_, refl, sym, ap, _∙_}
 use lib.ListN.{length}
-use Rattle.reader.specs.Walk.{walkFrom, chunksFrom}
+use denote.Ref.{now}
 use Rattle.blorb.specs.Verdict.{accept}
 use Rattle.blorb.specs.Format.{isStart}
-use Rattle.reader.proofs.ChunkLaws.{find-next, find-hit, find-end, walked, fine}
+use Rattle.reader.specs.Walk.{walkFrom, chunksFrom}
+use Rattle.reader.proofs.ChunkLaws.{walked, fine}
+use Rattle.reader.proofs.StartLaws.{find-next, find-none, find-last}
 use Rattle.reader.proofs.chunks.begins.Statement.{statement}
 use Rattle.reader.proofs.chunks.begins.Tie as tie
 use Rattle.reader.proofs.chunks.begins.Reads as reads
@@ -21,33 +18,35 @@ abbrev Inv-loop : tie.InvT-loop
 Inv-loop s from start at₀ at = (walkFrom s at ≡ accept) × (isStart start at (chunksFrom s at) ≡ isStart start from (chunksFrom s from))
 
 abbrev μ-loop : tie.MeasureT-loop
-μ-loop s from start at₀ at = length s - at
+μ-loop s from start at₀ at = start - at
 
--- src/chunks.rt:212:5
-loop-holds : tie.Need-loop-holds Inv-loop μ-loop
-loop-holds c = (c .before .pre, refl)
-
--- src/chunks.rt:214:13
+-- src/chunks.rt:237:9
 returns : tie.Need-returns Inv-loop μ-loop
-returns c = find-hit _ _ _ (c .before .loop-test .taken) (c .before .before .loop .inv .0) (c .if1 .taken) ∙ c .before .before .loop .inv .1
+returns c = find-none _ _ _ (c .before .before .pre) (c .if1 .taken)
 
--- src/chunks.rt:216:9
+-- src/chunks.rt:240:5
+loop-holds : tie.Need-loop-holds Inv-loop μ-loop
+loop-holds c = (c .before .before .pre, refl)
+
+-- src/chunks.rt:241:9
 skip-requires : tie.Need-skip-requires Inv-loop μ-loop
-skip-requires c κs = fine _ _ (c .before .loop-test .taken) (c .before .before .loop .inv .0) .header
+skip-requires c κs =
+    let l = c .before .loop in
+    fine (now (c .before .before .before .before .args .s)) (l .at) (omega arith) (l .inv .0) .header
 
--- src/chunks.rt:212:5
+-- src/chunks.rt:240:5
 loop-less : tie.Need-loop-less Inv-loop μ-loop
 loop-less c = omega (arith, c .skip .ensures)
 
--- src/chunks.rt:212:5
+-- src/chunks.rt:240:5
 loop-again : tie.Need-loop-again Inv-loop μ-loop
-loop-again c = rw (c .skip .ensures) (walked _ _ (c .before .before .loop-test .taken) (c .before .before .before .loop .inv .0), find-next _ _ _ (c .before .before .loop-test .taken) (c .before .before .before .loop .inv .0) (c .before .if1 .left) ∙ c .before .before .before .loop .inv .1)
+loop-again c = let l = c .before .before .loop in let s = now (c .before .before .before .before .before .args .s) in let h : l .at < length s = omega arith in rw (c .skip .ensures) (walked s (l .at) h (l .inv .0), find-next s (c .before .before .before .before .before .args .start) (l .at) h (l .inv .0) (λ e. omega arith) ∙ l .inv .1)
 
--- src/chunks.rt:207:1
+-- src/chunks.rt:232:1
 returns-2 : tie.Need-returns-2 Inv-loop μ-loop
-returns-2 c = find-end _ _ _ (c .loop-test .left) ∙ c .before .loop .inv .1
+returns-2 c = let l = c .before .loop in find-last (now (c .before .before .before .before .args .s)) (c .before .before .before .before .args .start) (l .at) (l .inv .0) (omega arith) (omega arith) ∙ l .inv .1
 
 pub begins-spec : {M : Type 1} → statement M
 begins-spec =
     tie.close
-    (tie.spec Inv-loop μ-loop loop-holds returns skip-requires loop-less loop-again returns-2)
+    (tie.spec Inv-loop μ-loop returns loop-holds skip-requires loop-less loop-again returns-2)

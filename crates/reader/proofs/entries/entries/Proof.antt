@@ -8,7 +8,7 @@ use denote.Ref.{now}
 use Rattle.reader.specs.declared.chunks.Check.the-variants.{Good, Refused}
 use Rattle.reader.specs.Walk.{walkFrom, chunksFrom, Reached, verdictOf}
 use Rattle.blorb.specs.Verdict.{accept, pairIn}
-use Rattle.reader.proofs.ChunkLaws.{begun, resume}
+use Rattle.reader.proofs.StartLaws.{begun, resume}
 use Rattle.reader.specs.Entries.{usageAt, numberAt, startAt, place, earlier, entriesFrom, samePair, judgedBy, entryFault, Below, Topped, slotOf}
 use Rattle.reader.proofs.EntryLaws.{judged-at, judged-fault, entry-start, entry-stop, pair-stop, pair-more, pair-hit, entries-next, entries-end, fresh, pair-none, topped, below-next, below-same}
 use Rattle.reader.proofs.entries.entries.Statement.{statement}

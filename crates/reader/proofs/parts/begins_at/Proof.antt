@@ -1,4 +1,4 @@
-use Rattle.reader.proofs.PartLaws.{before-base}
+use Rattle.reader.proofs.StartLaws.{before-base}
 use borrow.Author.Needs.{needs}
 use Rattle.reader.proofs.parts.begins_at.Statement.{statement}
 use Rattle.reader.proofs.parts.begins_at.Tie as tie
