@@ -1,24 +1,24 @@
 -- An accepted file is the file of its model, and that model is sound.
 use mathlib.Core.Path.{_≡_, refl, sym, ap, _∙_}
-use Prim.Native.Nat.{ℕ, zero, suc, _+_, _*_, _-_, _≤_, _<_, _%_}
-use mathlib.Core.List.{List, [], _∷_, _++_, map, append-assoc, append-nil}
-use mathlib.Core.Bool.{Bool, true, false, cond, _&&_, _||_, not}
+use Prim.Native.Nat.{ℕ, zero, suc, _+_, _*_, _≤_, _<_, _%_}
+use mathlib.Core.List.{List, [], _∷_, _++_, map, append-assoc}
+use mathlib.Core.Bool.{true, _||_}
 use native.Mathlib.Omega.{arith}
-use native.Mathlib.Nat.{le-of-suc-le-suc, not-suc-le-zero, le-of-lt, add-zero}
-use lib.ListN.{length, getD, take, drop, replicate, length-append, length-map, length-drop, length-take, take-append-drop}
-use lib.Seq.{drop-drop, take-add, length-take-le, take-suc, getD-drop, take-all}
-use lib.Dec.{eqb, leb, ltb}
+use native.Mathlib.Nat.{not-suc-le-zero, add-zero}
+use lib.ListN.{length, getD, take, drop, replicate, length-map, length-drop, take-append-drop}
+use lib.Seq.{drop-drop, take-add, length-take-le, getD-drop}
+use lib.Dec.{eqb}
 use borrow.Author.Tests.{eqb-true, leb-true}
 use Rattle.blorb.specs.Bytes.{be32, rd32, Byte}
-use Rattle.blorb.proofs.ByteLaws.{length-be32, be32-rd32}
-use Rattle.blorb.specs.Format.{Ref, refOf, Chunk, Entry, size, sized, total, chunkBytes, chunksBytes, fileBytes, chunkIn, chunksIn, chunksOf, entryIn, entriesIn, entryBytes, entriesBytes, indexChunk, entriesOf, isStart, placeOf}
-use Rattle.blorb.specs.Tags.{tag, FORM, IFRS, RIdx}
-use Rattle.blorb.specs.Verdict.{Rules, Verdict, accept, refuse, _then_, check, headFault, chunkFault, walkFault, secondIndex, indexFault, refFault, entriesFault, restFault, layoutFault, verdict, knownUsage, pairIn, noChunk}
-use Rattle.blorb.specs.Model.{Model, base, startOf, entryOf, file, model, modelOf}
+use Rattle.blorb.proofs.ByteLaws.{be32-rd32}
+use Rattle.blorb.specs.Format.{Ref, refOf, Chunk, Entry, size, sized, total, chunkBytes, chunksBytes, fileBytes, chunkIn, chunksIn, chunksOf, entryIn, entriesIn, entryBytes, entriesBytes, indexChunk, entriesOf, isStart}
+use Rattle.blorb.specs.Tags.{FORM, IFRS, RIdx}
+use Rattle.blorb.specs.Verdict.{Rules, accept, headFault, chunkFault, walkFault, indexFault, entriesFault, restFault, layoutFault, verdict}
+use Rattle.blorb.specs.Model.{base, entryOf, file, model, modelOf}
 use Rattle.blorb.specs.All.{All}
 use Rattle.blorb.proofs.AllLaws.{all-take, all-drop, all-imp}
 use Rattle.blorb.specs.Sound.{W, ChunkOk, RefOk, Sound}
-use Rattle.blorb.proofs.Places.{size-pos, startOf-placeOf}
+use Rattle.blorb.proofs.Places.{startOf-placeOf}
 use Rattle.blorb.proofs.Checks.{then-accept, check-accept, and-both}
 use Rattle.blorb.proofs.Codec.{length-chunksBytes}
 

@@ -1,19 +1,17 @@
 -- A sound model whose file is small is the model of its file.
-use mathlib.Core.Path.{_≡_, refl, sym, ap, _∙_}
-use Prim.Native.Nat.{ℕ, zero, suc, _+_, _*_, _-_, _≤_, _<_, _%_}
-use mathlib.Core.List.{List, [], _∷_, _++_, map, append-assoc, append-nil}
+use mathlib.Core.Path.{_≡_, refl}
+use Prim.Native.Nat.{ℕ, zero, suc, _+_, _*_, _≤_, _<_}
+use mathlib.Core.List.{List, [], _∷_, map}
 use native.Mathlib.Omega.{arith}
 use native.Mathlib.Nat.{le-of-suc-le-suc, not-suc-le-zero, le-of-lt}
-use lib.ListN.{length, getD, take, drop, replicate, length-append, length-map}
-use Rattle.blorb.specs.Bytes.{be32, rd32}
+use lib.ListN.{length, getD, take, length-append, length-map}
 use Rattle.blorb.proofs.ByteLaws.{length-be32}
-use Rattle.blorb.specs.Format.{Ref, refOf, Chunk, Entry, size, sized, total, fileBytes, chunksOf, entriesBytes, indexChunk, entriesOf, placeOf}
-use Rattle.blorb.specs.Tags.{RIdx}
+use Rattle.blorb.specs.Format.{Ref, refOf, Chunk, Entry, size, sized, total, chunksOf, indexChunk}
 use Rattle.blorb.specs.Model.{Model, base, startOf, entryOf, file, model, modelOf}
 use Rattle.blorb.specs.All.{All}
 use Rattle.blorb.proofs.AllLaws.{all-map}
-use Rattle.blorb.specs.Sound.{W, ChunkOk, RefOk, Sound}
-use Rattle.blorb.proofs.Places.{size-pos, placeOf-startOf}
+use Rattle.blorb.specs.Sound.{W, RefOk, Sound}
+use Rattle.blorb.proofs.Places.{placeOf-startOf}
 use Rattle.blorb.proofs.Codec.{EntryOk, length-fileBytes, length-entriesBytes, chunksOf-fileBytes, entriesOf-indexChunk}
 
 pub size-index : (es : List Entry) → size (indexChunk es) ≡ 12 + 12 * length es

@@ -1,18 +1,14 @@
 -- A model's file as its parts, for the code: header, count, entries, chunks; and where the parts of an old file stand.
-use mathlib.Core.Path.{_≡_, refl, sym, ap, _∙_}
-use Prim.Native.Nat.{ℕ, zero, suc, _+_, _*_, _-_, _≤_, _<_, _%_}
-use mathlib.Core.List.{List, [], _∷_, _++_, map, append-assoc, append-nil}
+use mathlib.Core.Path.{_≡_, refl, sym}
+use Prim.Native.Nat.{ℕ, zero, suc, _+_, _*_, _<_, _%_}
+use mathlib.Core.List.{List, [], _∷_, _++_, append-assoc, append-nil}
 use native.Mathlib.Omega.{arith}
 use native.Mathlib.Nat.{le-of-suc-le-suc, not-suc-le-zero}
-use lib.ListN.{length, getD, take, drop, set, replicate, length-append, length-map}
-use lib.Seq.{drop-at}
+use lib.ListN.{length, take, drop, set, replicate, length-append, length-map}
 use Rattle.blorb.specs.Bytes.{be32}
 use Rattle.blorb.proofs.ByteLaws.{length-be32}
-use Rattle.blorb.specs.Tags.{FORM, IFRS, RIdx}
-use Rattle.blorb.specs.Format.{Chunk, Entry, heading, size, sized, total, chunkBytes, chunksBytes, fileBytes, entriesBytes, indexChunk}
-use Rattle.blorb.specs.Verdict.{noChunk}
-use Rattle.blorb.specs.Model.{Model, base, file}
-use Rattle.blorb.specs.Queries.{without}
+use Rattle.blorb.specs.Format.{Chunk, heading, size, total, chunkBytes, chunksBytes, fileBytes, entriesBytes, indexChunk}
+use Rattle.blorb.specs.Model.{Model, file}
 use Rattle.blorb.proofs.Codec.{length-entriesBytes}
 use Rattle.blorb.proofs.ModelLaws.{entries, size-index}
 

@@ -1,22 +1,20 @@
 -- Laws of usages and of rule 5.
 use mathlib.Core.Path.{_≡_, refl, sym, ap, _∙_}
-use Prim.Native.Nat.{ℕ, zero, suc, _+_, _*_, _≤_, _<_}
-use mathlib.Core.List.{List, [], _∷_}
-use mathlib.Core.Bool.{Bool, true, false, _&&_, _||_, not}
+use Prim.Native.Nat.{ℕ, _≤_, _<_}
+use mathlib.Core.List.{List}
+use mathlib.Core.Bool.{Bool, true, false, _&&_, _||_}
 use native.Mathlib.Omega.{arith}
-use lib.ListN.{length, getD, take, drop}
+use lib.ListN.{length, take}
 use lib.Seq.{getD-take}
 use lib.Dec.{eqb, leb}
-use borrow.Author.Tests.{eq-eqb, ne-eqb, eqb-true, eqb-false, le-leb, lt-leb}
+use borrow.Author.Tests.{eq-eqb, ne-eqb, eqb-true, le-leb, lt-leb}
 use Rattle.blorb.specs.Bytes.{rd32}
-use Rattle.blorb.specs.Tags.{FORM}
+use Rattle.blorb.specs.Tags.{FORM, AIFF}
 use Rattle.blorb.specs.Format.{Chunk, chunkOf}
 use Rattle.blorb.specs.Verdict.{knownUsage}
 use Rattle.blorb.specs.Rules.{plainAllows, oneOf}
-use Rattle.blorb.specs.Tags.{AIFF}
 use Rattle.blorb.specs.declared.Usage.{Usage}
 use Rattle.blorb.specs.declared.Usage.the-variants.{Pict, Snd, Data, Exec}
-use Rattle.blorb.specs.declared.Known.{Known}
 use Rattle.blorb.specs.declared.Known.the-variants.{Is, Unknown}
 use Rattle.blorb.specs.Usages.{codeOf, pickKnown, usageOf, pictType, sndType, dataType, execType}
 

@@ -1,26 +1,26 @@
 -- The verdict on the file of a sound model: only the length, a second index, the count, the entries and rule 7 are left to judge.
 use mathlib.Core.Path.{_≡_, refl, sym, ap, _∙_}
-use Prim.Native.Nat.{ℕ, zero, suc, _+_, _*_, _-_, _≤_, _<_, _%_}
-use mathlib.Core.List.{List, [], _∷_, _++_, map, append-assoc, append-nil}
-use mathlib.Core.Bool.{Bool, true, false, cond, _&&_, _||_, not}
+use Prim.Native.Nat.{ℕ, zero, suc, _+_, _*_, _≤_, _<_, _%_}
+use mathlib.Core.List.{List, [], _∷_, _++_, map, append-assoc}
+use mathlib.Core.Bool.{Bool, true, false, _||_}
 use native.Mathlib.Omega.{arith}
-use native.Mathlib.Nat.{le-of-suc-le-suc, not-suc-le-zero, le-of-lt, zero-add}
-use lib.ListN.{length, getD, take, drop, replicate, length-append, length-map, length-drop, length-take, length-replicate}
+use native.Mathlib.Nat.{not-suc-le-zero}
+use lib.ListN.{length, getD, drop, replicate, length-append, length-map}
 use lib.Seq.{getD-append-add}
-use lib.Dec.{eqb, leb, ltb}
-use borrow.Author.Tests.{eq-eqb, le-leb, leb-true, leb-false}
+use lib.Dec.{eqb, leb}
+use borrow.Author.Tests.{eq-eqb, le-leb, leb-true}
 use Rattle.blorb.specs.Bytes.{be32, rd32}
 use Rattle.blorb.proofs.ByteLaws.{length-be32, rd32-be32, drop-be32, drop-two}
-use Rattle.blorb.specs.Format.{Ref, refOf, Chunk, Entry, size, sized, total, chunkBytes, chunksBytes, fileBytes, chunkIn, chunksIn, chunksOf, entriesBytes, indexChunk, entriesOf, isStart, placeOf}
-use Rattle.blorb.specs.Tags.{tag, FORM, IFRS, RIdx}
-use Rattle.blorb.specs.Verdict.{Rules, Verdict, accept, refuse, _then_, check, headFault, chunkFault, walkFault, secondIndex, indexFault, refFault, entriesFault, restFault, layoutFault, verdict, knownUsage, pairIn, noChunk}
-use Rattle.blorb.specs.Model.{Model, base, startOf, entryOf, file, model, modelOf}
+use Rattle.blorb.specs.Format.{Ref, refOf, Chunk, Entry, size, sized, total, chunkBytes, chunksBytes, fileBytes, chunksOf, entriesBytes, indexChunk}
+use Rattle.blorb.specs.Tags.{FORM, IFRS, RIdx}
+use Rattle.blorb.specs.Verdict.{Rules, Verdict, accept, _then_, check, headFault, chunkFault, walkFault, secondIndex, indexFault, refFault, entriesFault, restFault, layoutFault, verdict, knownUsage}
+use Rattle.blorb.specs.Model.{Model, base, entryOf, file}
 use Rattle.blorb.specs.All.{All}
-use Rattle.blorb.specs.Sound.{W, ChunkOk, RefOk, Sound}
+use Rattle.blorb.specs.Sound.{W, RefOk, Sound}
 use Rattle.blorb.proofs.Places.{size-pos, body-size, isStart-startOf}
-use Rattle.blorb.proofs.Codec.{length-chunkBytes, length-chunksBytes, length-fileBytes, length-entriesBytes, first-length, first-rest, drop-header, entriesOf-indexChunk, EntryOk}
+use Rattle.blorb.proofs.Codec.{length-chunkBytes, length-fileBytes, length-entriesBytes, first-length, first-rest, drop-header, entriesOf-indexChunk}
 use Rattle.blorb.proofs.Checks.{pass, accepts, holds-last}
-use Rattle.blorb.proofs.ModelLaws.{entries, size-index, length-file, chunks-of, entries-ok, few, refOf-entryOf, refOf-entryOf1}
+use Rattle.blorb.proofs.ModelLaws.{entries, size-index, chunks-of, entries-ok, few, refOf-entryOf, refOf-entryOf1}
 
 -- an encoded chunk has no fault
 pad-byte : (b : List ℕ) (s : List ℕ) → (eqb (length b % 2) 0 || eqb (getD (replicate (length b % 2) 0 ++ s) 0 0) 0) ≡ true

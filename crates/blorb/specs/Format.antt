@@ -1,8 +1,8 @@
 -- Chunks and index entries, and how they stand in a file's bytes (01, rules 1 to 4): written, and read back without judging.
 use Prim.Native.Nat.{ℕ, zero, suc, _+_, _*_, _%_}
 use mathlib.Core.List.{List, [], _∷_, _++_}
-use mathlib.Core.Bool.{Bool, true, false, _||_, cond}
-use lib.ListN.{length, getD, take, drop, replicate}
+use mathlib.Core.Bool.{Bool, false, _||_, cond}
+use lib.ListN.{length, take, drop, replicate}
 use lib.Dec.{eqb}
 use Rattle.blorb.specs.Bytes.{be32, rd32}
 use Rattle.blorb.specs.Tags.{FORM, IFRS, RIdx}

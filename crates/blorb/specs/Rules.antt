@@ -1,13 +1,13 @@
 -- Rule 5 and rule 7 for plain files, and the plain verdict.
-use Prim.Native.Nat.{ℕ, zero, suc, _+_}
+use Prim.Native.Nat.{ℕ, _+_}
 use mathlib.Core.List.{List, [], _∷_, _++_}
-use mathlib.Core.Bool.{Bool, true, false, _||_, _&&_, not, cond}
-use lib.ListN.{length, getD, take, drop}
-use lib.Dec.{eqb, leb, ltb}
+use mathlib.Core.Bool.{Bool, false, _||_, _&&_, not, cond}
+use lib.ListN.{length, getD}
+use lib.Dec.{eqb, leb}
 use Rattle.blorb.specs.Bytes.{rd32}
 use Rattle.blorb.specs.Tags.{FORM, RelN, Fspc, Pict, Snd, Data, Exec, JPEG, PNG, Rect, OGGV, MOD, SONG, AIFF, TEXT, BINA, ZCOD, GLUL, TAD2, TAD3, HUGO, ALAN, ADRI, LEVE, AGT, MAGS, ADVS, EXEC}
 use Rattle.blorb.specs.Format.{Chunk, Ref, size}
-use Rattle.blorb.specs.Verdict.{Rules, Verdict, accept, refuse, _then_, check, noChunk, verdict}
+use Rattle.blorb.specs.Verdict.{Rules, Verdict, accept, _then_, check, noChunk, verdict}
 
 unfoldable pub oneOf : ℕ → List ℕ → Bool
 oneOf t [] = false

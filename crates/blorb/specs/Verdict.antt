@@ -1,12 +1,12 @@
 -- The verdict on a file (01, Refusal numbers, in order of checking): accepted, or the number and place of the first refusal of the table.
-use Prim.Native.Nat.{ℕ, zero, suc, _+_, _*_, _%_, _-_}
+use Prim.Native.Nat.{ℕ, zero, suc, _+_, _*_, _%_}
 use mathlib.Core.List.{List, [], _∷_, _++_, map}
-use mathlib.Core.Bool.{Bool, true, false, _||_, _&&_, not, cond}
-use lib.ListN.{length, getD, take, drop}
-use lib.Dec.{eqb, leb, ltb}
-use Rattle.blorb.specs.Bytes.{be32, rd32}
+use mathlib.Core.Bool.{Bool, true, false, _||_, _&&_, not}
+use lib.ListN.{length, getD, drop}
+use lib.Dec.{eqb, leb}
+use Rattle.blorb.specs.Bytes.{rd32}
 use Rattle.blorb.specs.Tags.{FORM, IFRS, RIdx, Pict, Snd, Data, Exec}
-use Rattle.blorb.specs.Format.{Chunk, Entry, sized, size, chunksOf, entriesOf, isStart, placeOf, Ref, refOf}
+use Rattle.blorb.specs.Format.{Chunk, Entry, sized, size, chunksOf, entriesOf, isStart, Ref, refOf}
 
 pub data Verdict : Type 0 where
   accept : Verdict

@@ -4,7 +4,7 @@ ghost use Prim.Native.Nat.{_+_, _≤_, _<_, _^_};
 ghost use lib.ListN.{length, drop};
 ghost use Rattle.blorb.specs.Bytes.{rd32};
 ghost use Rattle.blorb.specs.Little.{Little, swapped};
-ghost use Rattle.blorb.specs.Format.{Chunk, chunkOf};
+ghost use Rattle.blorb.specs.Format.{chunkOf};
 ghost use Rattle.blorb.specs.Rules.{plainAllows};
 ghost use Rattle.blorb.specs.declared.Usage.the-variants.{Snd};
 ghost use Rattle.blorb.specs.Usages.{codeOf, usageOf, pictType, sndType, dataType, execType};

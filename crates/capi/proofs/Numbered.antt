@@ -1,14 +1,14 @@
 -- `refusal` is 0 exactly where a call was carried out: no refusal of the papers has the number 0.
 use mathlib.Core.Path.{_≡_, refl}
 use Prim.Native.Nat.{ℕ, zero, suc, _+_, _≤_, _<_}
-use mathlib.Core.List.{List, [], _∷_, _++_}
+use mathlib.Core.List.{List, [], _∷_}
 use mathlib.Core.Bool.{Bool, true, false, cond}
 use native.Mathlib.Omega.{arith}
 use lib.ListN.{length, getD, take}
 use lib.Dec.{eqb, leb, ltb}
 use borrow.Author.Tests.{leb-true, ltb-true}
 use Rattle.blorb.specs.Bytes.{rd32}
-use Rattle.blorb.specs.Format.{Chunk, Entry, Ref, size, sized, refOf}
+use Rattle.blorb.specs.Format.{Chunk, Entry, Ref, refOf}
 use Rattle.blorb.specs.Tags.{RelN, Fspc}
 use Rattle.blorb.specs.Verdict.{Verdict, accept, refuse, _then_, check, headFault, chunkFault, walkFault, secondIndex, indexFault, refFault, entriesFault, restFault, layoutFault, verdict}
 use Rattle.blorb.specs.Rules.{plainRules, plainVerdict, picture, single, chunkRule, chunkRules, optional}

@@ -1,5 +1,5 @@
 -- Refusals have numbers from 1 on.
-use Prim.Native.Nat.{ℕ, _<_}
+use Prim.Native.Nat.{_<_}
 use Rattle.blorb.specs.Verdict.{Verdict, accept, refuse}
 
 -- a verdict whose refusal, if it is one, isn't 0

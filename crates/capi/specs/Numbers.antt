@@ -3,7 +3,6 @@
 use Prim.Native.Nat.{ℕ}
 use Rattle.blorb.specs.Usages.{codeOf}
 use Rattle.blorb.specs.Verdict.{Verdict, accept, refuse}
-use Rattle.blorb.specs.declared.Entry.{Entry}
 use Rattle.reader.specs.declared.Reading.{Reading}
 use Rattle.reader.specs.declared.Reading.the-variants.{Accepted, Refused}
 use Rattle.reader.specs.declared.Asked.{Asked}

@@ -9,10 +9,9 @@ use lib.Seq.{getD-append-seam, take-length}
 use lib.Dec.{eqb, leb, ltb}
 use borrow.Author.Tests.{eq-eqb, ne-eqb, le-leb, lt-leb}
 use Rattle.blorb.specs.Format.{Ref, Chunk, total, chunkOf}
-use Rattle.blorb.specs.Tags.{RIdx}
+use Rattle.blorb.specs.Tags.{RIdx, Exec}
 use Rattle.blorb.specs.Verdict.{Verdict, accept, refuse, _then_, check, noChunk, knownUsage, refFault, verdict}
 use Rattle.blorb.specs.Rules.{plainAllows, optional, plainRules}
-use Rattle.blorb.specs.Tags.{Exec}
 use Rattle.blorb.specs.Model.{Model, base, file, model}
 use Rattle.edits.specs.Edit.{add, added, edited, givenChunk}
 use Rattle.blorb.specs.Queries.{find}

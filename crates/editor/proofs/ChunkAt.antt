@@ -1,17 +1,15 @@
 -- The chunk at a start: its type, its length and its data in the file's bytes.
-use mathlib.Core.Path.{_≡_, refl, sym, ap, _∙_}
-use Prim.Native.Nat.{ℕ, zero, suc, _+_, _*_, _-_, _≤_, _<_, _%_}
-use mathlib.Core.List.{List, [], _∷_, _++_, map, append-assoc}
+use mathlib.Core.Path.{_≡_, sym, ap, _∙_}
+use Prim.Native.Nat.{ℕ, suc, _+_, _*_, _<_}
+use mathlib.Core.List.{List, _++_, append-assoc}
 use native.Mathlib.Omega.{arith}
-use lib.ListN.{length, getD, take, drop, length-append, length-map}
+use lib.ListN.{length, take, drop, length-append, length-map}
 use lib.Seq.{drop-at, drop-drop}
-use Rattle.blorb.specs.Bytes.{be32, rd32}
-use Rattle.blorb.specs.Format.{Chunk, entriesBytes, chunkBytes, chunksBytes, total, size, heading}
+use Rattle.blorb.specs.Bytes.{rd32}
+use Rattle.blorb.specs.Format.{Chunk, entriesBytes, chunkBytes, chunksBytes, total, heading}
 use Rattle.blorb.specs.Verdict.{noChunk}
 use Rattle.blorb.specs.Model.{Model, base, startOf, file}
-use Rattle.blorb.specs.Queries.{chunkAt}
-use Rattle.blorb.specs.Queries.{start}
-use Rattle.blorb.specs.All.{All}
+use Rattle.blorb.specs.Queries.{chunkAt, start}
 use Rattle.blorb.proofs.AllLaws.{all-getD}
 use Rattle.blorb.specs.Sound.{W, ChunkOk, Sound}
 use Rattle.blorb.proofs.Places.{body-size}

@@ -6,7 +6,7 @@ use mathlib.Core.Bool.{Bool, true, false, _&&_}
 use native.Mathlib.Omega.{arith}
 use lib.ListN.{length}
 use lib.Dec.{eqb}
-use borrow.Author.Tests.{eq-eqb, eqb-true, ltb-true, not-true}
+use borrow.Author.Tests.{eq-eqb, eqb-true, not-true}
 use Rattle.blorb.specs.Bytes.{Byte}
 use Rattle.blorb.specs.All.{All}
 use Rattle.blorb.specs.Format.{Chunk}
@@ -25,7 +25,7 @@ use Rattle.reader.specs.Reading.{lookupOf, partOf}
 use Rattle.reader.specs.declared.Looked.the-variants.{Found, Refused}
 use Rattle.reader.proofs.Promises.{lookup-here, lookup-nowhere}
 use Rattle.edits.specs.Edit.{Edit, add, replace, remove, added, edited, givenChunk}
-use Rattle.edits.specs.Run.{ArgsOk, targetFault, editedFile, editFault}
+use Rattle.edits.specs.Run.{ArgsOk, editedFile, editFault}
 use Rattle.edits.proofs.Applies.{Applies}
 use Rattle.edits.proofs.AddVerdict.{added-verdict}
 use Rattle.edits.proofs.RunLaws.{target-applies}

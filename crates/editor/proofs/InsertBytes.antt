@@ -8,14 +8,13 @@ use native.Mathlib.Nat.{sub-zero}
 use lib.ListN.{length, take, drop, length-append, length-map, length-drop, take-append-drop}
 use lib.Seq.{length-take-le, drop-append-le, drop-drop}
 use lib.Dec.{leb}
-use Rattle.blorb.specs.Bytes.{be32}
+use Rattle.blorb.specs.Bytes.{be32, Byte}
 use Rattle.blorb.specs.Format.{Chunk, Entry, size, entryBytes, entriesBytes, chunkBytes, chunksBytes, total, placeOf, chunkOf, heading}
 use Rattle.blorb.specs.Rules.{plainRules}
 use Rattle.blorb.specs.Model.{Model, base, startOf, file, model}
 use Rattle.blorb.specs.Queries.{start}
 use Rattle.blorb.specs.All.{All}
 use Rattle.blorb.specs.Sound.{Sound}
-use Rattle.blorb.specs.Bytes.{Byte}
 use Rattle.blorb.proofs.Accept.{accept-back}
 use Rattle.blorb.proofs.Codec.{EntryOk, length-entriesBytes, length-chunksBytes, length-chunkBytes}
 use Rattle.blorb.proofs.ModelLaws.{entries, entries-ok, total-take}

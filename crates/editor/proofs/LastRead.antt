@@ -1,19 +1,18 @@
 -- The last record, read by its offsets, is the one that the journal's definitions give.
 use mathlib.Core.Path.{_≡_, refl, sym, ap, _∙_}
-use Prim.Native.Nat.{ℕ, zero, suc, _+_, _-_, _≤_, _<_}
+use Prim.Native.Nat.{ℕ, _+_, _-_, _≤_}
 use mathlib.Core.List.{List}
-use mathlib.Core.Bool.{Bool, true, false, cond, _&&_}
+use mathlib.Core.Bool.{Bool, true, false, _&&_}
 use native.Mathlib.Omega.{arith}
-use lib.ListN.{length, getD, take, drop}
+use lib.ListN.{length, take, drop}
 use lib.Dec.{eqb}
 use borrow.Author.Tests.{eq-eqb, ne-eqb}
 use Rattle.blorb.specs.Bytes.{rd32}
 use Rattle.blorb.specs.Format.{chunkOf}
-use Rattle.edits.specs.Journal.{Rec, lastRec, wellFormed, oldChunk, kindRule}
-use Rattle.edits.specs.Run.{State, afterUndo}
-use Rattle.edits.proofs.LastLaws.{numbers-part, formed-part, WellFormed, well-formed-part}
+use Rattle.edits.specs.Journal.{lastRec, wellFormed, oldChunk, kindRule}
+use Rattle.edits.specs.Run.{afterUndo}
+use Rattle.edits.proofs.LastLaws.{numbers-part, formed-part, well-formed-part}
 use Rattle.editor.specs.declared.journal.Record.{Record}
-use Rattle.editor.specs.declared.journal.Last.{Last}
 use Rattle.editor.specs.declared.journal.Last.the-variants.{Good, Bad}
 use Rattle.editor.specs.LastRecord.{numbersOf, lastBy, lastOf, recordAt}
 use Rattle.editor.specs.Called.{state}

@@ -8,13 +8,12 @@ use native.Mathlib.Nat.{add-zero}
 use lib.ListN.{length, getD, take, drop, replicate, length-append, length-map, length-drop, length-replicate, take-append-drop}
 use lib.Seq.{length-take-le, split-at}
 use lib.Dec.{ltb}
-use Rattle.blorb.specs.Format.{Ref, Chunk, Entry, size, entryBytes, entriesBytes, chunkBytes, chunksBytes, total, heading}
+use Rattle.blorb.specs.Format.{Chunk, Entry, size, entryBytes, entriesBytes, chunkBytes, chunksBytes, total, heading}
 use Rattle.blorb.specs.Verdict.{noChunk}
 use Rattle.blorb.specs.Rules.{plainRules}
-use Rattle.blorb.specs.Model.{Model, base, startOf, entryOf, file, model}
-use Rattle.blorb.specs.Queries.{noRef, refAt, chunkAt, shared, without}
+use Rattle.blorb.specs.Model.{Model, base, startOf, file, model}
+use Rattle.blorb.specs.Queries.{noRef, refAt, chunkAt, shared, without, start}
 use Rattle.edits.specs.Edit.{removed, removedBoth, removedEntry}
-use Rattle.blorb.specs.Queries.{start}
 use Rattle.blorb.specs.All.{All}
 use Rattle.blorb.proofs.AllLaws.{all-getD}
 use Rattle.blorb.specs.Sound.{W, RefOk, Sound}

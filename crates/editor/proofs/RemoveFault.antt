@@ -2,19 +2,19 @@
 use mathlib.Core.Path.{_≡_, refl, sym, ap, _∙_}
 use Prim.Native.Nat.{ℕ, zero, suc, _+_, _*_, _-_, _≤_, _<_}
 use mathlib.Core.List.{List, [], _∷_, _++_, map}
-use mathlib.Core.Bool.{Bool, true, false, cond, _&&_, _||_, not}
+use mathlib.Core.Bool.{Bool, true, false, cond, _&&_, not}
 use native.Mathlib.Omega.{arith}
 use native.Mathlib.Nat.{le-of-suc-le-suc, not-suc-le-zero}
 use lib.ListN.{length, getD, take, drop, length-map}
 use lib.Dec.{eqb, leb, ltb}
 use borrow.Author.Tests.{ne-eqb, eqb-false, le-leb, leb-true, lt-ltb, le-ltb, ltb-true, ltb-false}
 use Rattle.blorb.specs.Format.{Ref, Chunk, size, total}
-use Rattle.blorb.specs.Verdict.{Verdict, accept, refuse, _then_, check, noChunk, refFault, secondIndex, verdict}
-use Rattle.blorb.specs.Tags.{Pict, Rect, Fspc}
+use Rattle.blorb.specs.Verdict.{Verdict, accept, refuse, _then_, check, noChunk, secondIndex, verdict}
+use Rattle.blorb.specs.Tags.{Pict, Fspc}
 use Rattle.blorb.specs.Rules.{picture, typeIn, optional, plainRules}
 use Rattle.blorb.specs.Model.{Model, base, startOf, file, model}
 use Rattle.edits.specs.Edit.{remove, edited, lower, removed, removedBoth, removedEntry}
-use Rattle.blorb.specs.Queries.{find, noRef, refAt, chunkAt, without, uses, shared, start, frontPlace, frontNumber}
+use Rattle.blorb.specs.Queries.{find, noRef, refAt, chunkAt, without, shared, start, frontPlace, frontNumber}
 use Rattle.blorb.specs.All.{All}
 use Rattle.blorb.proofs.AllLaws.{all-getD}
 use Rattle.blorb.specs.Sound.{W, RefOk, Sound}
@@ -22,9 +22,9 @@ use Rattle.blorb.specs.Bytes.{Byte}
 use Rattle.blorb.proofs.Checks.{then-accept, check-accept, pass, accepts}
 use Rattle.blorb.proofs.Accept.{accept-back}
 use Rattle.edits.proofs.AddVerdict.{second-any}
-use Rattle.edits.proofs.UndoLaws.{or-false, length-without, length-remaining}
+use Rattle.edits.proofs.UndoLaws.{length-without, length-remaining}
 use Rattle.blorb.proofs.VerdictLaws.{refsFault, modelFault, verdict-file}
-use Rattle.edits.proofs.RemoveVerdict.{same-chunk, refs-removed, refs-without}
+use Rattle.edits.proofs.RemoveVerdict.{refs-removed, refs-without}
 use Rattle.edits.proofs.FitLaws.{edit-sound, find-pair}
 use Rattle.edits.specs.Starts.{fallen}
 use Rattle.edits.proofs.Starts.{fell}
@@ -35,11 +35,11 @@ use Rattle.reader.specs.declared.Front.the-variants as front
 use Rattle.reader.specs.Inspecting.{frontOf}
 use Rattle.editor.proofs.OpenLaws.{front-nothing, front-at}
 use Rattle.edits.proofs.Lengths.{length-removed}
-use Rattle.edits.proofs.RemoveJudged.{second-without, picture-less, picture-lower, picture-without}
+use Rattle.edits.proofs.RemoveJudged.{second-without, picture-lower, picture-without}
 use Rattle.edits.proofs.JudgedLaws.{chunk-plain}
-use Rattle.edits.proofs.RuleSeven.{Plain, plain-plain}
-use Rattle.edits.proofs.FrontLaws.{like-self, like-without, optional-like, front-picture, picture-none}
-use Rattle.edits.proofs.ReadBack.{same, pair-gone}
+use Rattle.edits.proofs.RuleSeven.{Plain}
+use Rattle.edits.proofs.FrontLaws.{like-self, like-without, optional-like, front-picture}
+use Rattle.edits.proofs.ReadBack.{same}
 use Rattle.editor.proofs.Writes.{file-length}
 
 not-flip : (x y : Bool) → not x ≡ y → x ≡ not y

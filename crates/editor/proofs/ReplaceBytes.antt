@@ -13,9 +13,8 @@ use Rattle.blorb.specs.Format.{Chunk, Entry, size, entriesBytes, chunkBytes, ch
 use Rattle.blorb.specs.Verdict.{noChunk}
 use Rattle.blorb.specs.Rules.{plainRules}
 use Rattle.blorb.specs.Model.{Model, base, startOf, file, model}
-use Rattle.blorb.specs.Queries.{noRef, refAt, chunkAt}
+use Rattle.blorb.specs.Queries.{noRef, refAt, chunkAt, start}
 use Rattle.edits.specs.Edit.{replaced}
-use Rattle.blorb.specs.Queries.{start}
 use Rattle.blorb.specs.All.{All}
 use Rattle.blorb.proofs.AllLaws.{all-getD}
 use Rattle.blorb.specs.Sound.{W, RefOk}

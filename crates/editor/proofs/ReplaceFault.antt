@@ -9,10 +9,9 @@ use lib.ListN.{length, getD, take, set}
 use lib.Dec.{eqb, leb}
 use borrow.Author.Tests.{eq-eqb, ne-eqb, le-leb, lt-leb, leb-true}
 use Rattle.blorb.specs.Format.{Ref, Chunk, sized, size, total, chunkOf}
-use Rattle.blorb.specs.Tags.{RIdx}
+use Rattle.blorb.specs.Tags.{RIdx, Pict, Rect, Fspc}
 use Rattle.blorb.specs.Verdict.{Verdict, accept, refuse, _then_, check, noChunk, secondIndex, verdict}
-use Rattle.blorb.specs.Tags.{Pict, Rect, Fspc}
-use Rattle.blorb.specs.Rules.{plainAllows, picture, typeIn, optional, plainRules}
+use Rattle.blorb.specs.Rules.{plainAllows, typeIn, optional, plainRules}
 use Rattle.blorb.specs.Model.{Model, base, startOf, file, model}
 use Rattle.edits.specs.Edit.{replace, edited, replaced, givenChunk}
 use Rattle.blorb.specs.Queries.{find, noRef, refAt, chunkAt, shared, start, frontPlace, frontNumber}

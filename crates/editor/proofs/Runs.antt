@@ -1,6 +1,5 @@
 -- Demand 3 for the editor's calls: whatever calls keep their contracts one after another, the ledger has their answers and their end.
-use mathlib.Core.Path.{_≡_, refl, sym, ap, _∙_}
-use Prim.Native.Nat.{ℕ}
+use mathlib.Core.Path.{_≡_, refl, ap, _∙_}
 use mathlib.Core.List.{List, [], _∷_, map}
 use lib.ListN.{take}
 use Rattle.blorb.specs.All.{All}

@@ -8,8 +8,8 @@ use lib.ListN.{length, take, drop}
 use lib.Seq.{length-take-le}
 use lib.Dec.{leb}
 use borrow.Author.Tests.{leb-true}
-use Rattle.blorb.specs.Format.{size, placeOf, chunkOf}
-use Rattle.blorb.specs.Verdict.{Verdict, accept, refuse, _then_, verdict}
+use Rattle.blorb.specs.Format.{size, placeOf, chunkOf, sizeOf}
+use Rattle.blorb.specs.Verdict.{Verdict, accept, refuse, verdict}
 use Rattle.blorb.specs.Rules.{plainRules}
 use Rattle.blorb.specs.Model.{Model, base, startOf, model, file}
 use Rattle.blorb.specs.Queries.{refAt, chunkAt, start, shared}
@@ -27,7 +27,6 @@ use Rattle.edits.proofs.BoolLaws.{and-parts}
 use Rattle.edits.proofs.JudgedLaws.{chunk-in}
 use Rattle.edits.proofs.UndoJudged.{AcceptedFile, accepted-facts, fits1-facts, fits2-facts, undo1-removed, kind-1, kind-2, kind-3, kind-4}
 use Rattle.edits.proofs.FitFacts.{size-is, fits3-in}
-use Rattle.blorb.specs.Format.{sizeOf}
 use Rattle.edits.proofs.UndoTold.{after-2, after-3, after-4}
 use Rattle.editor.specs.declared.journal.Record.{Record}
 use Rattle.editor.specs.declared.journal.Last.the-variants.{Good}

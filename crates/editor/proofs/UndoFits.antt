@@ -8,11 +8,10 @@ use lib.ListN.{length, take, drop, length-append, length-drop}
 use lib.Seq.{drop-drop}
 use lib.Dec.{eqb, leb, ltb}
 use borrow.Author.Tests.{ltb-true, ltb-false, le-leb, lt-leb}
-use Rattle.blorb.specs.Bytes.{rd32}
-use Rattle.blorb.specs.Tags.{RIdx}
-use Rattle.blorb.specs.Format.{Chunk, size, chunkIn, chunkBytes, chunksBytes, isStart}
+use Rattle.blorb.specs.Bytes.{rd32, Byte}
+use Rattle.blorb.specs.Tags.{RIdx, Pict, Rect, Fspc}
+use Rattle.blorb.specs.Format.{Chunk, size, chunkIn, chunkBytes, chunksBytes, isStart, sizeOf}
 use Rattle.blorb.specs.Verdict.{verdict}
-use Rattle.blorb.specs.Tags.{Pict, Rect, Fspc}
 use Rattle.blorb.specs.Rules.{plainAllows, typeIn, plainRules}
 use Rattle.blorb.specs.Model.{Model, base, model, file}
 use Rattle.blorb.specs.Queries.{find, refAt, chunkAt, start, frontNumber}
@@ -20,7 +19,6 @@ use Rattle.blorb.specs.All.{All}
 use Rattle.blorb.specs.Sound.{W, Sound}
 use Rattle.blorb.proofs.Places.{size-pos, startOf-placeOf}
 use Rattle.blorb.proofs.Codec.{length-chunkBytes}
-use Rattle.blorb.specs.Bytes.{Byte}
 use Rattle.edits.specs.Journal.{Rec, lastRec, fits, fits1, fits2, oldChunk, oldPlace}
 use Rattle.edits.specs.Run.{accepted, undoneFile}
 use Rattle.edits.proofs.BoolLaws.{and-parts, and-where}
@@ -28,7 +26,6 @@ use Rattle.edits.proofs.JudgedLaws.{isFront}
 use Rattle.edits.proofs.InsertJudged.{entryTests, entry-new, entry-twice}
 use Rattle.edits.proofs.UndoJudged.{AcceptedFile, fits1-facts, fits2-facts, found-at, kind-1, kind-2, kind-4}
 use Rattle.edits.proofs.FitFacts.{size-is, told3, told4}
-use Rattle.blorb.specs.Format.{sizeOf}
 use Rattle.edits.proofs.UndoTold.{accepted2, accepted4, test-1, test-2, test-3, test-4, after-1, after-2, after-3, after-4}
 use Rattle.reader.specs.declared.Piece.{Piece}
 use Rattle.reader.specs.declared.Facts.{Facts}

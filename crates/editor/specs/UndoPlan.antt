@@ -5,19 +5,16 @@ use mathlib.Core.List.{List}
 use mathlib.Core.Bool.{Bool, true, false, cond, _&&_, _||_, not}
 use lib.ListN.{length, take, drop}
 use lib.Dec.{eqb, leb, ltb}
-use Rattle.blorb.specs.Bytes.{rd32}
-use Rattle.blorb.specs.Tags.{RIdx}
-use Rattle.blorb.specs.Format.{size, chunkIn, chunkOf}
+use Rattle.blorb.specs.Bytes.{rd32, Byte}
+use Rattle.blorb.specs.Tags.{RIdx, Pict, Exec, Rect}
+use Rattle.blorb.specs.Format.{size, chunkIn, chunkOf, sizeOf}
 use Rattle.blorb.specs.Verdict.{Verdict, accept, refuse, verdict, knownUsage}
-use Rattle.blorb.specs.Tags.{Pict, Exec, Rect}
 use Rattle.blorb.specs.Rules.{plainAllows, plainRules}
 use Rattle.blorb.specs.Model.{Model, model}
 use Rattle.blorb.specs.Queries.{refAt, chunkAt, start}
 use Rattle.blorb.specs.All.{All}
-use Rattle.blorb.specs.Bytes.{Byte}
 use Rattle.edits.specs.Journal.{Rec, byKind, lastRec, fits}
 use Rattle.edits.specs.Run.{accepted, undoneFile, undoFault}
-use Rattle.blorb.specs.Format.{sizeOf}
 use Rattle.editor.specs.declared.journal.Record.{Record}
 use Rattle.editor.specs.declared.journal.Last.{Last}
 use Rattle.editor.specs.declared.journal.Last.the-variants.{Good, Bad}

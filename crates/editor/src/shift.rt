@@ -1,7 +1,7 @@
 // Overlapping moves of bytes within one lent buffer, and copies into it, by parts.
 ghost use mathlib.Core.Path.{_≡_};
 ghost use Prim.Native.Nat.{_+_, _-_, _≤_, _<_};
-ghost use lib.ListN.{length, take, drop};
+ghost use lib.ListN.{length};
 ghost use Rattle.editor.specs.Shift.{slid, laid};
 
 // The bytes of `d` at `at`, one by one.

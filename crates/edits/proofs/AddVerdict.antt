@@ -1,22 +1,22 @@
 -- What is left to judge of a file after an add, where the file before it was accepted: 9, 11, the new entry and rule 7.
 use mathlib.Core.Path.{_≡_, refl, sym, ap, _∙_}
-use Prim.Native.Nat.{ℕ, zero, suc, _+_, _*_, _-_, _≤_, _<_, _%_}
-use mathlib.Core.List.{List, [], _∷_, _++_, map, append-assoc, append-nil}
-use mathlib.Core.Bool.{Bool, true, false, cond, _&&_, _||_, not}
+use Prim.Native.Nat.{ℕ, suc, _+_, _*_}
+use mathlib.Core.List.{List, [], _∷_, _++_, append-nil}
+use mathlib.Core.Bool.{not}
 use native.Mathlib.Omega.{arith}
 use native.Mathlib.Nat.{add-zero}
-use lib.ListN.{length, getD, take, drop, length-append, List·getD-append}
+use lib.ListN.{length, length-append, List·getD-append}
 use lib.Seq.{append-snoc}
-use lib.Dec.{eqb, leb, ltb}
+use lib.Dec.{eqb, leb}
 use Rattle.blorb.specs.Format.{Ref, Chunk, size, total}
 use Rattle.blorb.specs.Tags.{RIdx}
-use Rattle.blorb.specs.Verdict.{Rules, Verdict, accept, refuse, _then_, check, secondIndex, refFault, verdict, knownUsage, pairIn, noChunk}
-use Rattle.blorb.specs.Model.{Model, base, file}
+use Rattle.blorb.specs.Verdict.{Rules, Verdict, accept, refuse, _then_, check, secondIndex, refFault, knownUsage, noChunk}
+use Rattle.blorb.specs.Model.{Model, base}
 use Rattle.edits.specs.Edit.{added}
 use Rattle.blorb.specs.All.{All}
 use Rattle.blorb.specs.Sound.{RefOk, Sound}
 use Rattle.blorb.proofs.Checks.{then-accept, check-accept, pass, accepts}
-use Rattle.blorb.proofs.VerdictLaws.{refsFault, modelFault, verdict-file}
+use Rattle.blorb.proofs.VerdictLaws.{refsFault, modelFault}
 
 pub then-assoc : (a b c : Verdict) → (a then b) then c ≡ a then (b then c)
 unfolding _then_

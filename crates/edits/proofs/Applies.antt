@@ -1,6 +1,6 @@
 -- What an edit needs to be made.
 use mathlib.Core.Path.{_≡_}
-use Prim.Native.Nat.{ℕ, _<_}
+use Prim.Native.Nat.{_<_}
 use mathlib.Core.Bool.{false}
 use lib.ListN.{length}
 use Rattle.blorb.specs.Model.{Model}

@@ -1,26 +1,21 @@
 -- Demand 3: after every run the state is the ledger's, and every call answered as the ledger did.
 use mathlib.Core.Path.{_≡_, refl, sym, ap as cong, _∙_}
-use Prim.Native.Nat.{ℕ, zero, suc, _+_, _*_, _-_, _≤_, _<_, max}
-use mathlib.Core.List.{List, [], _∷_, _++_, map, append-assoc, append-nil}
-use mathlib.Core.Bool.{Bool, true, false, cond, _&&_, _||_, not}
+use Prim.Native.Nat.{ℕ, _+_, _-_, _≤_}
+use mathlib.Core.List.{List, [], _∷_, _++_}
+use mathlib.Core.Bool.{not}
 use native.Mathlib.Omega.{arith}
-use lib.ListN.{length, getD, take, drop, replicate, length-append, length-replicate, length-drop, length-take}
-use lib.Seq.{take-at, drop-at, take-take, take-append-seam, length-take-le}
-use lib.Dec.{eqb, leb, ltb}
-use borrow.Author.Tests.{eq-eqb, ne-eqb, le-leb, leb-true, ltb-true, not-true}
-use Rattle.blorb.specs.Format.{Chunk, Entry}
-use Rattle.blorb.specs.Verdict.{Rules, Verdict, accept, refuse, _then_, check, verdict}
-use Rattle.blorb.specs.Model.{Model, model, file}
+use lib.ListN.{length, take, length-append}
+use lib.Seq.{take-take, take-append-seam, length-take-le}
+use borrow.Author.Tests.{ne-eqb, le-leb}
+use Rattle.blorb.specs.Verdict.{Rules, Verdict, accept, refuse}
 use Rattle.edits.specs.Edit.{Edit}
-use Rattle.edits.specs.Journal.{Rec, lastRec, wellFormed, fits}
+use Rattle.edits.specs.Journal.{lastRec}
 use Rattle.blorb.specs.All.{All}
 use Rattle.blorb.proofs.AllLaws.{all-take}
-use Rattle.edits.specs.Run.{ArgsOk}
+use Rattle.edits.specs.Run.{ArgsOk, State, Call, edit, undo, editedFile, editRecord, undoneFile, editFault, undoFault, answered, afterEdit, afterUndo, fault, after, step, run, answers, ledgerFile, ledgerRecords, ledgerUsed, ledgerFault, kept, ledgerAfter, ledgerStep, ledgerRun, ledgerAnswers, CallOk}
 use Rattle.blorb.specs.Bytes.{Byte}
 use Rattle.blorb.proofs.Accept.{accept-back}
-use Rattle.blorb.proofs.Checks.{then-accept, check-accept, pass, stop, holds-last, accepts, both-true}
-use Rattle.edits.specs.Run.{State, Call, edit, undo, Answer, accepted, hundred, written, noted, editedFile, editRecord, undoneFile, editFault, undoFault, answered, afterEdit, afterUndo, fault, after, step, run, answers, ledgerFile, ledgerRecords, ledgerUsed, ledgerFault, kept, ledgerAfter, ledgerStep, ledgerRun, ledgerAnswers}
-use Rattle.edits.specs.Run.{CallOk}
+use Rattle.blorb.proofs.Checks.{pass, stop, holds-last, accepts, both-true}
 use Rattle.edits.specs.Demand3.{Begins, Demand3}
 use Rattle.edits.proofs.RunLaws.{length-written, take-written, length-noted, take-noted, Good, Made, made}
 

@@ -1,35 +1,17 @@
 -- Verdicts behind an edit: 100 + k, and small laws of checks.
-use mathlib.Core.Path.{_≡_, refl, sym, ap, _∙_}
-use Prim.Native.Nat.{ℕ, zero, suc, _+_, _*_, _-_, _≤_, _<_, _%_}
-use mathlib.Core.List.{List, [], _∷_, _++_, map, append-assoc, append-nil}
-use mathlib.Core.Bool.{Bool, true, false, cond, _&&_, _||_, not}
+use mathlib.Core.Path.{_≡_, refl, sym, _∙_}
+use Prim.Native.Nat.{ℕ, suc, _+_}
+use mathlib.Core.List.{List, [], _∷_}
+use mathlib.Core.Bool.{Bool, true, false, cond, _&&_, _||_}
 use native.Mathlib.Omega.{arith}
-use lib.ListN.{length, getD, take, drop, length-append}
-use lib.Seq.{getD-append-seam, length-take-le, take-length}
-use lib.Dec.{eqb, leb, ltb}
-use borrow.Author.Tests.{eq-eqb, ne-eqb, eqb-true, eqb-false, le-leb, leb-true, lt-ltb, le-ltb, ltb-true, ltb-false}
-use Rattle.blorb.specs.Bytes.{rd32}
-use Rattle.blorb.specs.Format.{Ref, Chunk, size, total}
-use Rattle.blorb.specs.Tags.{RIdx, tag}
-use Rattle.blorb.specs.Verdict.{Rules, Verdict, accept, refuse, _then_, check, noChunk, knownUsage, pairIn, refFault, verdict}
-use Rattle.blorb.specs.Rules.{plainAllows, optional, plainRules}
-use Rattle.blorb.specs.Tags.{Pict, Snd, Data, Exec}
-use Rattle.blorb.specs.Model.{Model, base, file, model}
-use Rattle.edits.specs.Edit.{Edit, add, added, edited}
+use lib.ListN.{length}
+use lib.Dec.{eqb, ltb}
+use borrow.Author.Tests.{lt-ltb, le-ltb, ltb-true, ltb-false}
+use Rattle.blorb.specs.Format.{Ref}
+use Rattle.blorb.specs.Verdict.{Verdict, accept, refuse, _then_, check, pairIn}
 use Rattle.blorb.specs.Queries.{find}
-use Rattle.blorb.specs.All.{All}
-use Rattle.blorb.specs.Sound.{W, RefOk, Sound}
-use Rattle.edits.specs.Run.{ArgsOk}
-use Rattle.blorb.specs.Bytes.{Byte}
-use Rattle.blorb.proofs.Accept.{accept-back}
-use Rattle.blorb.proofs.Checks.{then-accept, check-accept, pass, stop, accepts, holds-last}
-use Rattle.edits.proofs.AddVerdict.{then-assoc, then-end, added-verdict}
-use Rattle.blorb.proofs.VerdictLaws.{refsFault, modelFault, verdict-file}
-use Rattle.edits.proofs.FitLaws.{edit-sound}
-use Rattle.edits.proofs.Lengths.{length-added}
-use Rattle.edits.specs.Journal.{recOf, recBytes}
-use Rattle.edits.proofs.JournalLaws.{length-recBytes}
-use Rattle.edits.specs.Run.{hundred, editedFile, editRecord, targetFault, editFault}
+use Rattle.edits.proofs.AddVerdict.{then-end}
+use Rattle.edits.specs.Run.{hundred}
 
 -- 100 + k goes into each check
 pub hundred-then : (a b : Verdict) → hundred (a then b) ≡ hundred a then hundred b

@@ -1,27 +1,25 @@
 -- The record of an edit fits the file after it, and undo takes the edit back.
-use mathlib.Core.Path.{_≡_, refl, sym, ap, _∙_}
-use Prim.Native.Nat.{ℕ, zero, suc, _+_, _*_, _-_, _≤_, _<_, _%_}
+use mathlib.Core.Path.{_≡_, refl, ap}
+use Prim.Native.Nat.{ℕ, suc, _-_, _≤_, _<_}
 use mathlib.Core.List.{List, [], _∷_, _++_, map, append-nil}
-use mathlib.Core.Bool.{Bool, true, false, cond, _&&_, _||_, not}
+use mathlib.Core.Bool.{Bool, true, false, cond, _&&_, _||_}
 use native.Mathlib.Omega.{arith}
 use native.Mathlib.Nat.{le-of-suc-le-suc, not-suc-le-zero}
-use lib.ListN.{length, getD, take, drop, set, length-append, length-take, length-drop, length-map, length-set}
-use lib.Seq.{set-set, set-getD, take-at, drop-at, getD-append-seam, take-append-seam, take-set-le, take-all}
-use lib.Dec.{eqb, leb, ltb}
-use borrow.Author.Tests.{eq-eqb, ne-eqb, eqb-true, eqb-false, ltb-true, ltb-false, le-leb, lt-leb, lt-ltb}
-use Rattle.blorb.specs.Format.{Ref, Chunk, Entry, size, sized, total, isStart, placeOf}
-use Rattle.blorb.specs.Verdict.{noChunk}
+use lib.ListN.{length, getD, take, drop, length-append, length-set}
+use lib.Seq.{getD-append-seam, take-append-seam, take-set-le}
+use lib.Dec.{eqb, ltb}
+use borrow.Author.Tests.{eq-eqb, ne-eqb, eqb-true, eqb-false, ltb-true, ltb-false, le-leb, lt-ltb}
+use Rattle.blorb.specs.Format.{Ref, Chunk, isStart}
 use Rattle.blorb.specs.Model.{Model, base, startOf}
-use Rattle.edits.specs.Edit.{Edit, add, replace, remove, with-at, raise, lower, added, replaced, removed, removedBoth, removedEntry, edited, givenChunk}
-use Rattle.blorb.specs.Queries.{find, uses, shared, refAt, noRef, chunkAt, without}
-use Rattle.edits.specs.Journal.{Rec, removal, recOf, oldChunk, oldRef, oldPlace, undo1, undo2, undo3, undo4, undone, fits, fits1, fits2, fits3, fits4}
-use Rattle.blorb.specs.Queries.{start}
+use Rattle.edits.specs.Edit.{Edit, add, replace, remove, lower, added, replaced, removed, removedBoth, removedEntry, edited, givenChunk}
+use Rattle.blorb.specs.Queries.{find, uses, shared, refAt, noRef, chunkAt, without, start}
+use Rattle.edits.specs.Journal.{removal, recOf, undo2, undone, fits, fits1, fits2, fits3, fits4}
 use Rattle.blorb.specs.All.{All}
-use Rattle.blorb.proofs.AllLaws.{all-getD, all-append, all-take, all-drop, all-set, all-map, all-imp}
+use Rattle.blorb.proofs.AllLaws.{all-getD, all-append, all-take, all-drop, all-set, all-imp}
 use Rattle.blorb.specs.Sound.{W, RefOk, ChunkOk, Sound}
 use Rattle.edits.specs.Run.{ArgsOk}
 use Rattle.edits.proofs.Applies.{Applies}
-use Rattle.blorb.proofs.Places.{placeOf-startOf, isStart-startOf}
+use Rattle.blorb.proofs.Places.{isStart-startOf}
 use Rattle.edits.proofs.UndoLaws.{undo-add, undo-replace, undo-remove, undo-remove-entry, entry-start, length-without, length-remaining, remove-start, or-false}
 
 -- the entry that find gives is the one sought

@@ -1,29 +1,27 @@
 -- Rule 7 after any edit: only a frontispiece can be at fault (19), and where.
 use mathlib.Core.Path.{_≡_, refl, sym, ap, _∙_}
-use Prim.Native.Nat.{ℕ, zero, suc, _+_, _*_, _-_, _≤_, _<_, _%_}
-use mathlib.Core.List.{List, [], _∷_, _++_, map, append-assoc, append-nil}
+use Prim.Native.Nat.{ℕ, zero, suc, _+_, _<_}
+use mathlib.Core.List.{List, [], _∷_, _++_}
 use mathlib.Core.Bool.{Bool, true, false, cond, _&&_, _||_, not}
 use native.Mathlib.Omega.{arith}
-use native.Mathlib.Nat.{le-of-suc-le-suc, not-suc-le-zero, add-zero}
-use lib.ListN.{length, getD, take, drop, set, length-append}
+use native.Mathlib.Nat.{le-of-suc-le-suc, not-suc-le-zero}
+use lib.ListN.{length, getD, take, drop, set}
 use lib.Seq.{getD-set-same, getD-set-other}
-use lib.Dec.{eqb, leb, ltb}
-use borrow.Author.Tests.{eq-eqb, ne-eqb, eqb-true, eqb-false, lt-ltb, le-ltb, ltb-true, ltb-false, not-true, not-false}
+use lib.Dec.{eqb, ltb}
+use borrow.Author.Tests.{eqb-true, eqb-false, lt-ltb, ltb-true, not-true}
 use Rattle.blorb.specs.Bytes.{rd32}
 use Rattle.blorb.specs.Format.{Ref, Chunk, size, total}
-use Rattle.blorb.specs.Tags.{RIdx}
-use Rattle.blorb.specs.Verdict.{Rules, Verdict, accept, refuse, _then_, check, noChunk, pairIn, refFault, knownUsage}
+use Rattle.blorb.specs.Verdict.{Rules, Verdict, accept, _then_, check, noChunk, pairIn, refFault}
 use Rattle.blorb.specs.Tags.{Pict, Rect, RelN, Fspc}
-use Rattle.blorb.specs.Rules.{plainAllows, picture, typeIn, single, chunkRule, chunkRules, optional, plainRules}
+use Rattle.blorb.specs.Rules.{picture, typeIn, single, chunkRule, chunkRules, optional}
 use Rattle.blorb.specs.Model.{startOf}
-use Rattle.blorb.specs.Queries.{find, noRef, without, uses}
+use Rattle.blorb.specs.Queries.{find, noRef, without, uses, frontPlace, frontNumber}
 use Rattle.edits.specs.Edit.{with-at}
 use Rattle.blorb.proofs.Checks.{then-accept, check-accept, pass, accepts, holds-last}
-use Rattle.edits.proofs.AddVerdict.{then-assoc, then-end}
+use Rattle.edits.proofs.AddVerdict.{then-end}
 use Rattle.edits.proofs.UndoLaws.{or-false}
 use Rattle.edits.proofs.FitLaws.{find-pair}
 use Rattle.blorb.proofs.VerdictLaws.{refsFault}
-use Rattle.blorb.specs.Queries.{frontPlace, frontNumber}
 use Rattle.edits.proofs.RuleSeven.{Plain}
 use Rattle.edits.proofs.FaultLaws.{ltb-suc}
 

@@ -9,9 +9,8 @@ use lib.ListN.{length, getD, take, drop, length-append, length-take, length-drop
 use lib.Dec.{eqb, leb}
 use borrow.Author.Tests.{lt-ltb, le-ltb, leb-true, leb-false}
 use Rattle.blorb.specs.Format.{Ref, Chunk, size, total}
-use Rattle.blorb.specs.Tags.{RIdx}
+use Rattle.blorb.specs.Tags.{RIdx, Pict, Exec, Rect, Fspc}
 use Rattle.blorb.specs.Verdict.{Rules, accept, noChunk, pairIn, refFault, secondIndex, knownUsage, verdict}
-use Rattle.blorb.specs.Tags.{Pict, Exec, Rect, Fspc}
 use Rattle.blorb.specs.Rules.{plainAllows, picture, typeIn, optional, plainRules}
 use Rattle.blorb.specs.Model.{Model, base, file}
 use Rattle.blorb.specs.Queries.{find, frontNumber}

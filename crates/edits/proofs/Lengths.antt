@@ -1,18 +1,17 @@
 -- Lengths: of chunks put together, taken out or changed, and of the file after each edit.
-use mathlib.Core.Path.{_≡_, refl, sym, ap, _∙_}
-use Prim.Native.Nat.{ℕ, zero, suc, _+_, _*_, _-_, _≤_, _<_, _%_}
-use mathlib.Core.List.{List, [], _∷_, _++_, map}
-use mathlib.Core.Bool.{Bool, true, false, cond}
+use mathlib.Core.Path.{_≡_}
+use Prim.Native.Nat.{ℕ, zero, suc, _+_, _<_}
+use mathlib.Core.List.{List, [], _∷_, _++_}
 use native.Mathlib.Omega.{arith}
 use native.Mathlib.Nat.{le-of-suc-le-suc, not-suc-le-zero}
-use lib.ListN.{length, getD, take, drop, set, length-append, length-map, length-set}
+use lib.ListN.{length, getD, set, length-append}
 use Rattle.blorb.specs.Format.{Ref, Chunk, size, total}
 use Rattle.blorb.specs.Verdict.{noChunk}
 use Rattle.blorb.specs.Model.{Model, base, file}
-use Rattle.edits.specs.Edit.{Edit, add, replace, remove, added, replaced, removed, removedBoth, removedEntry, edited}
-use Rattle.blorb.specs.Queries.{find, uses, shared, refAt, noRef, chunkAt, without}
+use Rattle.edits.specs.Edit.{added, replaced, removedBoth}
+use Rattle.blorb.specs.Queries.{chunkAt, without}
 use Rattle.blorb.proofs.ModelLaws.{length-file}
-use Rattle.edits.proofs.UndoLaws.{length-without, length-remaining}
+use Rattle.edits.proofs.UndoLaws.{length-remaining}
 
 pub total-append : (a b : List Chunk) → total (a ++ b) ≡ total a + total b
 unfolding total

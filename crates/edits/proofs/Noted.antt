@@ -1,13 +1,13 @@
 -- Laws of `noted`, a list of bytes written over a part of a longer one: what every byte-moving leaf does.
 use mathlib.Core.Path.{_≡_, refl, sym, ap, _∙_}
-use Prim.Native.Nat.{ℕ, zero, suc, _+_, _*_, _-_, _≤_, _<_}
-use mathlib.Core.List.{List, [], _∷_, _++_, append-assoc, append-nil}
+use Prim.Native.Nat.{ℕ, _+_, _≤_}
+use mathlib.Core.List.{List, [], _++_, append-assoc}
 use native.Mathlib.Omega.{arith}
 use native.Mathlib.Nat.{add-zero}
-use lib.ListN.{length, getD, take, drop, replicate, length-append, length-take, length-drop, take-append-drop}
-use lib.Seq.{take-at, drop-at, drop-drop, length-take-le, drop-append-add, take-append-le, drop-append-le}
+use lib.ListN.{length, take, drop, length-append, length-take, take-append-drop}
+use lib.Seq.{take-at, drop-at, drop-drop, drop-append-add}
 use Rattle.edits.specs.Run.{noted}
-use Rattle.edits.proofs.RunLaws.{length-noted, take-noted}
+use Rattle.edits.proofs.RunLaws.{take-noted}
 
 pub noted-none : (b : List ℕ) (at : ℕ) → noted b at [] ≡ b
 unfolding noted

@@ -1,27 +1,25 @@
 -- What was put in reads back, what was removed is not there, and other pairs keep type and data.
 use mathlib.Core.Path.{_≡_, refl, sym, ap, _∙_}
-use Prim.Native.Nat.{ℕ, zero, suc, _+_, _*_, _-_, _≤_, _<_}
+use Prim.Native.Nat.{ℕ, zero, suc, _+_, _<_}
 use mathlib.Core.List.{List, [], _∷_, _++_, map}
-use mathlib.Core.Bool.{Bool, true, false, cond, _&&_, _||_, not}
-use native.Mathlib.Omega.{arith}
+use mathlib.Core.Bool.{Bool, true, false, cond, _&&_, _||_}
 use native.Mathlib.Nat.{le-of-suc-le-suc, not-suc-le-zero}
 use lib.ListN.{length, getD, take, drop, set, List·getD-append}
 use lib.Seq.{getD-set-same, getD-set-other, getD-append-seam}
-use lib.Dec.{eqb, leb, ltb}
-use borrow.Author.Tests.{eq-eqb, ne-eqb, eqb-true, eqb-false, lt-ltb, le-ltb, ltb-true, ltb-false, not-true}
+use lib.Dec.{eqb}
+use borrow.Author.Tests.{eq-eqb, eqb-false}
 use Rattle.blorb.specs.Format.{Ref, Chunk}
-use Rattle.blorb.specs.Verdict.{Rules, Verdict, accept, refuse, _then_, check, noChunk, pairIn, refFault}
+use Rattle.blorb.specs.Verdict.{Rules, accept, noChunk, pairIn}
 use Rattle.blorb.specs.Model.{Model}
-use Rattle.blorb.specs.Queries.{find, noRef, refAt, chunkAt, without, uses, shared}
+use Rattle.blorb.specs.Queries.{find, noRef, refAt, without, uses, shared}
 use Rattle.edits.specs.Edit.{lower, added, replaced, removed, removedBoth, removedEntry}
 use Rattle.blorb.specs.All.{All}
 use Rattle.blorb.specs.Sound.{RefOk, Sound}
-use Rattle.blorb.proofs.Checks.{then-accept, check-accept}
+use Rattle.blorb.proofs.Checks.{then-accept}
 use Rattle.edits.proofs.UndoLaws.{or-false}
 use Rattle.blorb.proofs.VerdictLaws.{refsFault}
 use Rattle.edits.proofs.RemoveVerdict.{same-chunk}
-use Rattle.edits.proofs.FitLaws.{find-pair}
-use Rattle.blorb.specs.Lookup.{Look, missing, here, lookIn, lookup}
+use Rattle.blorb.specs.Lookup.{missing, here, lookIn, lookup}
 use Rattle.edits.proofs.FrontLaws.{pairs-once, pair-right}
 
 abbrev pub same : Ref → ℕ → ℕ → Bool

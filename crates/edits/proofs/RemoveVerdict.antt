@@ -1,17 +1,16 @@
 -- After a removal from an accepted file 12 to 16 don't hold, and neither does 9: only rule 7 is left to judge.
-use mathlib.Core.Path.{_≡_, refl, sym, ap, _∙_}
-use Prim.Native.Nat.{ℕ, zero, suc, _+_, _*_, _-_, _≤_, _<_, _%_}
-use mathlib.Core.List.{List, [], _∷_, _++_, map, append-assoc, append-nil}
-use mathlib.Core.Bool.{Bool, true, false, cond, _&&_, _||_, not}
+use mathlib.Core.Path.{_≡_, refl, ap, _∙_}
+use Prim.Native.Nat.{ℕ, zero, suc, _+_, _-_, _≤_, _<_}
+use mathlib.Core.List.{List, [], _∷_, _++_, map}
+use mathlib.Core.Bool.{Bool, true, false, cond, _&&_, not}
 use native.Mathlib.Omega.{arith}
 use native.Mathlib.Nat.{le-of-suc-le-suc, not-suc-le-zero}
-use lib.ListN.{length, getD, take, drop, set}
-use lib.Dec.{eqb, leb, ltb}
+use lib.ListN.{getD}
+use lib.Dec.{eqb, ltb}
 use borrow.Author.Tests.{eqb-false, ltb-true, ltb-false, not-true}
-use Rattle.blorb.specs.Format.{Ref, Chunk, size, total}
-use Rattle.blorb.specs.Tags.{RIdx}
-use Rattle.blorb.specs.Verdict.{Rules, Verdict, accept, refuse, _then_, check, secondIndex, refFault, knownUsage, pairIn, noChunk}
-use Rattle.blorb.specs.Queries.{uses, refAt, noRef, without}
+use Rattle.blorb.specs.Format.{Ref, Chunk}
+use Rattle.blorb.specs.Verdict.{Rules, accept, refFault, pairIn, noChunk}
+use Rattle.blorb.specs.Queries.{uses, without}
 use Rattle.edits.specs.Edit.{lower}
 use Rattle.blorb.proofs.Checks.{then-accept, check-accept, pass, accepts, holds-last}
 use Rattle.edits.proofs.UndoLaws.{or-false}

@@ -8,10 +8,9 @@ use native.Mathlib.Nat.{le-of-suc-le-suc, not-suc-le-zero}
 use lib.ListN.{length, set}
 use lib.Dec.{eqb, leb}
 use borrow.Author.Tests.{le-leb}
-use Rattle.blorb.specs.Tags.{RIdx}
+use Rattle.blorb.specs.Tags.{RIdx, Pict, Rect, Fspc}
 use Rattle.blorb.specs.Format.{Chunk, size, chunkOf}
 use Rattle.blorb.specs.Verdict.{Verdict, accept, _then_, check, noChunk, secondIndex, verdict}
-use Rattle.blorb.specs.Tags.{Pict, Rect, Fspc}
 use Rattle.blorb.specs.Rules.{plainAllows, typeIn, optional, plainRules}
 use Rattle.blorb.specs.Model.{Model, base, file}
 use Rattle.blorb.specs.Queries.{find, refAt, chunkAt, shared, frontNumber}

@@ -1,23 +1,20 @@
 -- What is left to judge of a file after a replacement, where the file before it was accepted: 9, 14 and rule 7.
-use mathlib.Core.Path.{_≡_, refl, sym, ap, _∙_}
-use Prim.Native.Nat.{ℕ, zero, suc, _+_, _*_, _-_, _≤_, _<_, _%_}
-use mathlib.Core.List.{List, [], _∷_, _++_, map, append-assoc, append-nil}
-use mathlib.Core.Bool.{Bool, true, false, cond, _&&_, _||_, not}
+use mathlib.Core.Path.{_≡_, refl, ap, _∙_}
+use Prim.Native.Nat.{ℕ, zero, suc, _+_, _*_, _<_}
+use mathlib.Core.List.{List, [], _∷_, _++_}
+use mathlib.Core.Bool.{false}
 use native.Mathlib.Omega.{arith}
 use native.Mathlib.Nat.{le-of-suc-le-suc, not-suc-le-zero}
-use lib.ListN.{length, getD, take, drop, set}
+use lib.ListN.{length, getD, set}
 use lib.Seq.{getD-set-same, getD-set-other}
-use lib.Dec.{eqb, leb, ltb}
+use lib.Dec.{eqb}
 use borrow.Author.Tests.{eqb-false}
-use Rattle.blorb.specs.Format.{Ref, Chunk, size, total}
-use Rattle.blorb.specs.Tags.{RIdx}
-use Rattle.blorb.specs.Verdict.{Rules, Verdict, accept, refuse, _then_, check, secondIndex, refFault, knownUsage, pairIn, noChunk}
-use Rattle.blorb.specs.Model.{Model, base, file}
-use Rattle.blorb.specs.Queries.{uses, shared, refAt, noRef, without}
-use Rattle.edits.specs.Edit.{replaced}
+use Rattle.blorb.specs.Format.{Ref, Chunk}
+use Rattle.blorb.specs.Verdict.{Rules, Verdict, accept, _then_, check, refFault, noChunk}
+use Rattle.blorb.specs.Queries.{uses, noRef, without}
 use Rattle.blorb.proofs.Checks.{then-accept, check-accept, pass, accepts}
 use Rattle.edits.proofs.UndoLaws.{or-false}
-use Rattle.blorb.proofs.VerdictLaws.{refsFault, modelFault}
+use Rattle.blorb.proofs.VerdictLaws.{refsFault}
 use Rattle.edits.proofs.AddVerdict.{then-end}
 
 module _ (R : Rules) (cs : List Chunk) (k : ℕ) (c : Chunk) (there : k < length cs) where

@@ -1,24 +1,21 @@
 -- Rule 7 (17 to 19) after an edit.
-use mathlib.Core.Path.{_≡_, refl, sym, ap, _∙_}
-use Prim.Native.Nat.{ℕ, zero, suc, _+_, _*_, _-_, _≤_, _<_, _%_}
-use mathlib.Core.List.{List, [], _∷_, _++_, map, append-assoc, append-nil}
+use mathlib.Core.Path.{_≡_, refl, ap, _∙_}
+use Prim.Native.Nat.{ℕ, _+_}
+use mathlib.Core.List.{List, [], _∷_, _++_}
 use mathlib.Core.Bool.{Bool, true, false, cond, _&&_, _||_, not}
 use native.Mathlib.Omega.{arith}
-use native.Mathlib.Nat.{add-zero}
-use lib.ListN.{length, getD, take, drop, set, length-append, List·getD-append}
-use lib.Seq.{append-snoc}
-use lib.Dec.{eqb, leb, ltb}
-use borrow.Author.Tests.{eq-eqb, ne-eqb, eqb-true, eqb-false}
+use lib.ListN.{length, getD, List·getD-append}
+use lib.Dec.{eqb}
+use borrow.Author.Tests.{eqb-true}
 use Rattle.blorb.specs.Bytes.{rd32}
-use Rattle.blorb.specs.Format.{Ref, Chunk, size, total}
-use Rattle.blorb.specs.Tags.{RIdx}
-use Rattle.blorb.specs.Verdict.{Rules, Verdict, accept, refuse, _then_, check, noChunk}
+use Rattle.blorb.specs.Format.{Ref, Chunk, size}
+use Rattle.blorb.specs.Verdict.{Verdict, accept, noChunk}
 use Rattle.blorb.specs.Tags.{Pict, Snd, Data, Exec, Rect, RelN, Fspc}
-use Rattle.blorb.specs.Rules.{plainAllows, oneOf, picture, typeIn, single, chunkRule, chunkRules, optional, plainRules}
+use Rattle.blorb.specs.Rules.{plainAllows, oneOf, picture, single, chunkRule, chunkRules, optional}
 use Rattle.blorb.specs.All.{All}
-use Rattle.blorb.specs.Sound.{RefOk, Sound}
+use Rattle.blorb.specs.Sound.{RefOk}
 use Rattle.blorb.proofs.Checks.{then-accept, check-accept, pass, accepts, holds-last}
-use Rattle.edits.proofs.AddVerdict.{then-assoc, then-end}
+use Rattle.edits.proofs.AddVerdict.{then-end}
 
 or-true : (a : Bool) → a || true ≡ true
 or-true true = refl

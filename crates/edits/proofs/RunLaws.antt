@@ -1,33 +1,27 @@
 -- Laws of the buffers, and what a successful edit leaves.
-use mathlib.Core.Path.{_≡_, refl, sym, ap as cong, _∙_}
-use Prim.Native.Nat.{ℕ, zero, suc, _+_, _*_, _-_, _≤_, _<_, max}
-use mathlib.Core.List.{List, [], _∷_, _++_, map, append-assoc, append-nil}
-use mathlib.Core.Bool.{Bool, true, false, cond, _&&_, _||_, not}
+use mathlib.Core.Path.{_≡_, refl, sym, ap as cong}
+use Prim.Native.Nat.{ℕ, _+_, _-_, _≤_, _<_, max}
+use mathlib.Core.List.{List, _++_, append-assoc}
+use mathlib.Core.Bool.{Bool, true, false}
 use native.Mathlib.Omega.{arith}
-use lib.ListN.{length, getD, take, drop, replicate, length-append, length-replicate, length-drop, length-take}
-use lib.Seq.{take-at, drop-at, take-take, take-append-seam, length-take-le}
-use lib.Dec.{eqb, leb, ltb}
-use borrow.Author.Tests.{eq-eqb, ne-eqb, le-leb, leb-true, ltb-true, not-true}
-use Rattle.blorb.specs.Format.{Chunk, Entry}
-use Rattle.blorb.specs.Verdict.{Rules, Verdict, accept, refuse, _then_, check, verdict, noChunk}
+use lib.ListN.{length, take, drop, replicate, length-append, length-replicate, length-drop, length-take}
+use lib.Seq.{take-at, take-append-seam}
+use borrow.Author.Tests.{leb-true, ltb-true, not-true}
+use Rattle.blorb.specs.Verdict.{Rules, Verdict, accept, refuse, verdict, noChunk}
 use Rattle.blorb.specs.Model.{Model, model, file, startOf, base}
 use Rattle.edits.specs.Edit.{Edit, add, replace, remove, edited}
-use Rattle.blorb.specs.Queries.{find, shared, refAt, noRef, chunkAt}
-use Rattle.edits.specs.Journal.{Rec, recOf, recBytes, removal, lastRec, wellFormed, fits, undone, zeros}
-use Rattle.blorb.specs.Queries.{start}
-use Rattle.blorb.specs.All.{All}
+use Rattle.blorb.specs.Queries.{find, shared, refAt, noRef, chunkAt, start}
+use Rattle.edits.specs.Journal.{recOf, removal, lastRec, wellFormed, fits, zeros}
 use Rattle.blorb.proofs.AllLaws.{all-getD}
 use Rattle.blorb.specs.Sound.{W, RefOk, ChunkOk, Sound}
-use Rattle.edits.specs.Run.{ArgsOk}
+use Rattle.edits.specs.Run.{ArgsOk, hundred, written, noted, targetFault, editedFile, editRecord, undoneFile, editFault}
 use Rattle.edits.proofs.Applies.{Applies}
 use Rattle.edits.proofs.FitLaws.{edit-back, edit-sound}
 use Rattle.blorb.proofs.ModelLaws.{model-file, length-file, total-take, size-getD}
 use Rattle.blorb.proofs.Places.{body-size}
 use Rattle.edits.proofs.JournalLaws.{RecOk, last-rec, well-formed, length-recBytes}
-use Rattle.blorb.specs.Bytes.{Byte}
-use Rattle.blorb.proofs.Accept.{accept-back, accept-short}
+use Rattle.blorb.proofs.Accept.{accept-short}
 use Rattle.blorb.proofs.Checks.{then-accept, check-accept}
-use Rattle.edits.specs.Run.{State, Call, edit, undo, Answer, accepted, hundred, written, noted, targetFault, editedFile, editRecord, undoneFile, editFault, undoFault, answered, afterEdit, afterUndo, fault, after, step, run, answers, ledgerFile, ledgerRecords, ledgerFault, kept, ledgerAfter, ledgerStep, ledgerRun, ledgerAnswers}
 
 -- the buffers
 pub length-written : (b : List ℕ) (L : ℕ) (f : List ℕ) → L ≤ length b → length f ≤ length b → length (written b L f) ≡ length b

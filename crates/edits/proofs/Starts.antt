@@ -1,25 +1,24 @@
 -- The edits move the starts as document 01 says.
 use mathlib.Core.Path.{_≡_, refl, sym, ap, _∙_}
-use Prim.Native.Nat.{ℕ, zero, suc, _+_, _*_, _-_, _≤_, _<_, _%_}
-use mathlib.Core.List.{List, [], _∷_, _++_, map, append-nil}
-use mathlib.Core.Bool.{Bool, true, false, cond, _&&_, _||_, not}
+use Prim.Native.Nat.{ℕ, zero, suc, _+_, _*_, _-_, _≤_, _<_}
+use mathlib.Core.List.{List, [], _∷_, _++_, map}
+use mathlib.Core.Bool.{Bool, true, false, cond}
 use native.Mathlib.Omega.{arith}
 use native.Mathlib.Nat.{le-of-suc-le-suc, not-suc-le-zero}
 use lib.ListN.{length, getD, take, drop, set, length-append, length-map, length-take}
 use lib.Seq.{take-append-le, take-set-le, take-take}
-use lib.Dec.{eqb, leb, ltb}
-use borrow.Author.Tests.{eq-eqb, ne-eqb, eqb-true, eqb-false, ltb-true, ltb-false, le-leb, lt-leb, lt-ltb, le-ltb}
-use Rattle.blorb.specs.Format.{Ref, Chunk, Entry, size, sized, total, isStart, placeOf}
+use lib.Dec.{eqb, ltb}
+use borrow.Author.Tests.{ltb-true, ltb-false, lt-ltb, le-ltb}
+use Rattle.blorb.specs.Format.{Ref, Chunk, size, total}
 use Rattle.blorb.specs.Verdict.{noChunk}
 use Rattle.blorb.specs.Model.{Model, base, startOf, entryOf}
-use Rattle.blorb.specs.Queries.{uses, shared, refAt, noRef, chunkAt, without}
+use Rattle.blorb.specs.Queries.{uses, shared, refAt, chunkAt, without, start}
 use Rattle.edits.specs.Edit.{lower, added, replaced, removedBoth, removedEntry}
 use Rattle.edits.specs.Starts.{moved, behind, fallen}
-use Rattle.blorb.specs.Queries.{start}
 use Rattle.blorb.specs.All.{All}
-use Rattle.blorb.specs.Sound.{RefOk, ChunkOk, Sound}
+use Rattle.blorb.specs.Sound.{RefOk, Sound}
 use Rattle.blorb.proofs.Places.{size-pos}
-use Rattle.edits.proofs.UndoLaws.{length-without, length-remaining, or-false}
+use Rattle.edits.proofs.UndoLaws.{length-without, or-false}
 use Rattle.blorb.proofs.ModelLaws.{entries}
 
 -- two ways to number the same entries give starts that differ by f, if the places do

@@ -8,10 +8,9 @@ use lib.ListN.{length, take, drop-of-length-le}
 use lib.Dec.{eqb, leb, ltb}
 use borrow.Author.Tests.{eqb-true, eq-eqb, le-ltb, ltb-true, not-true}
 use Rattle.blorb.specs.Format.{isStart, placeOf, Ref, Chunk, size}
-use Rattle.blorb.specs.Tags.{RIdx}
+use Rattle.blorb.specs.Tags.{RIdx, Rect}
 use Rattle.blorb.specs.Verdict.{accept, noChunk, verdict}
-use Rattle.blorb.specs.Tags.{Rect}
-use Rattle.blorb.specs.Rules.{plainAllows, picture, plainRules}
+use Rattle.blorb.specs.Rules.{plainAllows, plainRules}
 use Rattle.blorb.specs.Model.{Model, base, model, file}
 use Rattle.blorb.specs.Queries.{find, refAt, chunkAt, without, shared, start}
 use Rattle.blorb.specs.All.{All}

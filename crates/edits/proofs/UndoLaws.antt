@@ -1,22 +1,20 @@
 -- Undo takes an edit back: the four kinds, on models.
-use mathlib.Core.Path.{_≡_, refl, sym, ap, _∙_}
-use Prim.Native.Nat.{ℕ, zero, suc, _+_, _*_, _-_, _≤_, _<_, _%_}
-use mathlib.Core.List.{List, [], _∷_, _++_, map, append-assoc, append-nil}
-use mathlib.Core.Bool.{Bool, true, false, cond, _&&_, _||_, not}
+use mathlib.Core.Path.{_≡_, refl, sym, _∙_}
+use Prim.Native.Nat.{ℕ, suc, _-_, _<_}
+use mathlib.Core.List.{List, [], _∷_, _++_, map}
+use mathlib.Core.Bool.{Bool, true, false, cond, _||_}
 use native.Mathlib.Omega.{arith}
-use native.Mathlib.Nat.{le-of-suc-le-suc, not-suc-le-zero}
-use lib.ListN.{length, getD, take, drop, set, length-append, length-take, length-drop, length-map}
-use lib.Seq.{set-set, set-getD, take-at, drop-at, split-at, take-append-le, take-take}
+use lib.ListN.{length, getD, take, drop, length-append, length-take, length-drop, length-map}
+use lib.Seq.{set-set, set-getD, take-at, drop-at, split-at}
 use lib.Dec.{eqb, leb, ltb}
-use borrow.Author.Tests.{eq-eqb, ne-eqb, eqb-true, eqb-false, ltb-true, ltb-false, le-leb, lt-leb}
-use Rattle.blorb.specs.Format.{Ref, Chunk, Entry, size, sized, total, isStart, placeOf}
+use borrow.Author.Tests.{eqb-false, ltb-true, ltb-false, le-leb, lt-leb}
+use Rattle.blorb.specs.Format.{Ref, Chunk}
 use Rattle.blorb.specs.Verdict.{noChunk}
 use Rattle.blorb.specs.Model.{Model, base, startOf}
-use Rattle.edits.specs.Edit.{Edit, add, replace, remove, with-at, raise, lower, added, replaced, removedBoth, removedEntry}
-use Rattle.blorb.specs.Queries.{find, uses, shared, refAt, noRef, chunkAt, without}
-use Rattle.edits.specs.Journal.{Rec, removal, oldChunk, oldRef, oldPlace, undo1, undo2, undo3, undo4}
-use Rattle.blorb.specs.Queries.{start}
-use Rattle.blorb.proofs.Places.{placeOf-startOf, isStart-startOf}
+use Rattle.edits.specs.Edit.{with-at, raise, lower, added, replaced, removedBoth, removedEntry}
+use Rattle.blorb.specs.Queries.{uses, shared, refAt, noRef, chunkAt, without, start}
+use Rattle.edits.specs.Journal.{removal, undo1, undo3, undo4}
+use Rattle.blorb.proofs.Places.{placeOf-startOf}
 
 module _ {A : Type 0} where
   pub take-snoc : (l : List A) (x : A) → take (length (l ++ (x ∷ [])) - 1) (l ++ (x ∷ [])) ≡ l

@@ -1,23 +1,21 @@
 -- Refusal 21 of an undo, told from the record's numbers and what the reader tells of the present file: one test for each kind.
 -- And the length of the file after it.
 use mathlib.Core.Path.{_≡_, sym, ap, _∙_}
-use Prim.Native.Nat.{ℕ, suc, _+_, _-_, _<_, _%_}
+use Prim.Native.Nat.{ℕ, suc, _+_, _-_, _<_}
 use mathlib.Core.List.{List}
 use mathlib.Core.Bool.{Bool, true, _&&_, not}
 use lib.ListN.{length, take, drop}
 use lib.Dec.{eqb, leb}
 use Rattle.blorb.specs.Format.{sizeOf}
-use Rattle.blorb.specs.Bytes.{rd32}
-use Rattle.blorb.specs.Tags.{RIdx}
+use Rattle.blorb.specs.Bytes.{rd32, Byte}
+use Rattle.blorb.specs.Tags.{RIdx, Rect}
 use Rattle.blorb.specs.Verdict.{verdict}
-use Rattle.blorb.specs.Tags.{Rect}
 use Rattle.blorb.specs.Rules.{plainAllows, plainRules}
 use Rattle.blorb.specs.Model.{Model, model, file}
 use Rattle.blorb.specs.Queries.{find, refAt, chunkAt}
 use Rattle.blorb.specs.All.{All}
 use Rattle.blorb.proofs.AllLaws.{all-take, all-drop}
 use Rattle.blorb.specs.Sound.{W}
-use Rattle.blorb.specs.Bytes.{Byte}
 use Rattle.blorb.proofs.Accept.{rd32-small}
 use Rattle.edits.specs.Journal.{Rec, trailer, recIn, lastBody, lastRec, fits, fits1, fits2, fits4, undo2, oldChunk, oldPlace}
 use Rattle.edits.specs.Run.{accepted, undoneFile}

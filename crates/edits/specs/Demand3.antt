@@ -1,6 +1,6 @@
 -- Demand 3 (01, Whole runs): one claim about the whole run.
 use mathlib.Core.Path.{_≡_}
-use Prim.Native.Nat.{ℕ, _≤_}
+use Prim.Native.Nat.{_≤_}
 use mathlib.Core.List.{List, []}
 use lib.ListN.{length, take}
 use Rattle.blorb.specs.All.{All}

@@ -1,12 +1,11 @@
 -- The edits (01, The edits): what a file holds after each. Starts, lengths and count follow from it (`file`); that starts move as 01 says, all by
 -- 12, only those behind, by 12 and the chunk's size, is proved in proofs/Starts.antt.
-use Prim.Native.Nat.{ℕ, zero, suc, _+_, _*_, _-_}
+use Prim.Native.Nat.{ℕ, suc, _-_}
 use mathlib.Core.List.{List, [], _∷_, _++_, map}
-use mathlib.Core.Bool.{Bool, true, false, cond, _&&_, _||_, not}
-use lib.ListN.{length, getD, take, drop, set}
-use lib.Dec.{eqb, leb, ltb}
-use Rattle.blorb.specs.Format.{Ref, Chunk, chunkOf, Entry}
-use Rattle.blorb.specs.Verdict.{noChunk}
+use mathlib.Core.Bool.{cond}
+use lib.ListN.{length, take, drop, set}
+use lib.Dec.{leb, ltb}
+use Rattle.blorb.specs.Format.{Ref, Chunk, chunkOf}
 use Rattle.blorb.specs.Model.{Model}
 use Rattle.blorb.specs.Queries.{without, find, refAt, shared}
 

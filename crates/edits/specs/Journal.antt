@@ -1,15 +1,14 @@
 -- The undo journal's records (01, The undo journal).
-use Prim.Native.Nat.{ℕ, zero, suc, _+_, _*_, _-_}
+use Prim.Native.Nat.{ℕ, suc, _+_, _-_}
 use mathlib.Core.List.{List, [], _∷_, _++_, map}
 use mathlib.Core.Bool.{Bool, true, false, cond, _&&_, _||_, not}
-use lib.ListN.{length, getD, take, drop, set}
+use lib.ListN.{length, getD, take, drop}
 use lib.Dec.{eqb, leb, ltb}
 use Rattle.blorb.specs.Bytes.{be32, rd32}
-use Rattle.blorb.specs.Format.{Ref, Chunk, chunkOf, Entry, isStart, placeOf, total}
-use Rattle.blorb.specs.Queries.{start}
-use Rattle.blorb.specs.Model.{Model, base, startOf}
+use Rattle.blorb.specs.Format.{Ref, Chunk, chunkOf, isStart, placeOf}
+use Rattle.blorb.specs.Queries.{start, find, shared, refAt, chunkAt}
+use Rattle.blorb.specs.Model.{Model, base}
 use Rattle.edits.specs.Edit.{Edit, add, replace, remove, with-at, raise, replaced}
-use Rattle.blorb.specs.Queries.{find, uses, shared, refAt, chunkAt, without}
 
 -- "Each record: kind (1 byte), usage, number, index place from 0, start, type, m (4 bytes each), m data bytes"
 pub record Rec : Type 0 where

@@ -1,15 +1,14 @@
 -- The calls on the lent buffers, the ledger, and whole runs (01, Whole runs).
-use Prim.Native.Nat.{ℕ, zero, suc, _+_, _*_, _-_, _<_, max}
-use mathlib.Core.List.{List, [], _∷_, _++_, map}
-use mathlib.Core.Bool.{Bool, true, false, cond, _&&_, _||_, not}
-use lib.ListN.{length, getD, take, drop, replicate}
+use Prim.Native.Nat.{ℕ, _+_, _-_, _<_, max}
+use mathlib.Core.List.{List, [], _∷_, _++_}
+use mathlib.Core.Bool.{Bool, true, false, _&&_, not}
+use lib.ListN.{length, take, drop, replicate}
 use lib.Dec.{eqb, leb, ltb}
-use Rattle.blorb.specs.Format.{Chunk, Entry}
 use Rattle.blorb.specs.Verdict.{Rules, Verdict, accept, refuse, _then_, check, verdict}
 use Rattle.blorb.specs.Model.{Model, model, file}
 use Rattle.edits.specs.Edit.{Edit, add, replace, remove, edited}
 use Rattle.blorb.specs.Queries.{find, shared}
-use Rattle.edits.specs.Journal.{Rec, recOf, recBytes, lastRec, wellFormed, fits, undone}
+use Rattle.edits.specs.Journal.{recOf, recBytes, lastRec, wellFormed, fits, undone}
 
 -- what a call is lent and given: the file buffer and L, the journal and U
 pub record State : Type 0 where

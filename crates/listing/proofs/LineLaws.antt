@@ -4,10 +4,9 @@ use Prim.Native.Nat.{ℕ, _+_, _-_, _^_, _≤_, _<_}
 use mathlib.Core.List.{List, _++_, append-assoc}
 use native.Mathlib.Omega.{arith}
 use lib.ListN.{length, take, drop, length-drop}
-use Rattle.blorb.specs.Bytes.{be32, rd32}
+use Rattle.blorb.specs.Bytes.{be32, rd32, Byte}
 use Rattle.blorb.specs.All.{All}
 use Rattle.blorb.proofs.AllLaws.{all-drop}
-use Rattle.blorb.specs.Bytes.{Byte}
 use Rattle.blorb.proofs.Accept.{again}
 use Rattle.reader.specs.Entries.{usageAt, numberAt, startAt}
 use Rattle.listing.specs.Text.{text, decimal}

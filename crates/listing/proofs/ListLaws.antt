@@ -1,6 +1,6 @@
 -- The lines of all entries, and the listing in a buffer.
 use mathlib.Core.Path.{_≡_, refl, sym, ap, _∙_}
-use Prim.Native.Nat.{ℕ, _+_, _-_, _≤_, _<_}
+use Prim.Native.Nat.{ℕ, _+_, _≤_, _<_}
 use mathlib.Core.List.{List, [], _∷_, _++_, append-assoc, append-nil}
 use native.Mathlib.Omega.{arith}
 use native.Mathlib.Numerals.{add-one}
@@ -14,7 +14,7 @@ use Rattle.reader.specs.Entries.{place}
 use Rattle.reader.specs.Reading.{indexOf, readBy, readOf, noEntry, lookupOf}
 use Rattle.reader.specs.declared.Reading.{Reading}
 use Rattle.reader.specs.declared.Reading.the-variants.{Accepted, Refused}
-use Rattle.reader.proofs.AskLaws.{Good, accepted}
+use Rattle.reader.proofs.AskLaws.{Good}
 use Rattle.listing.specs.Listing.{lineBy, linesOf, listingBy, listingOf, inputReading, inputListing, roomBy, roomFor, inputRoom, listedIn, outBy}
 use Rattle.listing.specs.InPlace.{Wrote, lineAt}
 use Rattle.listing.specs.declared.Listed.{Listed}

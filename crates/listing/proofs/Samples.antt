@@ -1,14 +1,13 @@
 -- 01's sample files: what the lister prints of them, computed.
 use mathlib.Core.Path.{_≡_, refl}
-use Prim.Native.Nat.{ℕ, _+_}
+use Prim.Native.Nat.{ℕ}
 use mathlib.Core.List.{List, [], _∷_, _++_}
 use lib.ListN.{set}
 use Rattle.blorb.specs.Bytes.{be32, rd32}
 use Rattle.blorb.specs.Format.{refOf, Chunk, size, sized, total, chunkBytes, chunksBytes, fileBytes, chunkIn, chunksIn, chunksOf, entryIn, entriesIn, entryBytes, entriesBytes, indexChunk, entriesOf, isStart, placeOf}
-use Rattle.blorb.specs.Tags.{tag}
+use Rattle.blorb.specs.Tags.{tag, Pict, Data, Rect}
 use Rattle.blorb.specs.Verdict.{headFault, _then_, check, verdict, chunkFault, walkFault, secondIndex, indexFault, refFault, entriesFault, restFault, layoutFault, pairIn}
 use Rattle.blorb.specs.Rules.{plainAllows, optional, plainVerdict, oneOf, picture, typeIn, single, chunkRule, chunkRules}
-use Rattle.blorb.specs.Tags.{Pict, Data, Rect}
 use Rattle.reader.specs.Reading.{readOf, indexOf, lookupOf, hitIn}
 use Rattle.listing.specs.Text.{text, decimal}
 use Rattle.listing.specs.Listing.{headLine, refusedLine, entryLine, linesOf, listingOf}

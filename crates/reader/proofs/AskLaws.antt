@@ -1,43 +1,38 @@
 -- What an accepted file's entries and lookups give.
 use mathlib.Core.Path.{_≡_, refl, sym, ap, _∙_}
-use Prim.Native.Nat.{ℕ, zero, suc, _+_, _*_, _-_, _%_, _≤_, _<_}
-use mathlib.Core.List.{List, [], _∷_, _++_, map}
-use mathlib.Core.Bool.{Bool, true, false, cond, _&&_, _||_, not}
+use Prim.Native.Nat.{ℕ, zero, suc, _+_, _≤_, _<_}
+use mathlib.Core.List.{List, [], _∷_, _++_}
+use mathlib.Core.Bool.{true, false}
 use native.Mathlib.Omega.{arith}
 use native.Mathlib.Nat.{not-suc-le-zero, le-of-suc-le-suc}
-use lib.ListN.{length, getD, take, drop}
+use lib.ListN.{length, getD, drop}
 use lib.Seq.{drop-drop}
-use lib.Dec.{eqb, leb, ltb}
-use borrow.Author.Tests.{lt-ltb, le-ltb, ltb-true, ltb-false}
+use borrow.Author.Tests.{lt-ltb, le-ltb}
 use Rattle.blorb.specs.Bytes.{rd32}
-use Rattle.blorb.specs.Format.{Entry, Ref, refOf, Chunk, size, chunkIn, entryIn, entriesIn}
-use Rattle.blorb.specs.Verdict.{Verdict, accept, refuse, _then_, entriesFault, knownUsage}
+use Rattle.blorb.specs.Format.{Entry, Ref, refOf, chunkIn, entryIn, entriesIn}
+use Rattle.blorb.specs.Verdict.{Verdict, accept, refuse, entriesFault, knownUsage}
 use Rattle.blorb.specs.Rules.{plainRules, plainVerdict, optional}
-use Rattle.reader.specs.Walk.{chunkFrom, nextAt, skipAt, chunksFrom, walkFrom, firstFault}
-use Rattle.blorb.specs.Verdict.{headFault}
+use Rattle.reader.specs.Walk.{chunkFrom, skipAt, chunksFrom}
 use Rattle.blorb.proofs.Checks.{then-accept, check-accept}
-use Rattle.reader.proofs.ChunkLaws.{fine, Fine}
+use Rattle.reader.proofs.ChunkLaws.{fine}
 use Rattle.blorb.proofs.UsageLaws.{known-not}
-use Rattle.reader.specs.Entries.{usageAt, numberAt, startAt, place, entriesFrom, earlier}
+use Rattle.reader.specs.Entries.{usageAt, numberAt, startAt, place, earlier}
 use Rattle.blorb.specs.Usages.{usageOf}
 use Rattle.blorb.specs.declared.Usage.{Usage}
 use Rattle.blorb.specs.declared.Known.{Known}
 use Rattle.blorb.specs.declared.Known.the-variants.{Is, Unknown}
-use Rattle.reader.specs.declared.Reading.{Reading}
 use Rattle.reader.specs.declared.Reading.the-variants.{Accepted, Refused}
-use Rattle.reader.specs.declared.Asked.{Asked}
 use Rattle.reader.specs.declared.Asked.the-variants.{Given, Refused as Withheld}
 use Rattle.reader.specs.declared.entries.Hit.{Hit}
 use Rattle.reader.specs.declared.entries.Hit.the-variants.{At, Nothing}
-use Rattle.reader.specs.declared.Looked.{Looked}
 use Rattle.reader.specs.declared.Looked.the-variants.{Found, Refused as Missing}
-use Rattle.reader.specs.Reading.{indexOf, readBy, readOf, givenBy, noEntry, entryBy, askedBy, askedOf, hitIn, foundBy, lookedBy, lookupOf}
-use Rattle.reader.specs.Optional.{optionalFault, EntriesPassed}
+use Rattle.reader.specs.Reading.{indexOf, readBy, readOf, givenBy, noEntry, askedOf, hitIn, foundBy, lookedBy, lookupOf}
+use Rattle.reader.specs.Optional.{EntriesPassed}
 use Rattle.reader.specs.Passed.{Passed, modelAt}
 use Rattle.blorb.specs.Model.{model}
 use Rattle.blorb.proofs.Accept.{accept-short}
 use Rattle.reader.proofs.Laws.{length-entriesIn, entry-getD, hit-begun, optional-is}
-use Rattle.reader.proofs.ReadLaws.{whole, layout, first-long, is-judged, index-of, model-of, v3, v5}
+use Rattle.reader.proofs.ReadLaws.{whole, layout, is-judged, index-of, model-of, v3, v5}
 
 -- a file that the reader accepts, with count entries
 pub record Good (f : List ℕ) (count : ℕ) : Type 0 where

@@ -1,22 +1,20 @@
 -- Laws of verdicts and of what stands from an offset on.
 use mathlib.Core.Path.{_≡_, refl, sym, ap, _∙_}
-use Prim.Native.Nat.{ℕ, zero, suc, _+_, _*_, _-_, _%_, _≤_, _<_}
-use mathlib.Core.List.{List, [], _∷_, _++_}
-use mathlib.Core.Bool.{Bool, true, false, cond, _&&_, _||_, not}
+use Prim.Native.Nat.{ℕ, zero, suc, _+_, _-_, _%_, _≤_, _<_}
+use mathlib.Core.List.{List, [], _∷_}
+use mathlib.Core.Bool.{Bool, true, false, _&&_, _||_, not}
 use native.Mathlib.Omega.{arith}
-use native.Mathlib.Nat.{not-suc-le-zero, add-zero}
-use lib.ListN.{length, getD, take, drop, length-take, length-drop, drop-of-length-le}
-use lib.Seq.{drop-drop, drop-cons, length-take-le, getD-drop, getD-take}
-use lib.Dec.{eqb, leb, ltb}
-use borrow.Author.Tests.{eq-eqb, ne-eqb, eqb-true, eqb-false, le-leb, lt-leb, leb-true, leb-false, lt-ltb, le-ltb, ltb-true, ltb-false}
+use native.Mathlib.Nat.{not-suc-le-zero}
+use lib.ListN.{length, getD, drop, length-drop, drop-of-length-le}
+use lib.Seq.{drop-drop, length-take-le, getD-drop}
+use lib.Dec.{eqb}
+use borrow.Author.Tests.{eq-eqb, ne-eqb, le-leb, lt-leb, leb-true, lt-ltb, le-ltb}
 use Rattle.reader.specs.Ordinary.{ordinaryType, allOrdinary, Along}
-use Rattle.blorb.specs.Tags.{RelN, Fspc}
+use Rattle.blorb.specs.Tags.{RelN, Fspc, FORM, IFRS, RIdx}
 use Rattle.blorb.specs.Bytes.{rd32}
-use Rattle.blorb.specs.Tags.{FORM, IFRS, RIdx}
-use Rattle.blorb.specs.Format.{Chunk, Entry, sized, size, chunkIn, chunksIn, chunksOf, isStart, placeOf}
-use Rattle.blorb.specs.Verdict.{Rules, Verdict, accept, refuse, _then_, check, chunkFault, walkFault, noChunk, secondIndex, layoutFault, restFault, verdict}
-use Rattle.reader.specs.Walk.{chunkFrom, nextAt, chunksFrom, walkFrom, skipAt, firstFault, Reached}
-use Rattle.blorb.specs.Verdict.{headFault}
+use Rattle.blorb.specs.Format.{Chunk, sized, size, chunkIn, chunksIn}
+use Rattle.blorb.specs.Verdict.{Verdict, accept, refuse, _then_, chunkFault, walkFault, secondIndex, headFault}
+use Rattle.reader.specs.Walk.{chunkFrom, nextAt, chunksFrom, walkFrom, skipAt, firstFault}
 use Rattle.blorb.proofs.Checks.{then-accept, check-accept, pass, stop, holds-last, fails-last, accepts, refuses, and-both}
 
 -- the step of a walk

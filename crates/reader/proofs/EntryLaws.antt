@@ -1,34 +1,28 @@
 -- Laws of the entries.
 use mathlib.Core.Path.{_≡_, refl, sym, ap, _∙_}
-use Prim.Native.Nat.{ℕ, zero, suc, _+_, _*_, _-_, _/_, _%_, _≤_, _<_}
+use Prim.Native.Nat.{ℕ, zero, suc, _+_, _*_, _-_, _≤_, _<_}
 use mathlib.Core.List.{List, [], _∷_, _++_}
-use mathlib.Core.Bool.{Bool, true, false, cond, _&&_, _||_, not}
+use mathlib.Core.Bool.{Bool, true, false, _&&_, _||_, not}
 use native.Mathlib.Omega.{arith}
 use native.Mathlib.Numerals.{add-one}
-use native.Mathlib.Nat.{not-suc-le-zero, add-zero}
-use lib.ListN.{length, getD, take, drop, set, length-take, length-drop}
-use lib.Seq.{getD-set-same, getD-set-other, drop-drop, getD-drop, getD-take}
-use lib.Dec.{eqb, leb, ltb}
-use borrow.Author.Tests.{eq-eqb, ne-eqb, eqb-true, eqb-false, le-leb, lt-leb, leb-true, leb-false}
+use native.Mathlib.Nat.{not-suc-le-zero}
+use lib.ListN.{length, getD, take, drop, set}
+use lib.Seq.{getD-set-same, getD-set-other, drop-drop}
+use lib.Dec.{eqb}
+use borrow.Author.Tests.{eqb-true, eqb-false}
 use Rattle.blorb.proofs.UsageLaws.{or-false, or-assoc, known-is, known-not}
 use Rattle.blorb.specs.Bytes.{rd32}
-use Rattle.blorb.specs.Tags.{tag, FORM}
-use Rattle.blorb.specs.Format.{Chunk, Entry, Ref, refOf, chunkIn, entryIn, entriesIn, isStart, placeOf, chunkOf}
-use Rattle.blorb.specs.Verdict.{Rules, Verdict, accept, refuse, _then_, check, noChunk, knownUsage, pairIn, refFault, entriesFault}
-use Rattle.blorb.specs.Rules.{plainAllows, plainRules, oneOf}
-use Rattle.blorb.specs.Tags.{AIFF}
-use Rattle.reader.specs.Walk.{chunkFrom, nextAt, chunksFrom, walkFrom, Reached}
+use Rattle.blorb.specs.Format.{Ref, refOf, chunkIn, entryIn, entriesIn, isStart, placeOf, chunkOf}
+use Rattle.blorb.specs.Verdict.{Verdict, accept, refuse, _then_, check, noChunk, knownUsage, pairIn, refFault, entriesFault}
+use Rattle.blorb.specs.Rules.{plainAllows}
+use Rattle.reader.specs.Walk.{chunksFrom, walkFrom}
 use Rattle.blorb.proofs.Checks.{pass, stop, holds-last, fails-last, accepts, refuses, then-accept, check-accept}
-use Rattle.blorb.proofs.Checks.{then-assoc}
-use Rattle.reader.proofs.ChunkLaws.{fine, Fine}
-use Rattle.reader.proofs.StartLaws.{begun, Begun, resume}
+use Rattle.reader.proofs.StartLaws.{begun}
 use Rattle.blorb.specs.declared.Usage.{Usage}
-use Rattle.blorb.specs.declared.Usage.the-variants.{Pict, Snd, Data, Exec}
-use Rattle.blorb.specs.declared.Known.{Known}
+use Rattle.blorb.specs.declared.Usage.the-variants.{Exec}
 use Rattle.blorb.specs.declared.Known.the-variants.{Is, Unknown}
-use Rattle.reader.specs.declared.entries.Judged.{Judged}
 use Rattle.reader.specs.declared.entries.Judged.the-variants.{At, Fault}
-use Rattle.blorb.specs.Usages.{codeOf, pickKnown, usageOf, pictType, sndType, dataType, execType}
+use Rattle.blorb.specs.Usages.{codeOf, usageOf}
 use Rattle.reader.specs.Entries.{usageAt, numberAt, startAt, place, typedAt, entryFault, unstartedFault, judgedBy, earlier, samePair, Topped, slotOf, Below, entriesFrom}
 
 -- rule 5 of the chunk at x, by its type and its data
@@ -171,10 +165,10 @@ pub unstarted : (f : List ℕ) (base p : ℕ) → isStart (startAt f p) base (ch
     → judgedBy (unstartedFault f p) 0 ≡ judgedBy (entryFault f base p) (startAt f p)
 unfolding unstartedFault entryFault
 unstarted f base p h = go (knownUsage (usageAt f p)) refl
-    where
-      go : (b : Bool) → knownUsage (usageAt f p) ≡ b → judgedBy (unstartedFault f p) 0 ≡ judgedBy (entryFault f base p) (startAt f p)
-      go true k = ap (λ (v : Verdict). judgedBy v 0) (pass _ _ _ _ k) ∙ judged f base p (refuse 13 (p + 8)) (pass _ _ _ _ k ∙ stop _ _ _ _ h)
-      go false k = ap (λ (v : Verdict). judgedBy v 0) (stop _ _ _ _ k) ∙ judged f base p (refuse 12 p) (stop _ _ _ _ k)
+  where
+    go : (b : Bool) → knownUsage (usageAt f p) ≡ b → judgedBy (unstartedFault f p) 0 ≡ judgedBy (entryFault f base p) (startAt f p)
+    go true k = ap (λ (v : Verdict). judgedBy v 0) (pass _ _ _ _ k) ∙ judged f base p (refuse 13 (p + 8)) (pass _ _ _ _ k ∙ stop _ _ _ _ h)
+    go false k = ap (λ (v : Verdict). judgedBy v 0) (stop _ _ _ _ k) ∙ judged f base p (refuse 12 p) (stop _ _ _ _ k)
 
 -- what a good entry tells of its start
 pub entry-start : (f : List ℕ) (base p : ℕ) → entryFault f base p ≡ accept → isStart (startAt f p) base (chunksFrom f base) ≡ true

@@ -1,36 +1,30 @@
 -- Laws of the index, of the lookup and of the optional chunks.
 use mathlib.Core.Path.{_≡_, refl, sym, ap, _∙_}
-use Prim.Native.Nat.{ℕ, zero, suc, _+_, _*_, _-_, _%_, _≤_, _<_}
+use Prim.Native.Nat.{ℕ, zero, suc, _+_, _*_, _-_, _≤_, _<_}
 use mathlib.Core.List.{List, [], _∷_, _++_, map}
 use mathlib.Core.Bool.{Bool, true, false, cond, _&&_, _||_, not}
 use native.Mathlib.Omega.{arith}
 use native.Mathlib.Numerals.{add-one}
 use native.Mathlib.Nat.{not-suc-le-zero, le-of-suc-le-suc}
-use lib.ListN.{length, getD, take, drop, length-take, length-drop, length-map}
-use lib.Seq.{drop-drop, getD-drop, getD-take, take-nil}
-use lib.Dec.{eqb, leb, ltb}
-use borrow.Author.Tests.{eq-eqb, ne-eqb, eqb-true, eqb-false, le-leb, lt-leb, leb-true, leb-false, lt-ltb, le-ltb, ltb-true, ltb-false, not-true}
+use lib.ListN.{length, getD, take, drop}
+use lib.Seq.{drop-drop, take-nil}
+use lib.Dec.{eqb, leb}
+use borrow.Author.Tests.{eq-eqb, ne-eqb, eqb-true, le-leb, lt-leb, leb-true, not-true}
 use Rattle.blorb.specs.Bytes.{rd32}
-use Rattle.blorb.specs.Tags.{tag, FORM, RIdx}
-use Rattle.blorb.specs.Format.{Chunk, Entry, Ref, refOf, size, sized, chunkIn, chunksIn, chunksOf, entryIn, entriesIn, entriesOf, isStart, placeOf}
-use Rattle.blorb.specs.Verdict.{Rules, Verdict, accept, refuse, _then_, check, noChunk, knownUsage, pairIn, refFault, entriesFault, secondIndex, indexFault, restFault, layoutFault, verdict}
-use Rattle.blorb.specs.Rules.{plainAllows, plainRules, plainVerdict, picture, optional, chunkRules, chunkRule, single, typeIn}
+use Rattle.blorb.specs.Format.{Chunk, Entry, Ref, refOf, size, chunkIn, entryIn, entriesIn, entriesOf, isStart, placeOf}
+use Rattle.blorb.specs.Verdict.{Verdict, accept, refuse, _then_, check, noChunk, pairIn, refFault, entriesFault, indexFault}
+use Rattle.blorb.specs.Rules.{plainRules, picture, optional, chunkRules, chunkRule, single, typeIn}
 use Rattle.blorb.specs.Tags.{Pict, Rect, RelN, Fspc}
-use Rattle.reader.specs.Walk.{chunkFrom, nextAt, skipAt, chunksFrom, walkFrom, firstFault, Reached}
-use Rattle.blorb.specs.Verdict.{headFault}
+use Rattle.reader.specs.Walk.{chunkFrom, nextAt, skipAt, chunksFrom, walkFrom}
 use Rattle.reader.specs.Ordinary.{ordinaryType, allOrdinary}
-use Rattle.reader.proofs.ChunkLaws.{ordinary-not, fine, Fine, chunks-end, first-none}
-use Rattle.reader.proofs.StartLaws.{begun, Begun, resume}
-use Rattle.blorb.proofs.Checks.{pass, stop, holds-last, fails-last, accepts, refuses, then-accept, check-accept, and-both}
-use Rattle.blorb.proofs.Checks.{then-assoc}
-use Rattle.blorb.specs.Usages.{codeOf, usageOf}
-use Rattle.reader.specs.Entries.{usageAt, numberAt, startAt, place, entryFault, earlier, entriesFrom, pairPlace}
-use Rattle.blorb.proofs.UsageLaws.{rd32-take, or-assoc}
-use Rattle.blorb.proofs.UsageLaws.{or-false}
+use Rattle.reader.proofs.ChunkLaws.{ordinary-not, fine, chunks-end}
+use Rattle.reader.proofs.StartLaws.{begun}
+use Rattle.blorb.proofs.Checks.{pass, stop, holds-last, fails-last, accepts, refuses, then-accept, check-accept, and-both, then-assoc}
+use Rattle.reader.specs.Entries.{usageAt, numberAt, startAt, place, earlier, entriesFrom, pairPlace}
+use Rattle.blorb.proofs.UsageLaws.{rd32-take, or-assoc, or-false}
 use Rattle.reader.proofs.EntryLaws.{pair-snoc}
-use Rattle.reader.specs.declared.entries.Hit.{Hit}
 use Rattle.reader.specs.declared.entries.Hit.the-variants.{At, Nothing}
-use Rattle.reader.specs.Reading.{hitIn, pickHit, indexOf}
+use Rattle.reader.specs.Reading.{hitIn, pickHit}
 use Rattle.reader.specs.Optional.{pictureBy, pictured, oneRule, rulesFrom, optionalFault, EntriesPassed}
 
 -- parts of parts

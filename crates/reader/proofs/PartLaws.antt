@@ -12,11 +12,10 @@ use lib.Dec.{eqb, ltb}
 use borrow.Author.Tests.{eq-eqb, ne-eqb, eqb-true, eqb-false, lt-ltb, le-ltb}
 use Rattle.blorb.specs.Bytes.{rd32}
 use Rattle.blorb.specs.Format.{Chunk, Entry, Ref, refOf, size, chunkIn, entryIn, entriesIn, isStart, placeOf}
-use Rattle.blorb.specs.Verdict.{Verdict, accept, refuse, _then_, noChunk}
+use Rattle.blorb.specs.Verdict.{Verdict, accept, refuse, noChunk}
 use Rattle.blorb.specs.Rules.{plainRules, plainVerdict, typeIn}
 use Rattle.blorb.specs.Tags.{RelN, Fspc}
-use Rattle.blorb.specs.Model.{base, model}
-use Rattle.blorb.specs.Model.{startOf}
+use Rattle.blorb.specs.Model.{base, model, startOf}
 use Rattle.blorb.specs.Queries.{find, uses, without, noRef, refAt, shared, start, frontPlace}
 use Rattle.blorb.specs.All.{All}
 use Rattle.blorb.proofs.AllLaws.{all-getD}
@@ -42,7 +41,7 @@ use Rattle.reader.specs.declared.Reading.the-variants.{Accepted, Refused
 use Rattle.reader.specs.Reading.{readBy, readOf}
 use Rattle.reader.proofs.AskLaws.{Good}
 use Rattle.reader.proofs.ChunkLaws.{fine, chunks-end, ordinary-not}
-use Rattle.reader.proofs.StartLaws.{begun, Begun, start-ge}
+use Rattle.reader.proofs.StartLaws.{begun, Begun}
 use Rattle.reader.proofs.Laws.{length-entriesIn, entry-getD, body-word}
 
 -- an element of a list and of its image

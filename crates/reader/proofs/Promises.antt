@@ -6,7 +6,7 @@ use mathlib.Core.Bool.{false}
 use native.Mathlib.Omega.{arith}
 use lib.ListN.{length, getD, drop}
 use borrow.Author.Tests.{lt-leb}
-use Rattle.blorb.specs.Bytes.{rd32}
+use Rattle.blorb.specs.Bytes.{rd32, Byte}
 use Rattle.blorb.specs.Format.{Chunk, entriesIn}
 use Rattle.blorb.specs.Verdict.{accept, refuse, headFault, verdict, entriesFault, pairIn}
 use Rattle.blorb.proofs.Checks.{stop, refuses}
@@ -17,7 +17,6 @@ use Rattle.blorb.specs.Lookup.{missing, here, lookup}
 use Rattle.blorb.specs.declared.Usage.{Usage}
 use Rattle.blorb.specs.All.{All}
 use Rattle.blorb.specs.Sound.{Sound}
-use Rattle.blorb.specs.Bytes.{Byte}
 use Rattle.blorb.specs.Keeps.{KeepsPlain}
 use Rattle.blorb.proofs.Accept.{accept-back, entryOf-refOf}
 use Rattle.blorb.proofs.Exactly.{plain-exactly}

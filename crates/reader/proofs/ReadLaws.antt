@@ -1,24 +1,19 @@
 -- The verdict as the reader's parts, and what its acceptance tells.
 use mathlib.Core.Path.{_≡_, refl, sym, ap, _∙_}
-use Prim.Native.Nat.{ℕ, zero, suc, _+_, _*_, _-_, _%_, _≤_, _<_}
-use mathlib.Core.List.{List, [], _∷_, _++_, map}
-use mathlib.Core.Bool.{Bool, true, false, cond, _&&_, _||_, not}
-use native.Mathlib.Omega.{arith}
-use lib.ListN.{length, getD, take, drop}
-use lib.Dec.{eqb, leb, ltb}
-use borrow.Author.Tests.{lt-ltb, le-ltb, ltb-true, ltb-false}
+use Prim.Native.Nat.{ℕ, _≤_, _<_}
+use mathlib.Core.List.{List, [], map}
+use mathlib.Core.Bool.{Bool, true, false}
+use lib.ListN.{length, drop}
+use lib.Dec.{ltb}
+use borrow.Author.Tests.{lt-ltb, ltb-true, ltb-false}
 use Rattle.blorb.specs.Bytes.{rd32}
-use Rattle.blorb.specs.Tags.{RIdx}
-use Rattle.blorb.specs.Format.{Chunk, Entry, Ref, refOf, size, chunkIn, chunksIn, chunksOf, entriesIn, entriesOf}
-use Rattle.blorb.specs.Verdict.{Verdict, accept, refuse, _then_, check, noChunk, entriesFault, secondIndex, indexFault, restFault, layoutFault, verdict}
+use Rattle.blorb.specs.Format.{refOf, chunkIn, chunksOf, entriesIn, entriesOf}
+use Rattle.blorb.specs.Verdict.{Verdict, accept, refuse, _then_, entriesFault, secondIndex, indexFault, restFault, layoutFault, verdict, headFault}
 use Rattle.blorb.specs.Rules.{plainRules, plainVerdict, optional}
 use Rattle.reader.specs.Walk.{chunkFrom, nextAt, skipAt, chunksFrom, walkFrom, firstFault}
-use Rattle.blorb.specs.Verdict.{headFault}
-use Rattle.blorb.proofs.Checks.{accepts, refuses, then-accept, check-accept, and-both}
-use Rattle.blorb.proofs.Checks.{then-assoc}
-use Rattle.reader.proofs.ChunkLaws.{fine, Fine, chunks-end, first-none}
+use Rattle.blorb.proofs.Checks.{accepts, refuses, check-accept, and-both, then-assoc}
+use Rattle.reader.proofs.ChunkLaws.{fine, chunks-end, first-none}
 use Rattle.reader.specs.Entries.{place, entriesFrom, earlier}
-use Rattle.reader.specs.declared.Reading.{Reading}
 use Rattle.reader.specs.declared.Reading.the-variants.{Accepted, Refused}
 use Rattle.reader.specs.Reading.{indexOf, readBy, readOf}
 use Rattle.blorb.specs.Model.{base, model, modelOf}

@@ -1,23 +1,15 @@
 -- Where chunks begin: the search for a start, what a start tells, and a search that goes on from one.
 use mathlib.Core.Path.{_≡_, refl, sym, ap, _∙_}
-use Prim.Native.Nat.{ℕ, zero, suc, _+_, _*_, _-_, _%_, _≤_, _<_}
-use mathlib.Core.List.{List, [], _∷_, _++_}
-use mathlib.Core.Bool.{Bool, true, false, cond, _&&_, _||_, not}
+use Prim.Native.Nat.{ℕ, zero, suc, _+_, _≤_, _<_}
+use mathlib.Core.List.{List, [], _∷_}
+use mathlib.Core.Bool.{Bool, true, false, cond, _||_}
 use native.Mathlib.Omega.{arith}
-use native.Mathlib.Nat.{not-suc-le-zero, add-zero}
-use lib.ListN.{length, getD, take, drop, length-take, length-drop, drop-of-length-le}
-use lib.Seq.{drop-drop, drop-cons, length-take-le, getD-drop, getD-take}
-use lib.Dec.{eqb, leb, ltb}
-use borrow.Author.Tests.{eq-eqb, ne-eqb, eqb-true, eqb-false, le-leb, lt-leb, leb-true, leb-false, lt-ltb, le-ltb, ltb-true, ltb-false}
-use Rattle.reader.specs.Ordinary.{ordinaryType, allOrdinary, Along}
-use Rattle.blorb.specs.Tags.{RelN, Fspc}
-use Rattle.blorb.specs.Bytes.{rd32}
-use Rattle.blorb.specs.Tags.{FORM, IFRS, RIdx}
-use Rattle.blorb.specs.Format.{Chunk, Entry, sized, size, chunkIn, chunksIn, chunksOf, isStart, placeOf}
-use Rattle.blorb.specs.Verdict.{Rules, Verdict, accept, refuse, _then_, check, chunkFault, walkFault, noChunk, secondIndex, layoutFault, restFault, verdict}
-use Rattle.reader.specs.Walk.{chunkFrom, nextAt, chunksFrom, walkFrom, skipAt, firstFault, Reached}
-use Rattle.blorb.specs.Verdict.{headFault}
-use Rattle.blorb.proofs.Checks.{then-accept, check-accept, pass, stop, holds-last, fails-last, accepts, refuses, and-both}
+use lib.ListN.{length, getD}
+use lib.Dec.{eqb, ltb}
+use borrow.Author.Tests.{eq-eqb, ne-eqb, eqb-true, eqb-false, ltb-true, ltb-false}
+use Rattle.blorb.specs.Format.{Chunk, size, isStart, placeOf}
+use Rattle.blorb.specs.Verdict.{accept, noChunk}
+use Rattle.reader.specs.Walk.{chunkFrom, nextAt, chunksFrom, walkFrom, skipAt, Reached}
 use Rattle.reader.proofs.ChunkLaws.{fine, Fine, chunks-end}
 
 -- where chunks begin

@@ -1,21 +1,17 @@
 -- The entries of an index by their offsets, and refusals 12 to 16 from an entry on.
-use Prim.Native.Nat.{ℕ, zero, suc, _+_, _*_, _-_, _/_, _%_, _≤_, _<_}
+use Prim.Native.Nat.{ℕ, zero, suc, _+_, _*_, _/_, _%_, _<_}
 use mathlib.Core.Path.{_≡_}
 use mathlib.Core.List.{List, [], _∷_, _++_}
-use mathlib.Core.Bool.{Bool, true, false, _&&_, _||_, not, cond}
-use lib.ListN.{length, getD, drop}
-use lib.Dec.{eqb, leb, ltb}
+use mathlib.Core.Bool.{Bool, false, _&&_, _||_, not, cond}
+use lib.ListN.{getD, drop}
+use lib.Dec.{eqb}
 use Rattle.blorb.specs.Bytes.{rd32}
 use Rattle.blorb.specs.Usages.{codeOf}
-use Rattle.blorb.specs.Tags.{tag}
-use Rattle.blorb.specs.Format.{Chunk, Entry, Ref, refOf, entryIn, entriesIn, isStart}
+use Rattle.blorb.specs.Format.{Entry, Ref, refOf, entryIn, entriesIn, isStart}
 use Rattle.blorb.specs.Verdict.{Verdict, accept, refuse, _then_, check, knownUsage, entriesFault}
 use Rattle.blorb.specs.Rules.{plainAllows, plainRules}
 use Rattle.reader.specs.Walk.{chunkFrom, chunksFrom}
-use Rattle.blorb.specs.declared.Usage.{Usage}
-use Rattle.blorb.specs.declared.Usage.the-variants.{Pict, Snd, Data, Exec}
-use Rattle.blorb.specs.declared.Known.{Known}
-use Rattle.blorb.specs.declared.Known.the-variants.{Is, Unknown}
+use Rattle.blorb.specs.declared.Usage.the-variants.{Exec}
 use Rattle.reader.specs.declared.entries.Judged.{Judged}
 use Rattle.reader.specs.declared.entries.Judged.the-variants.{At, Fault}
 

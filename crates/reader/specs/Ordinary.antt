@@ -2,11 +2,10 @@
 use mathlib.Core.Path.{_≡_}
 use Prim.Native.Nat.{ℕ}
 use mathlib.Core.List.{List, [], _∷_}
-use mathlib.Core.Bool.{Bool, true, false, _&&_, _||_, not}
+use mathlib.Core.Bool.{Bool, true, _&&_, _||_, not}
 use lib.Dec.{eqb}
-use Rattle.blorb.specs.Tags.{RIdx}
+use Rattle.blorb.specs.Tags.{RIdx, RelN, Fspc}
 use Rattle.blorb.specs.Format.{Chunk}
-use Rattle.blorb.specs.Tags.{RelN, Fspc}
 use Rattle.reader.specs.Walk.{walkFrom, chunksFrom}
 
 abbrev pub ordinaryType : ℕ → Bool

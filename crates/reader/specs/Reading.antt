@@ -1,16 +1,14 @@
 -- What the reader answers (01, Found resources), as functions of the file's bytes.
-use Prim.Native.Nat.{ℕ, zero, suc, _+_, _*_, _≤_, _<_}
+use Prim.Native.Nat.{ℕ, _+_}
 use mathlib.Core.List.{List, [], _∷_}
 use mathlib.Core.Bool.{Bool, true, false, _&&_}
 use lib.ListN.{length, getD, take, drop}
 use lib.Dec.{eqb, ltb}
-use Rattle.blorb.specs.Bytes.{rd32}
 use Rattle.blorb.specs.Format as format
-use Rattle.blorb.specs.Format.{Chunk, chunksOf, entriesOf, chunkIn}
+use Rattle.blorb.specs.Format.{chunksOf, entriesOf}
 use Rattle.blorb.specs.Verdict.{Verdict, accept, refuse, noChunk}
 use Rattle.blorb.specs.Rules.{plainVerdict}
 use Rattle.reader.specs.Walk.{chunkFrom}
-use Rattle.blorb.specs.declared.Usage.{Usage}
 use Rattle.blorb.specs.declared.Known.{Known}
 use Rattle.blorb.specs.declared.Known.the-variants.{Is, Unknown}
 use Rattle.blorb.specs.declared.Entry.{Entry}

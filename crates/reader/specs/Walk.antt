@@ -1,14 +1,14 @@
 -- Positions in a file: what stands from an offset on. The loops of the reader keep offsets only.
-use Prim.Native.Nat.{ℕ, zero, suc, _+_, _*_, _%_, _≤_, _<_}
+use Prim.Native.Nat.{ℕ, _+_, _%_, _≤_}
 use mathlib.Core.Path.{_≡_}
-use mathlib.Core.List.{List, [], _∷_}
-use mathlib.Core.Bool.{Bool, true, false, _&&_}
+use mathlib.Core.List.{List}
+use mathlib.Core.Bool.{_&&_}
 use lib.ListN.{length, drop}
-use lib.Dec.{eqb, leb, ltb}
+use lib.Dec.{eqb, ltb}
 use Rattle.blorb.specs.Bytes.{rd32}
-use Rattle.blorb.specs.Tags.{FORM, IFRS, RIdx}
+use Rattle.blorb.specs.Tags.{RIdx}
 use Rattle.blorb.specs.Format.{Chunk, size, chunkIn, chunksIn, isStart}
-use Rattle.blorb.specs.Verdict.{Verdict, accept, refuse, _then_, check, walkFault}
+use Rattle.blorb.specs.Verdict.{Verdict, accept, refuse, check, walkFault}
 use Rattle.reader.specs.declared.chunks.Check.{Check}
 use Rattle.reader.specs.declared.chunks.Check.the-variants.{Good, Refused}
 

@@ -1,6 +1,6 @@
 // The chunks of a Blorb file: its header, the walk over its chunks, and the chunk at a start.
 ghost use mathlib.Core.Path.{_≡_};
-ghost use Prim.Native.Nat.{_+_, _≤_, _<_, _^_};
+ghost use Prim.Native.Nat.{_+_, _≤_, _<_};
 ghost use lib.ListN.{length, drop};
 ghost use mathlib.Core.Bool.{true, false};
 ghost use Rattle.reader.specs.Ordinary.{ordinaryType, allOrdinary, Along};

@@ -4,16 +4,16 @@ use crate::chunks::Check;
 use blorb::Known;
 use blorb::Usage;
 ghost use mathlib.Core.Path.{_≡_};
-ghost use Prim.Native.Nat.{_+_, _*_, _≤_, _<_, _^_};
-ghost use mathlib.Core.Bool.{_||_, not, false};
+ghost use Prim.Native.Nat.{_+_, _*_, _≤_, _<_};
+ghost use mathlib.Core.Bool.{_||_, not};
 ghost use lib.ListN.{length, drop};
 ghost use lib.Dec.{eqb};
-ghost use Rattle.blorb.specs.Verdict.{accept, pairIn, indexFault};
+ghost use Rattle.blorb.specs.Verdict.{accept, indexFault};
 ghost use Rattle.blorb.specs.Format.{isStart, entriesIn};
 ghost use Rattle.blorb.specs.Usages.{codeOf};
 ghost use Rattle.blorb.specs.declared.Usage.the-variants.{Exec};
 ghost use Rattle.reader.specs.Walk.{chunkFrom, chunksFrom, walkFrom, verdictOf, Reached};
-ghost use Rattle.reader.specs.Entries.{startAt, place, typedAt, entryFault, unstartedFault, judgedBy, samePair, earlier, usageAt, numberAt, Topped, slotOf, entriesFrom, pairPlace};
+ghost use Rattle.reader.specs.Entries.{startAt, place, typedAt, entryFault, unstartedFault, judgedBy, samePair, usageAt, numberAt, slotOf, entriesFrom, pairPlace};
 ghost use Rattle.reader.specs.Reading.{hitIn};
 
 // An entry's judgement: its start, where a chunk begins, or its fault.

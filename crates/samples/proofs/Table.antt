@@ -1,6 +1,6 @@
 -- 01's samples, proved in one table under a single statement. The rows marked with a star in 01 are all here; what the code does with
 -- these files follows by its contracts, which are equations with the definitions that the rows compute.
-use mathlib.Core.Path.{_≡_, refl}
+use mathlib.Core.Path.{refl}
 use Prim.Native.Nat.{ℕ}
 use mathlib.Core.List.{List, [], _∷_, _++_}
 use lib.ListN.{take, set, replicate}
@@ -8,24 +8,21 @@ use Rattle.blorb.specs.Bytes.{be32, rd32}
 use Rattle.blorb.specs.Tags.{FORM, IFRS, Pict, Data, Rect, TEXT, BINA}
 use Rattle.blorb.specs.declared.Usage.the-variants as usage
 use Rattle.blorb.specs.All.{All}
-use Rattle.edits.specs.Edit.{Edit, add, replace, remove}
+use Rattle.edits.specs.Edit.{add, replace, remove, with-at, lower, raise, added, replaced, removedBoth, removedEntry, removed, givenChunk, edited}
 use Rattle.edits.specs.Blank.{blanked, blankFile}
-use Rattle.blorb.specs.Verdict.{accept, refuse}
-use Rattle.edits.specs.Run.{edit, undo}
+use Rattle.blorb.specs.Verdict.{accept, refuse, _then_, check, headFault, chunkFault, walkFault, secondIndex, indexFault, pairIn, refFault, entriesFault, restFault, layoutFault, verdict}
+use Rattle.edits.specs.Run.{edit, undo, targetFault, editedFile, editRecord, undoneFile, editFault, undoFault, written, noted, afterEdit, afterUndo, after, fault, step, run, answers}
 use Rattle.reader.specs.declared.Reading.the-variants.{Accepted, Refused}
 use Rattle.reader.specs.declared.Asked.the-variants.{Given, Refused as NotGiven}
 use Rattle.reader.specs.declared.Looked.the-variants.{Found, Refused as NotFound}
 use Rattle.samples.specs.Files.{blank, A, B, withoutEel, binary, eel, sides, addedEel, addedRect, removedEel, replacedEel}
 use Rattle.samples.specs.Rows.{Row, reads, asks, looks, edits, undoes, blanks, runs, RowHolds}
 use Rattle.blorb.specs.Format.{sized, size, chunkBytes, chunksBytes, total, fileBytes, chunkIn, chunksIn, chunksOf, entryIn, entriesIn, entryBytes, entriesBytes, indexChunk, entriesOf, isStart, placeOf, refOf}
-use Rattle.blorb.specs.Verdict.{_then_, check, headFault, chunkFault, walkFault, secondIndex, indexFault, pairIn, refFault, entriesFault, restFault, layoutFault, verdict}
 use Rattle.blorb.specs.Rules.{oneOf, plainAllows, picture, typeIn, single, chunkRule, chunkRules, optional, plainVerdict}
 use Rattle.blorb.specs.Model.{base, startOf, entryOf, file, modelOf, model}
 use Rattle.blorb.specs.Queries.{without, find, uses, shared, start, frontPlace}
 use Rattle.blorb.specs.Usages.{usageOf}
-use Rattle.edits.specs.Edit.{with-at, lower, raise, added, replaced, removedBoth, removedEntry, removed, givenChunk, edited}
 use Rattle.edits.specs.Journal.{recBody, recBytes, removal, recOf, trailer, recIn, lastBody, lastRec, zeros, wellFormed, fits1, fits2, fits3, fits4, fits, undo1, undo2, undo3, undo4, undone}
-use Rattle.edits.specs.Run.{targetFault, editedFile, editRecord, undoneFile, editFault, undoFault, written, noted, afterEdit, afterUndo, after, fault, step, run, answers}
 use Rattle.reader.specs.Reading.{indexOf, readOf, askedOf, hitIn, lookupOf}
 
 -- opens every definition that a row computes with: a definition opens what its own line names

@@ -1,9 +1,8 @@
-use Prim.Native.Nat.{ℕ, _+_, _*_, _≤_, _<_}
+use Prim.Native.Nat.{ℕ, _+_, _*_, _<_}
 use mathlib.Core.Path.{_≡_, sym, ap, _∙_}
 use native.Mathlib.Omega.{arith}
 use lib.ListN.{getD}
 use denote.Ref.{now}
-use Rattle.blorb.specs.Bytes.{rd32}
 use Rattle.blorb.proofs.ByteLaws.{rd32-at}
 use Rattle.blorb.specs.Little.{swapped, swapped-little}
 use borrow.Author.Needs.{needs}

@@ -1,8 +1,4 @@
-use native.Mathlib.Omega.{arith}
-use mathlib.Core.Path.{_≡_, refl, sym, ap, _∙_}
-use Prim.Native.Nat.{ℕ}
-use Rattle.blorb.specs.Format.{chunkOf}
-use Rattle.blorb.specs.Rules.{plainAllows}
+use mathlib.Core.Path.{sym, _∙_}
 use Rattle.blorb.proofs.UsageLaws.{plain-unknown, plain-known}
 use borrow.Author.Needs.{needs}
 use Rattle.blorb.proofs.type_allowed.Statement.{statement}

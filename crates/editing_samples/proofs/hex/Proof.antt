@@ -1,6 +1,5 @@
 -- Nothing has to hold from turn to turn.
 use borrow.Author.Needs.{needs}
-use native.Mathlib.Omega.{arith}
 use Prim.Native.Nat.{_-_}
 use Rattle.editing_samples.proofs.hex.Statement.{statement}
 use Rattle.editing_samples.proofs.hex.Tie as tie

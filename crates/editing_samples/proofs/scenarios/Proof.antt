@@ -1,6 +1,5 @@
 -- The place of the next scenario rises, whatever `scenario` answers, and both buffers keep their lengths.
 use borrow.Author.Needs.{needs}
-use native.Mathlib.Omega.{arith}
 use mathlib.Core.Path.{_≡_}
 use Prim.Native.Nat.{_-_}
 use lib.ListN.{length}

@@ -4,10 +4,9 @@ use native.Mathlib.Omega.{arith}
 use borrow.Author.Needs.{needs}
 use denote.Ref.{now}
 use lib.ListN.{drop}
-use Rattle.blorb.specs.Bytes.{rd32}
+use Rattle.blorb.specs.Bytes.{rd32, Byte}
 use Rattle.blorb.proofs.ByteLaws.{length-be32}
 use Rattle.blorb.specs.All.{All}
-use Rattle.blorb.specs.Bytes.{Byte}
 use Rattle.blorb.proofs.Accept.{bytes-all}
 use Rattle.listing.proofs.LineLaws.{tag-is}
 use Rattle.listing.proofs.put_tag.Statement.{statement}

@@ -1,12 +1,7 @@
 use native.Mathlib.Omega.{arith}
-use mathlib.Core.Path.{_≡_, refl, sym, ap, _∙_}
-use Rattle.reader.proofs.ChunkLaws.{fine}
-use Rattle.reader.proofs.Laws.{hit-begun}
-use Rattle.reader.proofs.AskLaws.{Good, accepted, refused-as, entry-no, entry-22, entry-unknown, entry-known, look-no, look-22, look-found, part-in}
-use Prim.Native.Nat.{ℕ, _+_, _-_}
-use lib.ListN.{length, take, drop}
-use denote.Ref.{now}
-use Rattle.reader.specs.Reading.{partOf}
+use mathlib.Core.Path.{_≡_, sym, _∙_}
+use Rattle.reader.proofs.AskLaws.{part-in}
+use Prim.Native.Nat.{_+_, _-_}
 use borrow.Author.Needs.{needs}
 use Rattle.reader.proofs.data.Statement.{statement}
 use Rattle.reader.proofs.data.Tie as tie

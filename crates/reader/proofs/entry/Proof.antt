@@ -1,8 +1,6 @@
 use native.Mathlib.Omega.{arith}
-use mathlib.Core.Path.{_≡_, refl, sym, ap, _∙_}
-use Rattle.reader.proofs.ChunkLaws.{fine}
-use Rattle.reader.proofs.Laws.{hit-begun}
-use Rattle.reader.proofs.AskLaws.{Good, accepted, refused-as, entry-no, entry-22, entry-unknown, entry-known, look-no, look-22, look-found, part-in}
+use mathlib.Core.Path.{sym, _∙_}
+use Rattle.reader.proofs.AskLaws.{accepted, refused-as, entry-no, entry-22, entry-unknown, entry-known}
 use borrow.Author.Needs.{needs}
 use Rattle.reader.proofs.entry.Statement.{statement}
 use Rattle.reader.proofs.entry.Tie as tie

@@ -8,7 +8,6 @@ use Rattle.reader.proofs.ChunkLaws.{fine, walked}
 use Rattle.reader.proofs.Laws.{shaped}
 use Rattle.reader.proofs.ReadLaws.{first-long, is-shaped, is-judged, ordinary-behind, read-1, read-2, read-3, read-4, read-5, read-6, read-rest}
 use borrow.Author.Needs.{needs}
-use borrow.Author.Needs.{needs}
 use Rattle.reader.proofs.judge_entries.Statement.{statement}
 use Rattle.reader.proofs.judge_entries.Tie as tie
 use Rattle.reader.proofs.judge_entries.Reads as reads

@@ -1,6 +1,5 @@
 -- Each row lies in the rows. Nothing has to hold from turn to turn.
 use borrow.Author.Needs.{needs}
-use native.Mathlib.Omega.{arith}
 use Prim.Native.Nat.{_-_}
 use Rattle.reading_samples.proofs.ask_all.Statement.{statement}
 use Rattle.reading_samples.proofs.ask_all.Tie as tie

@@ -1,6 +1,5 @@
 -- Safe whatever the bytes are: the remainder keeps the sum small. Nothing has to hold from turn to turn.
 use borrow.Author.Needs.{needs}
-use native.Mathlib.Omega.{arith}
 use Prim.Native.Nat.{_-_}
 use Rattle.reading_samples.proofs.checksum.Statement.{statement}
 use Rattle.reading_samples.proofs.checksum.Tie as tie

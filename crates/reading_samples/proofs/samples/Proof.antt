@@ -1,6 +1,5 @@
 -- The place of the next sample rises, whatever `sample` answers. Nothing has to hold from turn to turn.
 use borrow.Author.Needs.{needs}
-use native.Mathlib.Omega.{arith}
 use Prim.Native.Nat.{_-_}
 use lib.ListN.{length}
 use Rattle.reading_samples.proofs.samples.Statement.{statement}

@@ -1,9 +1,5 @@
-use Rattle.blorb.specs.Format.{chunkOf}
-use Rattle.blorb.specs.Rules.{plainAllows}
-use Rattle.blorb.specs.Usages.{codeOf}
 use Rattle.blorb.specs.declared.Usage.{Usage}
-use native.Mathlib.Omega.{arith}
-use mathlib.Core.Path.{_≡_, refl, sym, ap, _∙_}
+use mathlib.Core.Path.{sym, _∙_}
 use Rattle.blorb.proofs.UsageLaws.{plain-pict, plain-data, plain-exec}
 use borrow.Author.Needs.{needs}
 use Rattle.blorb.proofs.Usage.allows.Statement.{statement}

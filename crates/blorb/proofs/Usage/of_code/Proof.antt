@@ -1,5 +1,3 @@
-use borrow.Author.Needs.{needs}
-use native.Mathlib.Omega.{arith}
 use Rattle.blorb.proofs.UsageLaws.{code-pict, code-snd, code-data, code-exec, code-none}
 use Rattle.blorb.proofs.Usage.of_code.Statement.{statement}
 use Rattle.blorb.proofs.Usage.of_code.Tie as tie

@@ -1,4 +1,3 @@
-use borrow.Author.Needs.{needs}
 use borrow.Author.Tests.{eq-eqb, ne-eqb}
 use Rattle.editor.proofs.journal.is_allowed.Statement.{statement}
 use Rattle.editor.proofs.journal.is_allowed.Tie as tie

@@ -1,4 +1,3 @@
-use Prim.Native.Nat.{_+_}
 use lib.ListN.{getD}
 use denote.Ref.{now}
 use Rattle.editor.specs.LastRecord.{recordAt}

@@ -1,6 +1,5 @@
-use Prim.Native.Nat.{_-_}
+use Prim.Native.Nat.{_-_, ℕ, _+_, _*_, _≤_}
 use native.Mathlib.Nat.{sub-zero}
-use Prim.Native.Nat.{ℕ, _+_, _*_, _-_, _≤_}
 use mathlib.Core.Path.{_≡_, refl, ap, sym, _∙_}
 use native.Mathlib.Omega.{arith}
 use lib.ListN.{length, drop}

@@ -1,7 +1,6 @@
 use mathlib.Core.Bool.{_&&_, not}
 use lib.Dec.{eqb}
-use Rattle.blorb.specs.Tags.{RIdx}
-use Rattle.blorb.specs.Tags.{Rect}
+use Rattle.blorb.specs.Tags.{RIdx, Rect}
 use borrow.Author.Needs.{needs}
 use Rattle.editor.proofs.undoing.old_fine.Statement.{statement}
 use Rattle.editor.proofs.undoing.old_fine.Tie as tie

@@ -1,6 +1,5 @@
 use Rattle.reader.proofs.ChunkLaws.{chunk-header, chunk-short, chunk-even, chunk-odd, chunk-pad}
 use native.Mathlib.Omega.{arith}
-use Rattle.reader.proofs.ChunkLaws.{chunk-header, chunk-short, chunk-even, chunk-odd, chunk-pad}
 use borrow.Author.Needs.{needs}
 use Rattle.reader.proofs.chunks.chunk.Statement.{statement}
 use Rattle.reader.proofs.chunks.chunk.Tie as tie

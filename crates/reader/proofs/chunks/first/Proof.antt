@@ -1,8 +1,6 @@
 use Rattle.reader.proofs.ChunkLaws.{first-none, first-other, first-good, fine}
-use borrow.Author.Needs.{needs}
 use native.Mathlib.Omega.{arith}
-use mathlib.Core.Path.{_≡_, refl, sym, ap, _∙_}
-use Rattle.reader.proofs.ChunkLaws.{first-none, first-other, first-good, fine}
+use mathlib.Core.Path.{sym, _∙_}
 use Rattle.reader.proofs.chunks.first.Statement.{statement}
 use Rattle.reader.proofs.chunks.first.Tie as tie
 use Rattle.reader.proofs.chunks.first.Reads as reads

@@ -1,7 +1,6 @@
 use Rattle.reader.proofs.ChunkLaws.{head-1, head-2, head-3, head-4, head-5, head-good}
-use mathlib.Core.Path.{_≡_, refl, sym, ap, _∙_}
+use mathlib.Core.Path.{sym, _∙_}
 use native.Mathlib.Omega.{arith}
-use Rattle.reader.proofs.ChunkLaws.{head-1, head-2, head-3, head-4, head-5, head-good}
 use borrow.Author.Needs.{needs}
 use Rattle.reader.proofs.chunks.head.Statement.{statement}
 use Rattle.reader.proofs.chunks.head.Tie as tie

@@ -1,14 +1,10 @@
 use Rattle.reader.specs.Walk.{walkFrom, chunksFrom}
 use Rattle.blorb.specs.Verdict.{accept, secondIndex}
 use Rattle.reader.proofs.ChunkLaws.{second-next, second-hit, second-end, walked, fine}
-use borrow.Author.Needs.{needs}
 use native.Mathlib.Omega.{arith}
 use Prim.Native.Nat.{_-_}
-use mathlib.Core.Path.{_≡_, refl, sym, ap, _∙_}
+use mathlib.Core.Path.{_≡_, refl, sym, _∙_}
 use lib.ListN.{length}
-use Rattle.reader.specs.Walk.{walkFrom, chunksFrom}
-use Rattle.blorb.specs.Verdict.{accept, secondIndex}
-use Rattle.reader.proofs.ChunkLaws.{second-next, second-hit, second-end, walked, fine}
 use Rattle.reader.proofs.chunks.second.Statement.{statement}
 use Rattle.reader.proofs.chunks.second.Tie as tie
 use Rattle.reader.proofs.chunks.second.Reads as reads

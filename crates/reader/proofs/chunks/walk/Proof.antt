@@ -1,15 +1,9 @@
 use Rattle.reader.specs.Ordinary.{allOrdinary}
-use Rattle.reader.specs.Walk.{walkFrom, chunksFrom, skipAt, verdictOf}
-use Rattle.reader.proofs.ChunkLaws.{walk-next, walk-fault, walk-end, chunk-good-header, ordinary-next, ordinary-end, ordinary-second, no-ordinary}
-use Prim.Native.Nat.{ℕ, _-_, _+_, _≤_, _<_}
-use native.Mathlib.Omega.{arith}
-use mathlib.Core.Path.{_≡_, refl, sym, ap, _∙_}
-use mathlib.Core.Bool.{Bool, true, false, _&&_}
-use lib.ListN.{length}
+use Rattle.reader.specs.Walk.{walkFrom, chunksFrom, verdictOf}
+use Rattle.reader.proofs.ChunkLaws.{walk-next, walk-fault, walk-end, chunk-good-header, no-ordinary}
+use Prim.Native.Nat.{ℕ}
+use mathlib.Core.Path.{sym, ap, _∙_}
 use denote.Ref.{now}
-use Rattle.reader.specs.Ordinary.{allOrdinary}
-use Rattle.reader.specs.Walk.{walkFrom, chunksFrom, skipAt, verdictOf}
-use Rattle.reader.proofs.ChunkLaws.{walk-next, walk-fault, walk-end, chunk-good-header, ordinary-next, ordinary-end, ordinary-second, no-ordinary}
 use borrow.Author.Needs.{needs}
 use Rattle.reader.proofs.chunks.walk.Statement.{statement}
 use Rattle.reader.proofs.chunks.walk.Tie as tie

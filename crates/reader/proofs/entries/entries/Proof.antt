@@ -2,14 +2,14 @@ use borrow.Author.Needs.{needs}
 use native.Mathlib.Omega.{arith}
 use Prim.Native.Nat.{ℕ, _+_, _-_, _≤_, _<_}
 use mathlib.Core.Path.{_≡_, refl, sym, ap, _∙_}
-use mathlib.Core.Bool.{true, false}
+use mathlib.Core.Bool.{false}
 use lib.ListN.{length, getD, length-set}
 use denote.Ref.{now}
-use Rattle.reader.specs.declared.chunks.Check.the-variants.{Good, Refused}
-use Rattle.reader.specs.Walk.{walkFrom, chunksFrom, Reached, verdictOf}
+use Rattle.reader.specs.declared.chunks.Check.the-variants.{Good}
+use Rattle.reader.specs.Walk.{walkFrom, Reached}
 use Rattle.blorb.specs.Verdict.{accept, pairIn}
 use Rattle.reader.proofs.StartLaws.{begun, resume}
-use Rattle.reader.specs.Entries.{usageAt, numberAt, startAt, place, earlier, entriesFrom, samePair, judgedBy, entryFault, Below, Topped, slotOf}
+use Rattle.reader.specs.Entries.{usageAt, numberAt, startAt, place, earlier, entriesFrom, entryFault, Below, slotOf}
 use Rattle.reader.proofs.EntryLaws.{judged-at, judged-fault, entry-start, entry-stop, pair-stop, pair-more, pair-hit, entries-next, entries-end, fresh, pair-none, topped, below-next, below-same}
 use Rattle.reader.proofs.entries.entries.Statement.{statement}
 use Rattle.reader.proofs.entries.entries.Tie as tie

@@ -1,12 +1,5 @@
-use Rattle.blorb.specs.Verdict.{pairIn}
-use Rattle.reader.specs.Entries.{usageAt, numberAt, place, earlier, samePair}
-use native.Mathlib.Omega.{arith}
-use Prim.Native.Nat.{ℕ, _+_, _-_, _≤_, _<_}
-use mathlib.Core.Path.{_≡_, refl, sym, ap, _∙_}
-use mathlib.Core.Bool.{true, false}
+use Rattle.reader.specs.Entries.{usageAt, numberAt, place}
 use denote.Ref.{now}
-use Rattle.blorb.specs.Verdict.{pairIn}
-use Rattle.reader.specs.Entries.{usageAt, numberAt, place, earlier, samePair}
 use Rattle.reader.proofs.EntryLaws as laws
 use borrow.Author.Needs.{needs}
 use Rattle.reader.proofs.entries.same_pair.Statement.{statement}

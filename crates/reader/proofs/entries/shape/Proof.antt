@@ -1,7 +1,5 @@
 use Rattle.reader.proofs.ChunkLaws.{fine}
 use native.Mathlib.Omega.{arith}
-use mathlib.Core.Path.{_≡_, refl, sym, ap, _∙_}
-use Rattle.reader.proofs.ChunkLaws.{fine}
 use Rattle.reader.proofs.Laws.{shape-short, shape-room, shape-other, shape-many, shape-good}
 use borrow.Author.Needs.{needs}
 use Rattle.reader.proofs.entries.shape.Statement.{statement}

@@ -1,7 +1,7 @@
 use Prim.Native.Nat.{ℕ, _+_}
 use denote.Ref.{now}
 use native.Mathlib.Omega.{arith}
-use mathlib.Core.Path.{_≡_, refl, sym, ap, _∙_}
+use mathlib.Core.Path.{refl, ap, _∙_}
 use Rattle.reader.proofs.ChunkLaws.{fine}
 use Rattle.reader.proofs.EntryLaws.{typed-at}
 use borrow.Author.Needs.{needs}

@@ -4,11 +4,8 @@ use Rattle.reader.proofs.ChunkLaws.{fine, walked}
 use borrow.Author.Needs.{needs}
 use native.Mathlib.Omega.{arith}
 use mathlib.Core.Path.{_≡_, refl, sym, ap, _∙_}
-use Prim.Native.Nat.{ℕ, _-_}
+use Prim.Native.Nat.{_-_}
 use lib.ListN.{length}
-use Rattle.reader.specs.Walk.{walkFrom, chunksFrom, verdictOf}
-use Rattle.blorb.specs.Verdict.{accept}
-use Rattle.reader.proofs.ChunkLaws.{fine, walked}
 use Rattle.reader.specs.Optional.{pictured, rulesFrom, optionalFault}
 use Rattle.reader.proofs.Laws.{rules-end, rules-next, rules-stop}
 use Rattle.reader.proofs.optional.or_is.Reads as or-is-reads
