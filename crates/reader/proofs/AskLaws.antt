@@ -31,7 +31,8 @@ use Rattle.reader.specs.Optional.{EntriesPassed}
 use Rattle.reader.specs.Passed.{Passed, modelAt}
 use Rattle.blorb.specs.Model.{model}
 use Rattle.blorb.proofs.Accept.{accept-short}
-use Rattle.reader.proofs.Laws.{length-entriesIn, entry-getD, hit-begun, optional-is}
+use Rattle.reader.proofs.IndexLaws.{length-entriesIn, entry-getD, hit-begun}
+use Rattle.reader.proofs.OptionalLaws.{optional-is}
 use Rattle.reader.proofs.ReadLaws.{whole, layout, is-judged, index-of, model-of, v3, v5}
 
 -- a file that the reader accepts, with count entries

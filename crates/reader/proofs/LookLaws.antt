@@ -25,7 +25,7 @@ use Rattle.reader.specs.declared.Looked.{Looked}
 use Rattle.reader.specs.declared.Looked.the-variants.{Found, Refused as Missing}
 use Rattle.reader.proofs.ChunkLaws.{fine, neither}
 use Rattle.reader.proofs.EntryLaws.{pair-snoc}
-use Rattle.reader.proofs.Laws.{find-at, find-none, first-entry}
+use Rattle.reader.proofs.IndexLaws.{find-at, find-none, first-entry}
 use Rattle.reader.proofs.AskLaws.{good, look-on}
 use Rattle.reader.proofs.PartLaws.{refs-count, entry-begun, begins-there, chunk-of, find-pair}
 

@@ -42,7 +42,7 @@ use Rattle.reader.specs.Reading.{readBy, readOf}
 use Rattle.reader.proofs.AskLaws.{Good}
 use Rattle.reader.proofs.ChunkLaws.{fine, chunks-end, ordinary-not}
 use Rattle.reader.proofs.StartLaws.{begun, Begun}
-use Rattle.reader.proofs.Laws.{length-entriesIn, entry-getD, body-word}
+use Rattle.reader.proofs.IndexLaws.{length-entriesIn, entry-getD, body-word}
 
 -- an element of a list and of its image
 getD-map-in : {A B : Type 0} (g : A → B) (l : List A) (i : ℕ) (d : A) (z : B) → i < length l → getD (map g l) i z ≡ g (getD l i d)

@@ -33,7 +33,7 @@ use Rattle.reader.specs.declared.Looked.{Looked}
 use Rattle.reader.specs.declared.Looked.the-variants.{Found, Refused as Missing}
 use Rattle.reader.proofs.ChunkLaws.{fine}
 use Rattle.reader.proofs.StartLaws.{begun}
-use Rattle.reader.proofs.Laws.{hit-start}
+use Rattle.reader.proofs.IndexLaws.{hit-start}
 use Rattle.reader.proofs.ReadLaws.{refused}
 use Rattle.reader.proofs.AskLaws.{good, read-go, refused-as, known-at, not-unknown, given-as}
 use Rattle.reader.proofs.PartLaws.{refs-count, starts}

@@ -20,7 +20,8 @@ use Rattle.blorb.specs.Model.{base, model, modelOf}
 use Rattle.reader.specs.Ordinary.{allOrdinary}
 use Rattle.reader.specs.Optional.{optionalFault, EntriesPassed}
 use Rattle.reader.specs.Passed.{modelAt}
-use Rattle.reader.proofs.Laws.{Shaped, shaped, length-entriesIn, optional-is}
+use Rattle.reader.proofs.IndexLaws.{Shaped, shaped, length-entriesIn}
+use Rattle.reader.proofs.OptionalLaws.{optional-is}
 
 module _ (f : List ℕ) where
   pub whole : plainVerdict f ≡ headFault f then (walkFrom f 12 then layoutFault plainRules (chunksOf f))

@@ -12,16 +12,15 @@ use Rattle.blorb.specs.Verdict.{accept, noChunk}
 use Rattle.reader.specs.Walk.{chunkFrom, nextAt, chunksFrom, walkFrom, skipAt, Reached}
 use Rattle.reader.proofs.ChunkLaws.{fine, Fine, chunks-end}
 
--- where chunks begin
-module _ (f : List ℕ) (x at : ℕ) where
-  module _ (h : at < length f) (w : walkFrom f at ≡ accept) where
-    pub find-hit : at ≡ x → true ≡ isStart x at (chunksFrom f at)
-    unfolding isStart
-    find-hit e = let i = fine f at h w in rw (i .chunks, eq-eqb x at (sym e))
+-- a step of the search
+module _ (f : List ℕ) (x at : ℕ) (h : at < length f) (w : walkFrom f at ≡ accept) where
+  pub start-hit : at ≡ x → true ≡ isStart x at (chunksFrom f at)
+  unfolding isStart
+  start-hit e = let i = fine f at h w in rw (i .chunks, eq-eqb x at (sym e))
 
-    pub find-next : (at ≡ x → ⊥) → isStart x (skipAt f at) (chunksFrom f (skipAt f at)) ≡ isStart x at (chunksFrom f at)
-    unfolding isStart
-    find-next n = let i = fine f at h w in rw (i .chunks, i .next, ne-eqb x at (λ e. n (sym e)))
+  pub start-next : (at ≡ x → ⊥) → isStart x (skipAt f at) (chunksFrom f (skipAt f at)) ≡ isStart x at (chunksFrom f at)
+  unfolding isStart
+  start-next n = let i = fine f at h w in rw (i .chunks, i .next, ne-eqb x at (λ e. n (sym e)))
 
 -- induction over the chunks of a file that the walk accepts
 module _ (f : List ℕ) (P : ℕ → List Chunk → Type 0)
@@ -102,16 +101,16 @@ resume f g at w =
 
 -- a start behind the file, and the walk that has come up to a start
 module _ (f : List ℕ) (x at : ℕ) (w : walkFrom f at ≡ accept) where
-  pub find-none : length f ≤ x → false ≡ isStart x at (chunksFrom f at)
-  find-none h = go (isStart x at (chunksFrom f at)) refl
+  pub start-behind : length f ≤ x → false ≡ isStart x at (chunksFrom f at)
+  start-behind h = go (isStart x at (chunksFrom f at)) refl
     where
       go : (b : Bool) → isStart x at (chunksFrom f at) ≡ b → false ≡ b
       go true e = let q : x < length f = begun f x at w e .below in absurd (omega arith)
       go false e = refl
 
-  pub find-last : x < length f → x ≤ at → eqb at x ≡ isStart x at (chunksFrom f at)
-  find-last h l = go (eqb at x) refl
+  pub start-reached : x < length f → x ≤ at → eqb at x ≡ isStart x at (chunksFrom f at)
+  start-reached h l = go (eqb at x) refl
     where
       go : (b : Bool) → eqb at x ≡ b → b ≡ isStart x at (chunksFrom f at)
-      go true e = let q : at ≡ x = eqb-true at x e in find-hit f x at (omega arith) w q
+      go true e = let q : at ≡ x = eqb-true at x e in start-hit f x at (omega arith) w q
       go false e = let q : at ≡ x → ⊥ = eqb-false at x e in before-base x at (chunksFrom f at) (omega arith)

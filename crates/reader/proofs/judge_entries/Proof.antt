@@ -5,7 +5,7 @@ use Prim.Native.Nat.{ℕ}
 use Rattle.reader.specs.Ordinary.{allOrdinary}
 use Rattle.reader.specs.Walk.{verdictOf, chunksFrom}
 use Rattle.reader.proofs.ChunkLaws.{fine, walked}
-use Rattle.reader.proofs.Laws.{shaped}
+use Rattle.reader.proofs.IndexLaws.{shaped}
 use Rattle.reader.proofs.ReadLaws.{first-long, is-shaped, is-judged, ordinary-behind, read-1, read-2, read-3, read-4, read-5, read-6, read-rest}
 use borrow.Author.Needs.{needs}
 use Rattle.reader.proofs.judge_entries.Statement.{statement}

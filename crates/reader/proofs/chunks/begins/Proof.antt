@@ -7,7 +7,7 @@ use Rattle.blorb.specs.Verdict.{accept}
 use Rattle.blorb.specs.Format.{isStart}
 use Rattle.reader.specs.Walk.{walkFrom, chunksFrom}
 use Rattle.reader.proofs.ChunkLaws.{walked, fine}
-use Rattle.reader.proofs.StartLaws.{find-next, find-none, find-last}
+use Rattle.reader.proofs.StartLaws.{start-next, start-behind, start-reached}
 use Rattle.reader.proofs.chunks.begins.Statement.{statement}
 use Rattle.reader.proofs.chunks.begins.Tie as tie
 use Rattle.reader.proofs.chunks.begins.Reads as reads
@@ -22,7 +22,7 @@ abbrev μ-loop : tie.MeasureT-loop
 
 -- src/chunks.rt:237:9
 returns : tie.Need-returns Inv-loop μ-loop
-returns c = find-none _ _ _ (c .before .before .pre) (c .if1 .taken)
+returns c = start-behind _ _ _ (c .before .before .pre) (c .if1 .taken)
 
 -- src/chunks.rt:240:5
 loop-holds : tie.Need-loop-holds Inv-loop μ-loop
@@ -40,11 +40,11 @@ loop-less c = omega (arith, c .skip .ensures)
 
 -- src/chunks.rt:240:5
 loop-again : tie.Need-loop-again Inv-loop μ-loop
-loop-again c = let l = c .before .before .loop in let s = now (c .before .before .before .before .before .args .s) in let h : l .at < length s = omega arith in rw (c .skip .ensures) (walked s (l .at) h (l .inv .0), find-next s (c .before .before .before .before .before .args .start) (l .at) h (l .inv .0) (λ e. omega arith) ∙ l .inv .1)
+loop-again c = let l = c .before .before .loop in let s = now (c .before .before .before .before .before .args .s) in let h : l .at < length s = omega arith in rw (c .skip .ensures) (walked s (l .at) h (l .inv .0), start-next s (c .before .before .before .before .before .args .start) (l .at) h (l .inv .0) (λ e. omega arith) ∙ l .inv .1)
 
 -- src/chunks.rt:232:1
 returns-2 : tie.Need-returns-2 Inv-loop μ-loop
-returns-2 c = let l = c .before .loop in find-last (now (c .before .before .before .before .args .s)) (c .before .before .before .before .args .start) (l .at) (l .inv .0) (omega arith) (omega arith) ∙ l .inv .1
+returns-2 c = let l = c .before .loop in start-reached (now (c .before .before .before .before .args .s)) (c .before .before .before .before .args .start) (l .at) (l .inv .0) (omega arith) (omega arith) ∙ l .inv .1
 
 pub begins-spec : {M : Type 1} → statement M
 begins-spec =

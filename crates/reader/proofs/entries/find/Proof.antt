@@ -1,5 +1,5 @@
 use denote.Ref.{now}
-use Rattle.reader.proofs.Laws.{find-at, find-none}
+use Rattle.reader.proofs.IndexLaws.{find-at, find-none}
 use borrow.Author.Needs.{needs}
 use Rattle.reader.proofs.entries.find.Statement.{statement}
 use Rattle.reader.proofs.entries.find.Tie as tie

@@ -6,7 +6,7 @@ use lib.ListN.{drop}
 use denote.Ref.{now}
 use Rattle.blorb.specs.Format.{entriesIn}
 use Rattle.reader.specs.Entries.{place, pairPlace}
-use Rattle.reader.proofs.Laws.{place-hit, place-next, place-end}
+use Rattle.reader.proofs.IndexLaws.{place-hit, place-next, place-end}
 use Rattle.reader.proofs.entries.find_place.Statement.{statement}
 use Rattle.reader.proofs.entries.find_place.Tie as tie
 use Rattle.reader.proofs.entries.find_place.Reads as reads

@@ -1,6 +1,6 @@
 use Rattle.reader.proofs.ChunkLaws.{fine}
 use native.Mathlib.Omega.{arith}
-use Rattle.reader.proofs.Laws.{shape-short, shape-room, shape-other, shape-many, shape-good}
+use Rattle.reader.proofs.IndexLaws.{shape-short, shape-room, shape-other, shape-many, shape-good}
 use borrow.Author.Needs.{needs}
 use Rattle.reader.proofs.entries.shape.Statement.{statement}
 use Rattle.reader.proofs.entries.shape.Tie as tie

@@ -7,7 +7,7 @@ use mathlib.Core.Path.{_≡_, refl, sym, ap, _∙_}
 use Prim.Native.Nat.{_-_}
 use lib.ListN.{length}
 use Rattle.reader.specs.Optional.{pictured, rulesFrom, optionalFault}
-use Rattle.reader.proofs.Laws.{rules-end, rules-next, rules-stop}
+use Rattle.reader.proofs.OptionalLaws.{rules-end, rules-next, rules-stop}
 use Rattle.reader.proofs.optional.or_is.Reads as or-is-reads
 use Rattle.reader.proofs.optional.optional.Statement.{statement}
 use Rattle.reader.proofs.optional.optional.Tie as tie

@@ -1,7 +1,8 @@
 use Rattle.reader.proofs.ChunkLaws.{fine}
 use native.Mathlib.Omega.{arith}
 use mathlib.Core.Path.{sym, _∙_}
-use Rattle.reader.proofs.Laws.{rule-none, reln-17, reln-18, reln-good, fspc-17, fspc-18, fspc-19, fspc-good, picture-none, picture-rect, picture-there, hit-begun}
+use Rattle.reader.proofs.IndexLaws.{hit-begun}
+use Rattle.reader.proofs.OptionalLaws.{rule-none, reln-17, reln-18, reln-good, fspc-17, fspc-18, fspc-19, fspc-good, picture-none, picture-rect, picture-there}
 use borrow.Author.Needs.{needs}
 use Rattle.reader.proofs.optional.optional_chunk.Statement.{statement}
 use Rattle.reader.proofs.optional.optional_chunk.Tie as tie

@@ -1,0 +1,140 @@
+-- Laws of the optional chunks: refusals 17 to 19.
+use mathlib.Core.Path.{_≡_, refl, sym, ap, _∙_}
+use Prim.Native.Nat.{ℕ, _+_, _≤_, _<_}
+use mathlib.Core.List.{List, [], _∷_, _++_, map}
+use mathlib.Core.Bool.{Bool, true, false, cond, _||_, not}
+use native.Mathlib.Omega.{arith}
+use lib.ListN.{length, drop}
+use lib.Dec.{eqb}
+use borrow.Author.Tests.{eq-eqb, ne-eqb}
+use Rattle.blorb.specs.Bytes.{rd32}
+use Rattle.blorb.specs.Format.{Chunk, Ref, refOf, size, chunkIn, entriesIn}
+use Rattle.blorb.specs.Verdict.{Verdict, accept, refuse, _then_, check}
+use Rattle.blorb.specs.Rules.{picture, optional, chunkRules, chunkRule, single, typeIn}
+use Rattle.blorb.specs.Tags.{Pict, Rect, RelN, Fspc}
+use Rattle.reader.specs.Walk.{chunkFrom, skipAt, chunksFrom, walkFrom}
+use Rattle.reader.specs.Ordinary.{ordinaryType, allOrdinary}
+use Rattle.reader.proofs.ChunkLaws.{ordinary-not, fine, chunks-end}
+use Rattle.blorb.proofs.Checks.{pass, stop, holds-last, fails-last, accepts, refuses, and-both, then-assoc}
+use Rattle.reader.specs.Entries.{place, earlier, entriesFrom}
+use Rattle.blorb.proofs.UsageLaws.{or-assoc, or-false}
+use Rattle.reader.specs.declared.entries.Hit.the-variants.{At, Nothing}
+use Rattle.reader.specs.Reading.{hitIn}
+use Rattle.reader.specs.Optional.{pictured, oneRule, rulesFrom, optionalFault}
+use Rattle.reader.proofs.IndexLaws.{body-word, picture-hit}
+
+-- rules 17 to 19 with two flags for the chunks before
+type-snoc : (t : ℕ) (l : List Chunk) (c : Chunk) → typeIn t (l ++ (c ∷ [])) ≡ typeIn t l || eqb (c .type) t
+unfolding typeIn
+type-snoc t [] c = or-false (eqb (c .type) t)
+type-snoc t (x ∷ l) c = rw (type-snoc t l c) (sym (or-assoc (eqb (x .type) t) (typeIn t l) (eqb (c .type) t)))
+
+rules-flags : (rs : List Ref) (all : List Chunk) (earlier : List Chunk) (at : ℕ) (cs : List Chunk)
+    → chunkRules rs all earlier at cs ≡ rulesFrom (λ n. picture n all rs) (typeIn RelN earlier) (typeIn Fspc earlier) at cs
+unfolding chunkRules rulesFrom chunkRule oneRule single
+rules-flags rs all earlier at [] = refl
+rules-flags rs all earlier at (c ∷ cs) =
+    let ih : chunkRules rs all (earlier ++ (c ∷ [])) (at + size c) cs
+    ≡ rulesFrom (λ n. picture n all rs) (typeIn RelN earlier || eqb (c .type) RelN) (typeIn Fspc earlier || eqb (c .type) Fspc) (at + size c) cs
+    = rules-flags rs all (earlier ++ (c ∷ [])) (at + size c) cs
+    ∙ ap (λ (b : Bool). rulesFrom (λ n. picture n all rs) b (typeIn Fspc (earlier ++ (c ∷ []))) (at + size c) cs) (type-snoc RelN earlier c)
+    ∙ ap (λ (b : Bool). rulesFrom (λ n. picture n all rs) (typeIn RelN earlier || eqb (c .type) RelN) b (at + size c) cs) (type-snoc Fspc earlier c) in
+    ap (λ (v : Verdict). chunkRule rs all earlier at c then v) ih
+
+pub optional-is : (f : List ℕ) (count : ℕ) → walkFrom f (place count) ≡ accept → entriesFrom f (place count) 0 count ≡ accept
+    → optional (place count) (map (refOf (place count) (chunksFrom f (place count))) (entriesIn count (drop 24 f))) (chunksFrom f (place count)) ≡ optionalFault f count
+unfolding optional optionalFault entriesFrom pictured typeIn earlier
+optional-is f count w h =
+    rules-flags _ _ [] (place count) (chunksFrom f (place count))
+    ∙ ap (λ (p : ℕ → Bool). rulesFrom p false false (place count) (chunksFrom f (place count)))
+    (λ i n. picture-hit f (place count) w n (entriesIn count (drop 24 f)) [] 24 h i)
+
+-- one chunk of rule 7, by facts on its numbers
+module _ (pic : ℕ → Bool) (f : List ℕ) (a b : Bool) (at t m : ℕ) (h : at < length f) (w : walkFrom f at ≡ accept) (et : t ≡ rd32 (drop at f)) (em : m ≡ rd32 (drop (at + 4) f)) where
+  lm : length (chunkFrom f at .body) ≡ m
+  lm = fine f at h w .bodied ∙ sym em
+
+  by-type : oneRule pic a b at (chunkFrom f at)
+      ≡ cond (eqb t RelN) (check (not a) 17 at then check (eqb m 2) 18 (at + 4))
+      (cond (eqb t Fspc) ((check (not b) 17 at then check (eqb m 4) 18 (at + 4)) then check (pic (rd32 (chunkFrom f at .body))) 19 (at + 8)) accept)
+  unfolding oneRule chunkIn
+  by-type = rw (lm, ← et)
+
+  pub rule-none : (t ≡ RelN → ⊥) → (t ≡ Fspc → ⊥) → accept ≡ oneRule pic a b at (chunkFrom f at)
+  rule-none n1 n2 = sym (by-type ∙ rw (ne-eqb t RelN n1, ne-eqb t Fspc n2))
+
+  module _ (e : t ≡ RelN) where
+    pub reln-17 : a ≡ true → refuse 17 at ≡ oneRule pic a b at (chunkFrom f at)
+    reln-17 p = sym (by-type ∙ rw (eq-eqb t RelN e) (stop _ _ _ _ (rw p)))
+
+    pub reln-18 : a ≡ false → (m ≡ 2 → ⊥) → refuse 18 (at + 4) ≡ oneRule pic a b at (chunkFrom f at)
+    reln-18 p n = sym (by-type ∙ rw (eq-eqb t RelN e) (pass _ _ _ _ (rw p) ∙ fails-last _ _ _ (ne-eqb m 2 n)))
+
+    pub reln-good : a ≡ false → m ≡ 2 → accept ≡ oneRule pic a b at (chunkFrom f at)
+    reln-good p n = sym (by-type ∙ rw (eq-eqb t RelN e) (pass _ _ _ _ (rw p) ∙ holds-last _ _ _ (eq-eqb m 2 n)))
+
+  module _ (n1 : t ≡ RelN → ⊥) (e : t ≡ Fspc) where
+    fspc : oneRule pic a b at (chunkFrom f at) ≡ check (not b) 17 at then (check (eqb m 4) 18 (at + 4) then check (pic (rd32 (chunkFrom f at .body))) 19 (at + 8))
+    fspc = by-type ∙ rw (ne-eqb t RelN n1, eq-eqb t Fspc e) (then-assoc _ _ _)
+
+    pub fspc-17 : b ≡ true → refuse 17 at ≡ oneRule pic a b at (chunkFrom f at)
+    fspc-17 p = sym (fspc ∙ stop _ _ _ _ (rw p))
+
+    pub fspc-18 : b ≡ false → (m ≡ 4 → ⊥) → refuse 18 (at + 4) ≡ oneRule pic a b at (chunkFrom f at)
+    fspc-18 p n = sym (fspc ∙ pass _ _ _ _ (rw p) ∙ stop _ _ _ _ (ne-eqb m 4 n))
+
+    module _ (p : b ≡ false) (four : m ≡ 4) (n : ℕ) (en : n ≡ rd32 (drop (at + 8) f)) where
+      number : rd32 (chunkFrom f at .body) ≡ n
+      number = body-word f at (omega arith) ∙ sym en
+
+      pub fspc-19 : pic n ≡ false → refuse 19 (at + 8) ≡ oneRule pic a b at (chunkFrom f at)
+      fspc-19 q = sym (fspc ∙ pass _ _ _ _ (rw p) ∙ pass _ _ _ _ (eq-eqb m 4 four) ∙ fails-last _ _ _ (ap pic number ∙ q))
+
+      pub fspc-good : pic n ≡ true → accept ≡ oneRule pic a b at (chunkFrom f at)
+      fspc-good q = sym (fspc ∙ pass _ _ _ _ (rw p) ∙ pass _ _ _ _ (eq-eqb m 4 four) ∙ holds-last _ _ _ (ap pic number ∙ q))
+
+-- the picture by the lookup's answer
+module _ (f : List ℕ) (count n : ℕ) where
+  pub picture-none : hitIn Pict n (entriesIn count (drop 24 f)) ≡ Nothing → pictured f count n ≡ false
+  unfolding pictured
+  picture-none e = rw e
+
+  module _ (x t : ℕ) (e : hitIn Pict n (entriesIn count (drop 24 f)) ≡ At x) (et : t ≡ rd32 (drop x f)) where
+    pub picture-rect : t ≡ Rect → pictured f count n ≡ false
+    unfolding pictured
+    picture-rect q = rw (e, ← et, q)
+
+    pub picture-there : (t ≡ Rect → ⊥) → pictured f count n ≡ true
+    unfolding pictured
+    picture-there q = rw (e, ← et, ne-eqb t Rect q)
+
+-- the loop over the optional chunks
+module _ (pic : ℕ → Bool) (f : List ℕ) (a b : Bool) (at : ℕ) where
+  pub rules-end : length f ≤ at → rulesFrom pic a b at (chunksFrom f at) ≡ accept
+  unfolding rulesFrom
+  rules-end h = rw (chunks-end f at h)
+
+  module _ (h : at < length f) (w : walkFrom f at ≡ accept) where
+    turn : rulesFrom pic a b at (chunksFrom f at) ≡ oneRule pic a b at (chunkFrom f at) then rulesFrom pic (a || eqb (rd32 (drop at f)) RelN) (b || eqb (rd32 (drop at f)) Fspc) (skipAt f at) (chunksFrom f (skipAt f at))
+    unfolding rulesFrom chunkIn
+    turn = let i = fine f at h w in rw (i .chunks, i .next)
+
+    pub rules-next : (t : ℕ) → t ≡ rd32 (drop at f) → oneRule pic a b at (chunkFrom f at) ≡ accept
+        → rulesFrom pic (a || eqb t RelN) (b || eqb t Fspc) (skipAt f at) (chunksFrom f (skipAt f at)) ≡ rulesFrom pic a b at (chunksFrom f at)
+    rules-next t et e = rw et (sym (turn ∙ accepts _ _ e))
+
+    pub rules-stop : (k p : ℕ) → oneRule pic a b at (chunkFrom f at) ≡ refuse k p → refuse k p ≡ rulesFrom pic a b at (chunksFrom f at)
+    rules-stop k p e = sym (turn ∙ refuses _ _ _ _ e)
+
+-- where no chunk is optional
+pub ordinary-rules : (pic : ℕ → Bool) (cs : List Chunk) (a b : Bool) (at : ℕ) → allOrdinary cs ≡ true → rulesFrom pic a b at cs ≡ accept
+unfolding allOrdinary rulesFrom oneRule
+ordinary-rules pic [] a b at e = refl
+ordinary-rules pic (c ∷ cs) a b at e =
+    let q = and-both (ordinaryType (c .type)) (allOrdinary cs) e in
+    let n = ordinary-not (c .type) (q .0) in
+    rw (n .1, n .2) (accepts _ _ refl ∙ ordinary-rules pic cs (a || false) (b || false) (at + size c) (q .1))
+
+pub ordinary-optional : (f : List ℕ) (count : ℕ) → allOrdinary (chunksFrom f (place count)) ≡ true → optionalFault f count ≡ accept
+unfolding optionalFault
+ordinary-optional f count e = ordinary-rules (pictured f count) (chunksFrom f (place count)) false false (place count) e
