@@ -21,6 +21,11 @@
  *   - Buffers that a call may write (no const) overlap no other buffer of the same call.
  *   - `usage` and `type` point at four bytes, such as "Pict" or "TEXT". No closing zero is needed.
  *
+ * Every call judges the whole file first, each time: in one pass where the entries stand in the order of their chunks with rising
+ * numbers; where they do not, the time grows with the square of their number. To go through an index, call blorb_read once: in an
+ * accepted file entry i stands at 24 + BLORB_ENTRY_SIZE * i, as usage, number and start of its chunk, each of four bytes, the first
+ * one highest.
+ *
  * Answers come back by value, so there is no result area that could be too small. Each call below lists its refusals in the order
  * in which they are looked for. The archive needs nothing but memmove and memset.
  */

@@ -30,13 +30,13 @@ entry entry_at(const uint8_t *file, size_t i)
 /* A refusal of an entry names it, and its chunk's type where that is the reason. */
 static int refused_contents(const contents *c, const char *shown)
 {
-    char about[120] = "", usage[SHOWN_SIZE], type[SHOWN_SIZE];
+    char about[120] = "", pair[PAIR_SIZE], type[SHOWN_SIZE];
     uint64_t number = c->read.refusal;
     if (number >= BLORB_USAGE && number <= BLORB_REPEATED) {
         size_t i = (size_t)(c->read.place - FIRST_ENTRY) / BLORB_ENTRY_SIZE;
         entry e = entry_at(c->file, i);
-        show_tag(e.usage, usage);
-        int n = snprintf(about, sizeof about, "entry %zu, %s %" PRIu32 ", start %" PRIu32, i, usage, e.number, e.start);
+        show_pair(e.usage, e.number, pair);
+        int n = snprintf(about, sizeof about, "entry %zu, %s, start %" PRIu32, i, pair, e.start);
         if (number == BLORB_TYPE) {
             show_tag((const char *)c->file + e.start, type);
             snprintf(about + n, sizeof about - (size_t)n, ", chunk %s", type);

@@ -6,6 +6,7 @@
 #include <limits.h>
 #include <stdio.h>
 #include <stdlib.h>
+#include <string.h>
 #include <unistd.h>
 
 #include "blorb.h"
@@ -45,13 +46,13 @@ static blorb_edit_answer call_undo(const request *r, contents *c, journal *j, si
 
 static int refused_edit(const request *r, const blorb_edit_answer *a)
 {
-    char about[80] = "", usage[SHOWN_SIZE], type[SHOWN_SIZE];
-    show_tag(r->usage, usage);
+    char about[80] = "", pair[PAIR_SIZE], type[SHOWN_SIZE];
+    show_pair(r->usage, r->number, pair);
     show_tag(r->type, type);
     if (r->data != NULL)
-        snprintf(about, sizeof about, "%s %" PRIu32 " %s", usage, r->number, type);
+        snprintf(about, sizeof about, "%s %s", pair, type);
     else if (r->usage[0] != '\0')
-        snprintf(about, sizeof about, "%s %" PRIu32, usage, r->number);
+        snprintf(about, sizeof about, "%s", pair);
     return say_refused(r->file, a->refusal, a->place, about);
 }
 
@@ -104,7 +105,10 @@ static int load_to_edit(const request *r, const place *p, contents *c)
     struct stat status;
     if (fstatat(p->folder, p->name, &status, 0) == 0 && !S_ISREG(status.st_mode))
         return say_cannot(r->file, "this is not a plain file", "Copy what it holds to a plain file and edit that.");
-    return load_contents(c, r->file, openat(p->folder, p->name, O_RDWR | O_CLOEXEC));
+    int fd = openat(p->folder, p->name, O_RDWR | O_CLOEXEC);
+    if (fd < 0 && errno == ENOENT)
+        return say_cannot(r->file, "there is no such file", "Check the name; `blorb new` makes a file with no resources.");
+    return load_contents(c, r->file, fd);
 }
 
 static int edit(const request *r, call *carry_out, const data *d)
@@ -155,15 +159,25 @@ static int is_there(const place *p, const char *name)
     return fstatat(p->folder, name, &status, AT_SYMLINK_NOFOLLOW) == 0;
 }
 
+/* A file that no edit could be made to is of no use. Sets errno where not. */
+static int has_room_for_names(const place *p)
+{
+    long longest = fpathconf(p->folder, _PC_NAME_MAX);
+    errno = ENAMETOOLONG;
+    return longest < 0 || strlen(p->undo_temp) <= (size_t)longest;
+}
+
 /* No file is overwritten, and no journal of an older file of this name is taken for the new one's. */
 static int make_new(const request *r, const place *p)
 {
     const char *advice = "Move it away or delete it first, or give another name.";
     uint8_t blank[BLORB_BLANK_SIZE];
     if (is_there(p, p->name))
-        return say_cannot(r->file, "there is a file of this name", advice);
+        return say_cannot(r->file, "this name is taken", advice);
     if (is_there(p, p->undo))
         return say_cannot(p->undo_path, "the journal of an older file of this name is still there", advice);
+    if (!has_room_for_names(p))
+        return say_failed(r->file, "edits would find no name for the journal");
     blorb_edit_answer a = blorb_blank(blank, sizeof blank);
     return say_stored(r->file, make_file(p, blank, (size_t)a.length), "the file cannot be written");
 }

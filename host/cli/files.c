@@ -44,6 +44,18 @@ static char *resolved(const char *path)
     return whole;
 }
 
+int is_undo_of(const char *path, const char *file)
+{
+    char *one = resolved(path);
+    char *other = resolved(file);
+    char *undo = other == NULL ? NULL : joined(other, ".undo");
+    int same = one != NULL && undo != NULL && strcmp(one, undo) == 0;
+    free(one);
+    free(other);
+    free(undo);
+    return same;
+}
+
 static int set_names(place *p, const char *path)
 {
     const char *name = strrchr(path, '/') + 1;

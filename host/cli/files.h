@@ -25,6 +25,9 @@ typedef struct place {
 int open_place(place *p, const char *path);
 void close_place(place *p);
 
+/* Whether `path` is where the journal of `file` lies, or would lie. */
+int is_undo_of(const char *path, const char *file);
+
 /* Reads until the end of the file, but no more than `limit` bytes. */
 int read_all(int fd, uint8_t *to, size_t limit, size_t *length);
 

@@ -38,8 +38,8 @@ static void print_help(void)
     puts("blorb: look into Blorb files, and change them with undo\n");
     for (int i = 0; i < COMMANDS; i++)
         printf("  blorb %s\n      %s\n", commands[i].usage, commands[i].help);
-    puts("\nUSAGE is Pict, Snd, Data or Exec; NUMBER is 0 to 4294967295; TYPE is four letters such as JPEG or TEXT. Spaces at\n"
-         "the end of a usage or type can be left out: Snd, PNG, MOD. An AIFF sound has the type FORM.\n"
+    puts("\nUSAGE is Pict, Snd, Data or Exec; NUMBER is 0 to 4294967295; TYPE is four letters. Spaces at the end of a usage\n"
+         "or type can be left out: Snd, PNG, MOD.\n  " TYPES "\n"
          "What undo needs is kept beside the file, in FILE.undo. Delete it to give up undoing.\n"
          "Exit status: 0 done; 1 the library refused, with its number, place and reason; 2 wrong use, or the system failed.");
 }
@@ -170,6 +170,6 @@ int main(int count, char **words)
     signal(SIGXFSZ, SIG_IGN);
     int status = run(count > 0 ? count - 1 : 0, words + 1);
     if (close_output() != 0)
-        return say_failed("standard output", "the text cannot be written");
+        return say_output_failed("the text cannot be written");
     return status;
 }

@@ -11,6 +11,7 @@
 #include "commands.h"
 #include "contents.h"
 #include "files.h"
+#include "undo_file.h"
 #include "words.h"
 
 static int open_to_read(const char *path)
@@ -56,7 +57,19 @@ int run_list(const request *r)
 static int put_on_output(const uint8_t *from, size_t length)
 {
     int done = write_all(STDOUT_FILENO, from, length);
-    return done == 0 ? CARRIED_OUT : say_failed("standard output", "the data cannot be written");
+    return done == 0 ? CARRIED_OUT : say_output_failed("the data cannot be written");
+}
+
+/* FILE's own, also where there is none yet: what else stands in its place keeps every edit from FILE. Or any other's. */
+static int is_for_journal(const request *r, int is_plain)
+{
+    if (is_undo_of(r->out, r->file))
+        return 1;
+    int fd = is_plain ? open_to_read(r->out) : -1;
+    int found = fd >= 0 && is_journal(fd);
+    if (fd >= 0)
+        close(fd);
+    return found;
 }
 
 /* Devices and pipes are written to as they are; only a plain file can be replaced by a new one. */
@@ -80,13 +93,19 @@ static int put_in_file(const char *path, const struct stat *old, const uint8_t *
 
 static int put(const request *r, const contents *c, const uint8_t *from, size_t length)
 {
+    const char *advice = "Give another name after -o.";
     struct stat old;
     if (r->out == NULL || strcmp(r->out, "-") == 0)
         return put_on_output(from, length);
-    if (stat(r->out, &old) != 0)
-        return errno == ENOENT ? put_in_file(r->out, NULL, from, length) : say_failed(r->out, "the file cannot be reached");
+    int missing = stat(r->out, &old) != 0;
+    if (missing && errno != ENOENT)
+        return say_failed(r->out, "the file cannot be reached");
+    if (is_for_journal(r, !missing && S_ISREG(old.st_mode)))
+        return say_cannot(r->out, "the data would stand in the place of a journal", advice);
+    if (missing)
+        return put_in_file(r->out, NULL, from, length);
     if (old.st_dev == c->status.st_dev && old.st_ino == c->status.st_ino)
-        return say_cannot(r->out, "the data would overwrite the Blorb file itself", "Give another name after -o.");
+        return say_cannot(r->out, "the data would overwrite the Blorb file itself", advice);
     if (!S_ISREG(old.st_mode))
         return put_in_device(r->out, from, length);
     if (access(r->out, W_OK) != 0)
@@ -102,8 +121,10 @@ int run_get(const request *r)
         blorb_lookup_answer found = blorb_lookup(c.file, c.length, r->usage, r->number);
         /* An AIFF sound is a FORM chunk with its header: that is what makes it a file again. */
         size_t head = found.type == BLORB_TAG('F', 'O', 'R', 'M') ? BLORB_HEADER_SIZE : 0;
+        char pair[PAIR_SIZE];
+        show_pair(r->usage, r->number, pair);
         if (found.refusal != BLORB_DONE)
-            status = say_refused(r->file, found.refusal, found.place, "");
+            status = say_refused(r->file, found.refusal, found.place, pair);
         else
             status = put(r, &c, c.file + found.start - head, (size_t)found.length + head);
     }

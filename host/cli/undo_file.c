@@ -88,6 +88,15 @@ static journal_answer judge(const uint8_t *bytes, size_t size, file_state *prese
     return JOURNAL_READY;
 }
 
+int is_journal(int fd)
+{
+    struct stat status;
+    uint8_t name[NAME_SIZE];
+    size_t length;
+    return fstat(fd, &status) == 0 && S_ISREG(status.st_mode) && read_all(fd, name, NAME_SIZE, &length) == 0
+        && length == NAME_SIZE && memcmp(name, format_name, NAME_SIZE) == 0;
+}
+
 static journal_answer load_open(int fd, file_state *present, journal *j)
 {
     struct stat status;
@@ -143,20 +152,20 @@ in_place store_pair(const place *p, const struct stat *like, const uint8_t *new_
     if (done == 0)
         done = stage(p, p->temp, new_file, (size_t)after->length, like);
     /* The journal, which knows both files, must be there before the new file is, also after a power loss. */
-    if (done == 0)
-        done = install(p, p->undo_temp, p->undo);
-    if (done == 0)
-        done = confirm(p);
+    int known = done == 0 && install(p, p->undo_temp, p->undo) == 0;
+    done = known ? confirm(p) : -1;
     if (done == 0)
         done = install(p, p->temp, p->name);
+    /* With nothing to undo, no journal says the same and does not go stale. */
     if (done != 0) {
         discard(p, p->temp);
         discard(p, p->undo_temp);
+        if (known && before->used == 0)
+            discard(p, p->undo);
         return OLD_IN_PLACE;
     }
     if (confirm(p) != 0)
         return NEW_UNCONFIRMED;
-    /* With nothing left to undo, no journal says the same and does not go stale. */
     if (after->used == 0)
         discard(p, p->undo);
     return NEW_IN_PLACE;

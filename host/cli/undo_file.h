@@ -46,6 +46,9 @@ file_state state_of(const uint8_t *file, size_t length, size_t used);
  */
 journal_answer load_journal(const place *p, file_state *present, journal *j);
 
+/* Whether an open file begins as a journal does. */
+int is_journal(int fd);
+
 /* Puts `new_file` and the journal in the place of the old pair. */
 in_place store_pair(const place *p, const struct stat *like, const uint8_t *new_file, journal *j, const file_state *before,
                     const file_state *after);

@@ -16,18 +16,14 @@ typedef struct meaning {
 #define PACK_AGAIN "Pack the file again with a program that writes it rightly."
 #define GET_AGAIN "It was probably cut short on its way: get it again."
 #define SEE_LIST "`blorb list` shows what the file has."
-#define TYPES \
-    "Pict takes PNG, JPEG, or Rect with 8 bytes; Snd takes OGGV, MOD, SONG, or FORM with a whole AIFF file whose\n" \
-    "  FORM length is its own length less 8; Data takes TEXT or BINA; Exec takes ZCOD, GLUL, TAD2, TAD3, HUGO, ALAN,\n" \
-    "  ADRI, LEVE, AGT, MAGS, ADVS or EXEC."
-
 static const meaning meanings[] = {
     {BLORB_TOO_LONG, "the file is longer than 16,777,216 bytes", "Pack it again with fewer or smaller resources."},
     {BLORB_TOO_SHORT, "the file has fewer than 12 bytes", GET_AGAIN},
     {BLORB_NO_FORM, "the file does not begin with 'FORM', so it is no Blorb file", "Check the file's name."},
     {BLORB_NO_IFRS, "the file's form type is not 'IFRS', so it is no Blorb file", "Check the file's name."},
-    {BLORB_FORM_LENGTH, "the FORM length is not the file's length less 8", GET_AGAIN},
-    {BLORB_CHUNK_CUT, "a chunk runs past the end of the file", GET_AGAIN},
+    {BLORB_FORM_LENGTH, "the FORM length is not the file's length less 8",
+     "It was probably cut short on its way, or something was put behind it: get it again."},
+    {BLORB_CHUNK_CUT, "a chunk runs past the end of the file", PACK_AGAIN},
     {BLORB_PADDING, "the padding byte behind a chunk of odd length is not zero", "Set it to zero, or pack the file again."},
     {BLORB_NO_INDEX, "the first chunk is not the index 'RIdx'", PACK_AGAIN},
     {BLORB_SECOND_INDEX, "there is a second index 'RIdx'", PACK_AGAIN},
@@ -48,7 +44,8 @@ static const meaning meanings[] = {
      "Remove this resource and add it again: the other one keeps the old data."},
     {BLORB_FILE_ROOM, "there is no room for the file", NULL},
     {BLORB_JOURNAL_ROOM, "there is no room in the journal", NULL},
-    {BLORB_NOTHING_TO_UNDO, "there is nothing to undo", NULL},
+    {BLORB_NOTHING_TO_UNDO, "there is nothing to undo",
+     "Past edits are kept in FILE.undo. If FILE was moved or renamed, move that along under the same new name."},
     {BLORB_RESULT_TOO_LONG, "the file would be longer than 16,777,216 bytes",
      "Use smaller data, or remove another resource first."},
     {BLORB_RESULT_SECOND_INDEX, "a resource may not have the index's type 'RIdx'", TYPES},
@@ -75,6 +72,13 @@ void show_tag(const char tag[4], char shown[SHOWN_SIZE])
     }
     shown[n++] = '\'';
     shown[n] = '\0';
+}
+
+void show_pair(const char usage[4], uint32_t number, char shown[PAIR_SIZE])
+{
+    char tag[SHOWN_SIZE];
+    show_tag(usage, tag);
+    snprintf(shown, PAIR_SIZE, "%s %" PRIu32, tag, number);
 }
 
 void say_safely(const char *text)
@@ -129,13 +133,26 @@ static const char *advice_for(int error)
     }
 }
 
+static int say_error(const char *file, const char *what, int error, const char *advice)
+{
+    say_file(file);
+    fprintf(stderr, ": %s: %s.\n", what, strerror(error));
+    say_advice(advice);
+    return FAILED;
+}
+
 int say_failed(const char *file, const char *what)
 {
     int error = errno;
-    say_file(file);
-    fprintf(stderr, ": %s: %s.\n", what, strerror(error));
-    say_advice(advice_for(error));
-    return FAILED;
+    return say_error(file, what, error, advice_for(error));
+}
+
+int say_output_failed(const char *what)
+{
+    int error = errno;
+    int full = error == ENOSPC || error == EDQUOT || error == EFBIG;
+    return say_error("standard output", what, error,
+                     full ? advice_for(error) : "Send standard output to a file, or to a program that reads it to its end.");
 }
 
 int say_stored(const char *file, in_place answer, const char *old)

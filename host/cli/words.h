@@ -10,11 +10,22 @@
 enum { CARRIED_OUT = 0, REFUSED = 1, FAILED = 2 };
 
 /* What to do about a journal that cannot be used. */
-#define OTHER_JOURNAL "Put back the file that the journal belongs to, or move the journal away to begin a new one."
+#define OTHER_JOURNAL \
+    "Put back the file that the journal belongs to, or the journal from a copy; or move the journal away to begin a new one."
+
+/* Rule 5 of 01 for those who add and replace. */
+#define TYPES \
+    "Pict takes PNG, JPEG, or Rect with 8 bytes; Snd takes OGGV, MOD, SONG, or FORM with a whole AIFF file whose\n" \
+    "  FORM length is its own length less 8; Data takes TEXT or BINA; Exec takes ZCOD, GLUL, TAD2, TAD3, HUGO, ALAN,\n" \
+    "  ADRI, LEVE, AGT, MAGS, ADVS or EXEC."
 
 /* Four bytes shown safely: quoted, bytes that are not printable as \xHH. */
 enum { SHOWN_SIZE = 19 };
 void show_tag(const char tag[4], char shown[SHOWN_SIZE]);
+
+/* A resource's usage and number for a message. */
+enum { PAIR_SIZE = SHOWN_SIZE + 11 };
+void show_pair(const char usage[4], uint32_t number, char shown[PAIR_SIZE]);
 
 /* Prints text from outside to standard error, control characters as '?'. */
 void say_safely(const char *text);
@@ -24,6 +35,9 @@ int say_refused(const char *file, uint64_t number, uint64_t place, const char *a
 
 /* A failure that errno describes. Gives FAILED. */
 int say_failed(const char *file, const char *what);
+
+/* The same of standard output. */
+int say_output_failed(const char *what);
 
 /* What came of writing a file; `old` says it where no new one is in place. Gives CARRIED_OUT or FAILED. */
 int say_stored(const char *file, in_place answer, const char *old);

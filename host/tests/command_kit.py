@@ -60,12 +60,32 @@ def done(*words, **more):
     return result.out
 
 
+# By 01's number: what the sentence speaks of, and what the advice does.
+SAID = {
+    1: ("longer than 16,777,216 bytes", "fewer or smaller"), 2: ("fewer than 12 bytes", "cut short"),
+    3: ("begin with 'FORM'", "name"), 4: ("form type is not 'IFRS'", "name"), 5: ("FORM length", "put behind it"),
+    6: ("past the end", "Pack"), 7: ("padding", "zero"), 8: ("first chunk", "Pack"), 9: ("second index", "Pack"),
+    10: ("length of the index", "Pack"), 11: ("4,096 entries", "fewer resources"), 12: ("usage of an entry", "Pack"),
+    13: ("begins where", "Pack"), 14: ("does not suit the usage of its entry", "Rect with 8 bytes"),
+    15: ("number other than 0", "Pack"), 16: ("same usage and number", "Pack"), 17: ("second 'RelN' or 'Fspc'", "Pack"),
+    18: ("not 2 bytes long", "Pack"), 19: ("not in the index or is a Rect", "Pack"), 21: ("cannot be undone", "journal"),
+    22: ("no such resource", "blorb list"), 23: ("shares the chunk", "add it again"), 26: ("nothing to undo", "FILE.undo"),
+    101: ("would be longer", "smaller data"), 109: ("index's type 'RIdx'", "Pict takes"), 111: ("would have more", "Remove"),
+    112: ("no such usage", "Pict, Snd, Data or Exec"), 114: ("does not suit the usage", "Pict takes"),
+    115: ("number 0 and no other", "number 0"), 116: ("has a resource with this", "blorb replace"),
+    119: ("names this picture", "PNG or JPEG"),
+}
+
+
 def refused(number, place, *words, **more):
-    """Runs it where the library must refuse; the first line of standard error says so in full."""
+    """Runs it where the library must refuse: standard error says in one line which rule is broken and where, then what to do."""
     result = run(*words, **more)
     same(result.status, 1, f"{words} must be refused with {number}: {result}")
-    pattern = rf"blorb: [^\n]*: refused {number} at {place}: [a-z][^\n]+\.\n"
-    expect(re.match(pattern, result.err), f"{words}: wanted refused {number} at {place}, got {result.err}")
+    line, _, advice = result.err.partition("\n")
+    expect(re.fullmatch(rf"blorb: .*: refused {number} at {place}: [a-z].+\.", line),
+           f"{words}: wanted refused {number} at {place}, got {result.err}")
+    about, what_to_do = SAID[number]
+    expect(about in line and advice.startswith("  ") and what_to_do in advice, f"{words}: what is said of {number}: {result.err}")
     return result
 
 

@@ -132,6 +132,9 @@ def refused_files(work):
         same(refused(*verdict[1:], "list", file).out, listing(wrong), "list of a refused file")
         text = refused(*verdict[1:], "check", file).err
         expect(all(c == "\n" or " " <= c <= "~" for c in text), f"only printable text: {text!r}")
+        if 12 <= number <= 16:
+            i, usage = (verdict[2] - 24) // 12, {12: "'D\\x1b[m' 7", 15: "'Exec' 1"}.get(number, "'Data' 7")
+            expect(f": entry {i}, {usage}, start " in text, f"the entry is named: {text}")
         refused(*verdict[1:], "get", file, "Data", "7", "-o", work / "out")
         refused(*verdict[1:], "add", file, "Data", "8", "TEXT", "-", stdin=b"new")
         refused(*verdict[1:], "replace", file, "Data", "7", "TEXT", "-", stdin=b"new")
@@ -158,6 +161,7 @@ def refused_edits(work):
         text = refused(number, place, words[0], file, *words[1:], stdin=b"new").err
         expect(all(c == "\n" or " " <= c <= "~" for c in text), f"only printable text: {text!r}")
         same(contents(work), held, f"{words} refused, nothing changed")
+    expect("'Data' 4." in refused(22, 0, "get", file, "Data", "4").err, "what is not there is named")
     full = blorb([(b"Data", i, 0) for i in range(4096)], [(b"TEXT", b"")])
     file.write_bytes(full)
     refused(111, 20, "add", file, "Data", "5000", "TEXT", "-")
@@ -274,6 +278,7 @@ def new_and_names(work):
     file = work / "game.blb"
     done("new", file)
     failed("new", file, saying="Move it away")
+    failed("new", work, saying="taken")
     (work / "link").symlink_to(work / "nowhere")
     failed("new", work / "link")
     done("add", file, "Data", "7", "TEXT", "-", stdin=b"eel")
@@ -283,7 +288,8 @@ def new_and_names(work):
     expect(not file.exists() and (work / "game.blb.undo").read_bytes() == journal, "an older journal is neither used nor lost")
     expect(str(work.resolve() / "game.blb.undo") in failed("new", file).err, "a journal is named with its folder")
     failed("new", work / "no" / "game.blb")
-    failed("add", work / "none.blb", "Data", "7", "TEXT", "-", saying="Check the name")
+    failed("add", work / "none.blb", "Data", "7", "TEXT", "-", saying="blorb new")
+    failed("list", work / "none.blb", saying="Check the name")
     failed("add", work, "Data", "7", "TEXT", "-", saying="plain file")
     failed("list", work)
     os.mkfifo(work / "pipe")
@@ -298,17 +304,35 @@ def new_and_names(work):
         failed("add", other, "Data", "7", "TEXT", "-", saying="Move away")
         (work / name).rmdir()
     same(other.read_bytes(), BLANK, "a folder of a temporary file's name")
-    long = work / ("n" * 241)
-    done("new", long)
+    long = work / ("n" * 240)
+    failed("new", long, saying="shorter name")
+    long.write_bytes(BLANK)
     failed("add", long, "Data", "7", "TEXT", "-", saying="shorter name")
     same(long.read_bytes(), BLANK, "a name too long for a journal's")
+    done("new", work / ("n" * 239))
+    done("add", work / ("n" * 239), "Data", "7", "TEXT", "-")
+
+
+def no_journal_covered(work):
+    """What `get -o` writes never takes a journal's place: its file could neither be edited nor undone."""
+    file, copy = work / "game.blb", work / "copy"
+    done("new", file)
+    done("add", file, "Data", "7", "TEXT", "-", stdin=b"eel")
+    shutil.copy(work / "game.blb.undo", copy)
+    (work / "link").symlink_to("game.blb.undo")
+    held = contents(work)
+    for name in ("game.blb.undo", "link", "copy"):
+        intact(work, held, "get", file, "Data", "7", "-o", work / name, saying="another name")
+    for name in ("game.blb.undo", "link", "copy"):
+        (work / name).unlink()
+    intact(work, {"game.blb": SAMPLE_A}, "get", file, "Data", "7", "-o", work / "game.blb.undo", saying="another name")
 
 
 def links_and_permissions(work):
     (work / "real").mkdir()
     real, link = work / "real" / "game.blb", work / "link.blb"
     done("new", real)
-    os.chmod(real, 0o640)
+    os.chmod(real, 0o750)
     if os.getuid() == 0:
         os.chown(real, NOBODY, NOBODY)
     link.symlink_to("real/game.blb")
@@ -317,7 +341,7 @@ def links_and_permissions(work):
     same(sorted(contents(work / "real")), ["game.blb", "game.blb.undo"], "the journal lies beside the real file")
     for name in ("game.blb", "game.blb.undo"):
         status = (work / "real" / name).stat()
-        same(stat.S_IMODE(status.st_mode), 0o640, f"permissions of {name}")
+        same(stat.S_IMODE(status.st_mode), 0o750, f"permissions of {name}")
         expect(os.getuid() != 0 or (status.st_uid, status.st_gid) == (NOBODY, NOBODY), f"owner of {name}")
     done("undo", real)
     same(real.read_bytes(), BLANK, "undo by the other name")
@@ -332,6 +356,20 @@ def links_and_permissions(work):
     same(real.read_bytes(), SAMPLE_A, "get does not overwrite its own file")
 
 
+def full_device(work, file):
+    """A device of our own that is always full: a wrong program could replace the machine's by a plain file."""
+    device = work / "full"
+    try:
+        os.mknod(device, 0o666 | stat.S_IFCHR, os.makedev(1, 7))
+        os.close(os.open(device, os.O_WRONLY))
+    except OSError:
+        print("  not run: get -o into a full device (no right to make one); a pipe stands for it")
+    else:
+        failed("get", file, "Data", "7", "-o", device, saying="Make room")
+        expect(stat.S_ISCHR(device.stat().st_mode), "a device is written to, not replaced")
+    device.unlink(missing_ok=True)
+
+
 def outputs(work):
     """Where standard output or OUT takes nothing."""
     file = work / "game.blb"
@@ -340,13 +378,21 @@ def outputs(work):
         for words in (("list", file), ("check", file), ("get", file, "Data", "7"), ("--help",), ("list", "--help")):
             result = run(*words, stdout=full)
             expect(result.status == 2 and "Make room" in result.err, f"{words} on a full device: {result}")
-    failed("get", file, "Data", "7", "-o", "/dev/full", saying="Make room")
-    expect(stat.S_ISCHR(os.stat("/dev/full").st_mode), "a device is written to, not replaced")
+    pipe = work / "pipe"
+    os.mkfifo(pipe)
+    reader = subprocess.Popen(["cat", pipe], stdout=subprocess.PIPE)
+    done("get", file, "Data", "7", "-o", pipe)
+    kept = stat.S_ISFIFO(pipe.stat().st_mode)
+    if not kept:
+        reader.kill()    # nobody would ever write to it
+    same((reader.communicate()[0], kept), (b"eel", True), "a pipe is written to, not replaced")
+    pipe.unlink()
+    full_device(work, file)
     same(done("get", file, "Data", "7", "-o", "-", cwd=work), b"eel", "get -o - writes to standard output")
     failed("get", file, "Data", "7", "-o", work / "no" / "out")
     failed("get", file, "Data", "7", "-o", work)
     result = run("get", file, "Data", "7", preexec_fn=lambda: os.close(1))
-    expect(result.status == 2 and "standard output" in result.err, f"standard output is closed: {result}")
+    expect(result.status == 2 and "Send standard output" in result.err, f"standard output is closed: {result}")
     same(run("undo", file, preexec_fn=lambda: os.closerange(0, 3)).status, 1, "all three are closed")
     failed("add", file, "Data", "8", "TEXT", "-", preexec_fn=lambda: os.close(0), saying="standard input")
     same(contents(work), {"game.blb": SAMPLE_A}, "nothing is left behind")
@@ -429,6 +475,30 @@ def permissions(work):
     same(contents(folder), held, "nothing changed in a closed folder")
 
 
+def other_groups(work):
+    """Without its group the group's permissions go to nobody; a failure at the last step leaves no journal behind."""
+    if os.getuid() != 0:
+        print("  not run: files of other groups and users (only root can make them)")
+        return
+    user = {"program": shutil.copy(PROGRAM, work / "blorb"), "user": NOBODY, "group": NOBODY, "extra_groups": []}
+    folder, file = work / "open", work / "open" / "game.blb"
+    folder.mkdir()
+    os.chmod(folder, 0o777)
+    file.write_bytes(BLANK)
+    os.chown(file, NOBODY, 1)
+    os.chmod(file, 0o664)
+    done("add", file, "Data", "7", "TEXT", "-", stdin=b"eel", **user)
+    for name in ("game.blb", "game.blb.undo"):
+        status = (folder / name).stat()
+        same((status.st_gid, stat.S_IMODE(status.st_mode)), (NOBODY, 0o604), f"group and permissions of {name}")
+    done("undo", file, **user)
+    # In a sticky folder only the owner may give a file's name away.
+    os.chown(file, 0, 0)
+    os.chmod(file, 0o666)
+    os.chmod(folder, 0o1777)
+    intact(folder, {"game.blb": BLANK}, "add", file, "Data", "7", "TEXT", "-", saying="permissions", **user)
+
+
 def two_at_once(work):
     """Edits at the same time wait for each other: none is lost, and all can be undone."""
     file = work / "game.blb"
@@ -453,4 +523,5 @@ def two_at_once(work):
 
 
 PARTS = (help_and_misuse, samples_of_01, media, refused_files, refused_edits, cut_and_damaged, chains, at_the_limit,
-         new_and_names, links_and_permissions, outputs, size_limit, full_disk, permissions, two_at_once)
+         new_and_names, no_journal_covered, links_and_permissions, outputs, size_limit, full_disk, permissions, other_groups,
+         two_at_once)
