@@ -6,7 +6,7 @@ use mathlib.Core.Bool.{Bool, true, false, cond, _||_, not}
 use native.Mathlib.Omega.{arith}
 use lib.ListN.{length, drop}
 use lib.Dec.{eqb}
-use borrow.Author.Tests.{eq-eqb, ne-eqb}
+use borrow.Author.Tests.{eq-eqb, ne-eqb, eqb-true}
 use Rattle.blorb.specs.Bytes.{rd32}
 use Rattle.blorb.specs.Format.{Chunk, Ref, refOf, size, chunkIn, entriesIn}
 use Rattle.blorb.specs.Verdict.{Verdict, accept, refuse, _then_, check}
@@ -15,12 +15,12 @@ use Rattle.blorb.specs.Tags.{Pict, Rect, RelN, Fspc}
 use Rattle.reader.specs.Walk.{chunkFrom, skipAt, chunksFrom, walkFrom}
 use Rattle.reader.specs.Ordinary.{ordinaryType, allOrdinary}
 use Rattle.reader.proofs.ChunkLaws.{ordinary-not, fine, chunks-end}
-use Rattle.blorb.proofs.Checks.{pass, stop, holds-last, fails-last, accepts, refuses, and-both, then-assoc}
+use Rattle.blorb.proofs.Checks.{pass, stop, holds-last, fails-last, accepts, refuses, then-accept, check-accept, and-both}
 use Rattle.reader.specs.Entries.{place, earlier, entriesFrom}
 use Rattle.blorb.proofs.UsageLaws.{or-assoc, or-false}
 use Rattle.reader.specs.declared.entries.Hit.the-variants.{At, Nothing}
 use Rattle.reader.specs.Reading.{hitIn}
-use Rattle.reader.specs.Optional.{pictured, oneRule, rulesFrom, optionalFault}
+use Rattle.reader.specs.Optional.{pictured, singleBy, oneRule, rulesFrom, optionalFault}
 use Rattle.reader.proofs.IndexLaws.{body-word, picture-hit}
 
 -- rules 17 to 19 with two flags for the chunks before
@@ -50,63 +50,64 @@ optional-is f count w h =
     (λ i n. picture-hit f (place count) w n (entriesIn count (drop 24 f)) [] 24 h i)
 
 -- one chunk of rule 7, by facts on its numbers
-module _ (pic : ℕ → Bool) (f : List ℕ) (a b : Bool) (at t m : ℕ) (h : at < length f) (w : walkFrom f at ≡ accept) (et : t ≡ rd32 (drop at f)) (em : m ≡ rd32 (drop (at + 4) f)) where
-  lm : length (chunkFrom f at .body) ≡ m
-  lm = fine f at h w .bodied ∙ sym em
+module _ (f : List ℕ) (at : ℕ) (h : at < length f) (w : walkFrom f at ≡ accept) where
+  module _ (a : Bool) (n : ℕ) where
+    pub single-17 : a ≡ true → refuse 17 at ≡ singleBy a n at (chunkFrom f at)
+    single-17 p = sym (stop _ _ _ _ (rw p))
 
-  by-type : oneRule pic a b at (chunkFrom f at)
-      ≡ cond (eqb t RelN) (check (not a) 17 at then check (eqb m 2) 18 (at + 4))
-      (cond (eqb t Fspc) ((check (not b) 17 at then check (eqb m 4) 18 (at + 4)) then check (pic (rd32 (chunkFrom f at .body))) 19 (at + 8)) accept)
-  unfolding oneRule chunkIn
-  by-type = rw (lm, ← et)
+    module _ (m : ℕ) (em : m ≡ rd32 (drop (at + 4) f)) where
+      lm : length (chunkFrom f at .body) ≡ m
+      lm = fine f at h w .bodied ∙ sym em
 
-  pub rule-none : (t ≡ RelN → ⊥) → (t ≡ Fspc → ⊥) → accept ≡ oneRule pic a b at (chunkFrom f at)
-  rule-none n1 n2 = sym (by-type ∙ rw (ne-eqb t RelN n1, ne-eqb t Fspc n2))
+      pub single-18 : a ≡ false → (m ≡ n → ⊥) → refuse 18 (at + 4) ≡ singleBy a n at (chunkFrom f at)
+      single-18 p q = sym (pass _ _ _ _ (rw p) ∙ fails-last _ _ _ (rw lm (ne-eqb m n q)))
 
-  module _ (e : t ≡ RelN) where
-    pub reln-17 : a ≡ true → refuse 17 at ≡ oneRule pic a b at (chunkFrom f at)
-    reln-17 p = sym (by-type ∙ rw (eq-eqb t RelN e) (stop _ _ _ _ (rw p)))
+      pub single-good : a ≡ false → m ≡ n → accept ≡ singleBy a n at (chunkFrom f at)
+      single-good p q = sym (pass _ _ _ _ (rw p) ∙ holds-last _ _ _ (rw lm (eq-eqb m n q)))
 
-    pub reln-18 : a ≡ false → (m ≡ 2 → ⊥) → refuse 18 (at + 4) ≡ oneRule pic a b at (chunkFrom f at)
-    reln-18 p n = sym (by-type ∙ rw (eq-eqb t RelN e) (pass _ _ _ _ (rw p) ∙ fails-last _ _ _ (ne-eqb m 2 n)))
+    -- what an accepted one tells
+    pub single-length : singleBy a n at (chunkFrom f at) ≡ accept → rd32 (drop (at + 4) f) ≡ n
+    single-length e = sym (fine f at h w .bodied) ∙ eqb-true _ _ (check-accept _ _ _ (then-accept _ _ e .1))
 
-    pub reln-good : a ≡ false → m ≡ 2 → accept ≡ oneRule pic a b at (chunkFrom f at)
-    reln-good p n = sym (by-type ∙ rw (eq-eqb t RelN e) (pass _ _ _ _ (rw p) ∙ holds-last _ _ _ (eq-eqb m 2 n)))
+  module _ (pic : ℕ → Bool) (a b : Bool) (t : ℕ) (et : t ≡ rd32 (drop at f)) where
+    by-type : oneRule pic a b at (chunkFrom f at)
+        ≡ cond (eqb t RelN) (singleBy a 2 at (chunkFrom f at))
+        (cond (eqb t Fspc) (singleBy b 4 at (chunkFrom f at) then check (pic (rd32 (chunkFrom f at .body))) 19 (at + 8)) accept)
+    unfolding oneRule chunkIn
+    by-type = rw (← et)
 
-  module _ (n1 : t ≡ RelN → ⊥) (e : t ≡ Fspc) where
-    fspc : oneRule pic a b at (chunkFrom f at) ≡ check (not b) 17 at then (check (eqb m 4) 18 (at + 4) then check (pic (rd32 (chunkFrom f at .body))) 19 (at + 8))
-    fspc = by-type ∙ rw (ne-eqb t RelN n1, eq-eqb t Fspc e) (then-assoc _ _ _)
+    pub rule-none : (t ≡ RelN → ⊥) → (t ≡ Fspc → ⊥) → accept ≡ oneRule pic a b at (chunkFrom f at)
+    rule-none n1 n2 = sym (by-type ∙ rw (ne-eqb t RelN n1, ne-eqb t Fspc n2))
 
-    pub fspc-17 : b ≡ true → refuse 17 at ≡ oneRule pic a b at (chunkFrom f at)
-    fspc-17 p = sym (fspc ∙ stop _ _ _ _ (rw p))
+    pub rule-reln : t ≡ RelN → singleBy a 2 at (chunkFrom f at) ≡ oneRule pic a b at (chunkFrom f at)
+    rule-reln e = sym (by-type ∙ rw (eq-eqb t RelN e))
 
-    pub fspc-18 : b ≡ false → (m ≡ 4 → ⊥) → refuse 18 (at + 4) ≡ oneRule pic a b at (chunkFrom f at)
-    fspc-18 p n = sym (fspc ∙ pass _ _ _ _ (rw p) ∙ stop _ _ _ _ (ne-eqb m 4 n))
+    module _ (n1 : t ≡ RelN → ⊥) (e : t ≡ Fspc) where
+      fspc : oneRule pic a b at (chunkFrom f at) ≡ singleBy b 4 at (chunkFrom f at) then check (pic (rd32 (chunkFrom f at .body))) 19 (at + 8)
+      fspc = by-type ∙ rw (ne-eqb t RelN n1, eq-eqb t Fspc e)
 
-    module _ (p : b ≡ false) (four : m ≡ 4) (n : ℕ) (en : n ≡ rd32 (drop (at + 8) f)) where
-      number : rd32 (chunkFrom f at .body) ≡ n
-      number = body-word f at (omega arith) ∙ sym en
+      pub fspc-stop : (k p : ℕ) → singleBy b 4 at (chunkFrom f at) ≡ refuse k p → refuse k p ≡ oneRule pic a b at (chunkFrom f at)
+      fspc-stop k p q = sym (fspc ∙ refuses _ _ _ _ q)
 
-      pub fspc-19 : pic n ≡ false → refuse 19 (at + 8) ≡ oneRule pic a b at (chunkFrom f at)
-      fspc-19 q = sym (fspc ∙ pass _ _ _ _ (rw p) ∙ pass _ _ _ _ (eq-eqb m 4 four) ∙ fails-last _ _ _ (ap pic number ∙ q))
+      module _ (ok : singleBy b 4 at (chunkFrom f at) ≡ accept) (n : ℕ) (en : n ≡ rd32 (drop (at + 8) f)) where
+        number : rd32 (chunkFrom f at .body) ≡ n
+        number = let l = single-length b 4 ok in body-word f at (omega arith) ∙ sym en
 
-      pub fspc-good : pic n ≡ true → accept ≡ oneRule pic a b at (chunkFrom f at)
-      fspc-good q = sym (fspc ∙ pass _ _ _ _ (rw p) ∙ pass _ _ _ _ (eq-eqb m 4 four) ∙ holds-last _ _ _ (ap pic number ∙ q))
+        pub fspc-19 : pic n ≡ false → refuse 19 (at + 8) ≡ oneRule pic a b at (chunkFrom f at)
+        fspc-19 q = sym (fspc ∙ accepts _ _ ok ∙ fails-last _ _ _ (ap pic number ∙ q))
+
+        pub fspc-good : pic n ≡ true → accept ≡ oneRule pic a b at (chunkFrom f at)
+        fspc-good q = sym (fspc ∙ accepts _ _ ok ∙ holds-last _ _ _ (ap pic number ∙ q))
 
 -- the picture by the lookup's answer
 module _ (f : List ℕ) (count n : ℕ) where
-  pub picture-none : hitIn Pict n (entriesIn count (drop 24 f)) ≡ Nothing → pictured f count n ≡ false
+  pub picture-none : hitIn Pict n (entriesIn count (drop 24 f)) ≡ Nothing → false ≡ pictured f count n
   unfolding pictured
   picture-none e = rw e
 
-  module _ (x t : ℕ) (e : hitIn Pict n (entriesIn count (drop 24 f)) ≡ At x) (et : t ≡ rd32 (drop x f)) where
-    pub picture-rect : t ≡ Rect → pictured f count n ≡ false
-    unfolding pictured
-    picture-rect q = rw (e, ← et, q)
-
-    pub picture-there : (t ≡ Rect → ⊥) → pictured f count n ≡ true
-    unfolding pictured
-    picture-there q = rw (e, ← et, ne-eqb t Rect q)
+  pub picture-there : (x t : ℕ) → hitIn Pict n (entriesIn count (drop 24 f)) ≡ At x → t ≡ rd32 (drop x f) → not (eqb t Rect) ≡ pictured f count n
+  unfolding pictured
+  picture-there x t e et = rw (e, ← et)
 
 -- the loop over the optional chunks
 module _ (pic : ℕ → Bool) (f : List ℕ) (a b : Bool) (at : ℕ) where

@@ -23,12 +23,16 @@ pictureBy f Nothing = false
 unfoldable pub pictured : List ℕ → ℕ → ℕ → Bool
 pictured f count n = pictureBy f (hitIn Pict n (entriesIn count (drop 24 f)))
 
+-- 17 and 18 of an optional chunk; a tells whether one of its type stands before it, n is how much data it has to have
+abbrev pub singleBy : Bool → ℕ → ℕ → Chunk → Verdict
+singleBy a n at c = check (not a) 17 at then check (eqb (length (c .body)) n) 18 (at + 4)
+
 module _ (pic : ℕ → Bool) where
   -- 17 to 19 of one chunk; a and b tell whether a 'RelN' and an 'Fspc' stand before it
   unfoldable pub oneRule : Bool → Bool → ℕ → Chunk → Verdict
   oneRule a b at c =
-      cond (eqb (c .type) RelN) (check (not a) 17 at then check (eqb (length (c .body)) 2) 18 (at + 4))
-      (cond (eqb (c .type) Fspc) ((check (not b) 17 at then check (eqb (length (c .body)) 4) 18 (at + 4)) then check (pic (rd32 (c .body))) 19 (at + 8)) accept)
+      cond (eqb (c .type) RelN) (singleBy a 2 at c)
+      (cond (eqb (c .type) Fspc) (singleBy b 4 at c then check (pic (rd32 (c .body))) 19 (at + 8)) accept)
 
   unfoldable pub rulesFrom : Bool → Bool → ℕ → List Chunk → Verdict
   rulesFrom a b at [] = accept

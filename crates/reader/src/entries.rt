@@ -194,9 +194,7 @@ pub(crate) fn entries(s: &[u8], count: usize) -> Check
     'entries: while j < count {
         let p = 24 + 12 * j;
         match judge(s, base, found, p) {
-            Judged::Fault { number, place } => {
-                return Check::Refused { number, place };
-            }
+            Judged::Fault { number, place } => return Check::Refused { number, place },
             Judged::At(start) => {
                 found = start;
             }

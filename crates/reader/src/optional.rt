@@ -11,7 +11,38 @@ ghost use lib.Dec.{eqb};
 ghost use mathlib.Core.Bool.{_||_};
 ghost use Rattle.blorb.specs.Verdict.{accept};
 ghost use Rattle.reader.specs.Walk.{chunkFrom, walkFrom, verdictOf};
-ghost use Rattle.reader.specs.Optional.{pictured, oneRule, optionalFault, EntriesPassed};
+ghost use Rattle.reader.specs.Optional.{pictured, singleBy, oneRule, optionalFault, EntriesPassed};
+
+// Refusals 17 and 18 of an optional chunk at `at`: the first of its type, unless one stands `before`, with `right` bytes of data.
+fn single(s: &[u8], before: bool, right: u64, at: usize) -> Check
+    requires { ⌜ (at < length (now s)) × (walkFrom (now s) at ≡ accept) ⌝ }
+    ensures { λ r. ⌜ verdictOf r ≡ singleBy before right at (chunkFrom (now (s .entry)) at) ⌝ }
+{
+    if before {
+        return Check::Refused {
+            number: 17,
+            place: at,
+        };
+    }
+    if blorb::be32_at(s, at + 4) != right {
+        return Check::Refused {
+            number: 18,
+            place: at + 4,
+        };
+    }
+    Check::Good
+}
+
+// Whether the picture `n` is in the index, and no 'Rect'.
+fn is_picture(s: &[u8], count: usize, n: u64) -> bool
+    requires { ⌜ EntriesPassed (now s) count ⌝ }
+    ensures { λ r. ⌜ r ≡ pictured (now (s .entry)) count n ⌝ }
+{
+    let Hit::At(start) = find(s, count, Usage::PICT, n) else {
+        return false;
+    };
+    blorb::be32_at(s, start) != blorb::RECT
+}
 
 // Refusals 17 to 19 of the chunk at `at`; `reln` and `fspc` tell whether a 'RelN' and an 'Fspc' stand before it.
 fn optional_chunk(s: &[u8], count: usize, reln: bool, fspc: bool, at: usize) -> Check
@@ -19,44 +50,16 @@ fn optional_chunk(s: &[u8], count: usize, reln: bool, fspc: bool, at: usize) -> 
     ensures { λ r. ⌜ verdictOf r ≡ oneRule (pictured (now (s .entry)) count) reln fspc at (chunkFrom (now (s .entry)) at) ⌝ }
 {
     let t = blorb::be32_at(s, at);
-    let m = blorb::be32_at(s, at + 4);
     if t == blorb::RELN {
-        if reln {
-            return Check::Refused {
-                number: 17,
-                place: at,
-            };
-        }
-        if m != 2 {
-            return Check::Refused {
-                number: 18,
-                place: at + 4,
-            };
-        }
-        return Check::Good;
+        return single(s, reln, 2, at);
     }
     if t != blorb::FSPC {
         return Check::Good;
     }
-    if fspc {
-        return Check::Refused {
-            number: 17,
-            place: at,
-        };
+    if let Check::Refused { number, place } = single(s, fspc, 4, at) {
+        return Check::Refused { number, place };
     }
-    if m != 4 {
-        return Check::Refused {
-            number: 18,
-            place: at + 4,
-        };
-    }
-    let Hit::At(start) = find(s, count, Usage::PICT, blorb::be32_at(s, at + 8)) else {
-        return Check::Refused {
-            number: 19,
-            place: at + 8,
-        };
-    };
-    if blorb::be32_at(s, start) == blorb::RECT {
+    if !is_picture(s, count, blorb::be32_at(s, at + 8)) {
         return Check::Refused {
             number: 19,
             place: at + 8,
