@@ -10,8 +10,8 @@ mod reference;
 mod samples;
 
 use archive::{first_difference, Buffers, Lent};
-use generate::Rng;
-use reference::{Answer, Call, Edit, Ledger, Refusal, State, Tag};
+use generate::{Rng, PART};
+use reference::{Answer, Call, Edit, Ledger, Refusal, Span, State, Tag};
 use std::collections::BTreeMap;
 use std::fmt::Debug;
 use std::panic;
@@ -20,15 +20,22 @@ use std::sync::atomic::Ordering;
 
 const DEFAULT_SEED: u64 = 20_040_204;
 const DEFAULT_COUNT: u64 = 400_000;
+/// So many inputs are asked to show all that can occur.
+const ENOUGH: u64 = DEFAULT_COUNT / 4;
 
 // ---- Reports -------------------------------------------------------------------------------------------------------
 
-/// The case under way, and how often each number was seen in each row of the table.
+/// The case under way, how often each number was seen in each row of the table, and the large moves of each call.
 pub struct Tally {
     pub case: u64,
     calls: u64,
     table: BTreeMap<(&'static str, u64), u64>,
+    large: BTreeMap<&'static str, [u64; LARGE.len()]>,
 }
+
+/// What is counted of each editing call, and how often a default run must show it at least. `print_large` says what it means.
+const LARGE: [(&str, u64); 6] =
+    [("done", 500), ("part", 250), ("parts", 125), ("whole", 2), ("copied", 25), ("no room", 50)];
 
 impl Tally {
     pub fn count(&mut self, row: &'static str, number: u64) {
@@ -168,7 +175,53 @@ fn check_call_on(tally: &mut Tally, buffers: &mut Buffers, call: &Call, state: &
     if let (Call::Undo, 0) = (call, expected.refusal) {
         tally.count("undone", state.journal[after.used] as u64);
     }
+    count_large(tally, call, expected.refusal, state, &after);
     (expected, after)
+}
+
+fn data_size(call: &Call) -> usize {
+    match call {
+        Call::Edit(Edit::Add { data, .. } | Edit::Replace { data, .. }) => data.len(),
+        _ => 0,
+    }
+}
+
+/// Counts what the call shows of LARGE.
+fn count_large(tally: &mut Tally, call: &Call, refusal: u64, state: &State, after: &State) {
+    let (large_file, done) = (state.length > PART, refusal == 0);
+    let moved = match large_file && done {
+        true => moved(&state.file[..state.length], &after.file[..after.length]),
+        false => 0,
+    };
+    let copied = data_size(call).max(state.used.abs_diff(after.used).saturating_sub(29));
+    let shows = [
+        large_file && done,
+        moved > PART,
+        moved > 2 * PART,
+        moved > 0 && moved % PART == 0,
+        copied > PART && done,
+        large_file && (refusal == 24 || refusal == 25),
+    ];
+    let counts = tally.large.entry(call.name()).or_default();
+    counts.iter_mut().zip(shows).for_each(|(count, shown)| *count += shown as u64);
+}
+
+/// The most bytes that went the same way: of the chunks that are the same from the front, and from the back.
+fn moved(before: &[u8], after: &[u8]) -> usize {
+    let (old, new) = (chunks(before), chunks(after));
+    let front = old.iter().zip(&new).take_while(|(a, b)| a.1 == b.1);
+    let kept = front.clone().count();
+    let back = old[kept..].iter().rev().zip(new[kept..].iter().rev()).take_while(|(a, b)| a.1 == b.1);
+    let front: usize = front.filter(|(a, b)| a.0 != b.0).map(|(a, _)| a.1.len()).sum();
+    let back: usize = back.filter(|(a, b)| a.0 != b.0).map(|(a, _)| a.1.len()).sum();
+    front.max(back)
+}
+
+/// Where each chunk behind the index begins, and its bytes.
+fn chunks(file: &[u8]) -> Vec<(usize, &[u8])> {
+    let view = reference::read(file).unwrap_or_else(|_| panic!("an accepted file"));
+    let size = |span: &Span| 8 + span.length + span.length % 2;
+    view.spans.iter().map(|span| (span.start, &file[span.start..span.start + size(span)])).collect()
 }
 
 /// One editing call on fresh buffers.
@@ -274,9 +327,15 @@ fn random_files(tally: &mut Tally, rng: &mut Rng) {
     check_file(tally, rng, &file);
 }
 
-/// Buffers around this file with random bytes as journal, which no edit looks at.
-fn edit_state(rng: &mut Rng, file: Vec<u8>) -> State {
-    let (used, file_more, journal_more) = (rng.below(40), rng.below(400), rng.below(400));
+/// Buffers around this file with random bytes as journal, which no edit looks at. Mostly they have room for large data too.
+fn edit_state(rng: &mut Rng, file: Vec<u8>, call: &Call) -> State {
+    let (used, mut file_more, mut journal_more) = (rng.below(40), rng.below(400), rng.below(400));
+    if data_size(call) > 3000 && rng.chance(75) {
+        file_more += data_size(call);
+    }
+    if file.len() > 3000 && rng.chance(75) {
+        journal_more += file.len();
+    }
     let records = rng.bytes(used);
     generate::lend(rng, file, records, file_more, journal_more)
 }
@@ -284,8 +343,8 @@ fn edit_state(rng: &mut Rng, file: Vec<u8>) -> State {
 fn edits_of_valid_files(tally: &mut Tally, rng: &mut Rng) {
     let file = some_draft(rng).render().bytes;
     for _ in 0..4 {
-        let mut state = edit_state(rng, file.clone());
         let call = Call::Edit(generate::edit_call(rng, &file, 36, 36));
+        let mut state = edit_state(rng, file.clone(), &call);
         if rng.chance(50) {
             state = generate::tighten(rng, &call, state);
         }
@@ -310,11 +369,11 @@ fn edits_of_bad_files(tally: &mut Tally, rng: &mut Rng) {
         _ => generate::random_bytes(rng),
     };
     for choice in 0..4 {
-        let mut state = edit_state(rng, file.clone());
         let adds = [100, 0, 0, 0][choice];
         let replaces = [0, 100, 0, 0][choice];
         let edit = generate::edit_call(rng, &file, adds, replaces);
         let call = if choice == 3 { Call::Undo } else { Call::Edit(edit) };
+        let mut state = edit_state(rng, file.clone(), &call);
         match rng.below(20) {
             0 => generate::exceed(rng, &mut state),
             1 => state.length = rng.between(0, state.file.len()),
@@ -379,6 +438,7 @@ fn start_of_run(rng: &mut Rng) -> State {
         1 | 2 => rng.between(100, 800),
         _ => 8000,
     };
+    let (file_more, journal_more) = (generate::room(rng, file_more), generate::room(rng, journal_more));
     generate::lend(rng, file, Vec::new(), file_more, journal_more)
 }
 
@@ -404,16 +464,41 @@ pub fn check_run(
     }
 }
 
+fn call_of_run(rng: &mut Rng, state: &State, style: usize, step: usize) -> Call {
+    let undo = if state.used == 0 { 4 } else { undo_chance(style, step) };
+    match rng.chance(undo) {
+        true => Call::Undo,
+        false => Call::Edit(generate::edit_call(rng, &state.file[..state.length], 45, 25)),
+    }
+}
+
+/// First calls of a run; the buffers become just large enough for them, or up to two bytes too small.
+fn first_calls(rng: &mut Rng, start: &mut State, style: usize) -> Vec<Call> {
+    let (mut calls, mut state) = (Vec::new(), start.clone());
+    let (mut length, mut used) = (state.length, state.used);
+    for step in 0..rng.between(1, 20) {
+        let call = call_of_run(rng, &state, style, step);
+        state = reference::call(&call, &state).1;
+        (length, used) = (length.max(state.length), used.max(state.used));
+        calls.push(call);
+    }
+    if rng.chance(70) {
+        start.file.truncate((length - rng.pick(&[0, 0, 1, 2])).max(start.length));
+    }
+    if rng.chance(40) {
+        start.journal.truncate(used.saturating_sub(rng.pick(&[0, 0, 1, 2])));
+    }
+    calls
+}
+
 fn runs(tally: &mut Tally, rng: &mut Rng) {
-    let start = start_of_run(rng);
+    let mut start = start_of_run(rng);
     let style = rng.below(4);
     let calls = rng.between(50, 200);
-    check_run(tally, rng, start, calls, |rng, state, step| {
-        let undo = if state.used == 0 { 4 } else { undo_chance(style, step) };
-        match rng.chance(undo) {
-            true => Call::Undo,
-            false => Call::Edit(generate::edit_call(rng, &state.file[..state.length], 45, 25)),
-        }
+    let first = if rng.chance(15) { first_calls(rng, &mut start, style) } else { Vec::new() };
+    check_run(tally, rng, start, calls, |rng, state, step| match first.get(step) {
+        Some(call) => call.clone(),
+        None => call_of_run(rng, state, style, step),
     });
 }
 
@@ -448,6 +533,26 @@ fn rows() -> Vec<(&'static str, Vec<u64>)> {
         ("ledger", vec![0, 22, 23, 24, 25, 26, 101, 109, 111, 112, 114, 115, 116, 119]),
         ("undone", vec![1, 2, 3, 4]),
     ]
+}
+
+/// Prints how often LARGE was seen. False where so many inputs must show it more often.
+fn print_large(tally: &Tally, count: u64) -> bool {
+    println!("calls on files of over {PART} bytes, a part (done: carried out, part and parts: over one and two moved,");
+    println!("whole: whole parts moved, copied: data of over a part, in any file, no room: refused with 24 or 25):");
+    let mut good = true;
+    for row in ["add", "replace", "remove", "undo"] {
+        let seen = tally.large.get(row).copied().unwrap_or_default();
+        let list: Vec<String> = LARGE.iter().zip(seen).map(|((name, _), seen)| format!("{name}:{seen}")).collect();
+        println!("  {row:7} {}", list.join(" "));
+        for ((name, least), seen) in LARGE.iter().zip(seen) {
+            let least = least * count / DEFAULT_COUNT;
+            if count >= ENOUGH && seen < least {
+                println!("compare: {row} has {name}:{seen}, which must be {least} at least");
+                good = false;
+            }
+        }
+    }
+    good
 }
 
 /// Prints the table. False where a number was seen that cannot be, or (if asked) one that must be was not.
@@ -489,7 +594,7 @@ fn family_of(i: u64) -> u64 {
 fn run_case(tally: &mut Tally, case: u64) {
     tally.case = case;
     fence::CASE.store(case, Ordering::Relaxed);
-    let mut rng = Rng(case);
+    let mut rng = Rng::of_case(case);
     let family = (case & 0xFF) as usize;
     match FAMILIES.get(family) {
         Some((_, run)) => run(tally, &mut rng),
@@ -535,14 +640,14 @@ fn main() {
         println!("compare: DIFFERENCE, case {:#x} ended with {panic}", fence::CASE.load(Ordering::Relaxed));
         exit(1);
     }));
-    let mut tally = Tally { case: 0, calls: 0, table: BTreeMap::new() };
+    let mut tally = Tally { case: 0, calls: 0, table: BTreeMap::new(), large: BTreeMap::new() };
     if let Some(case) = options.case {
         run_case(&mut tally, case);
         println!("compare: case {case:#x} shows no difference");
         return;
     }
     println!("compare: seed {} count {}", options.seed, options.count);
-    let mut rng = Rng(options.seed);
+    let mut rng = Rng::new(options.seed);
     for i in 0..options.count {
         run_case(&mut tally, rng.next() & !0xFF | family_of(i));
     }
@@ -550,7 +655,9 @@ fn main() {
         run_case(&mut tally, rng.next() & !0xFF | family as u64);
     }
     println!("compare: {} inputs, {} calls", options.count + large::FAMILIES.len() as u64, tally.calls);
-    if !print_table(&tally, options.count >= DEFAULT_COUNT / 4) {
+    let table = print_table(&tally, options.count >= ENOUGH);
+    let large = print_large(&tally, options.count);
+    if !(table && large) {
         exit(1);
     }
     println!("compare: ok");

@@ -5,7 +5,7 @@ use std::ptr;
 use std::sync::atomic::{AtomicU64, Ordering};
 
 /// The bytes that can be used, and those before and behind that cannot: a multiple of any usual page size.
-pub const ROOM: usize = 1 << 16;
+pub const ROOM: usize = 1 << 19;
 
 extern "C" {
     fn mmap(address: *mut u8, length: usize, protection: i32, flags: i32, file: i32, offset: i64) -> *mut u8;

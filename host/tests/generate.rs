@@ -10,12 +10,33 @@ pub use journals::undo_state;
 // ---- Random numbers ------------------------------------------------------------------------------------------------
 
 /// SplitMix64: every seed gives another sequence.
-pub struct Rng(pub u64);
+pub struct Rng {
+    state: u64,
+    /// How many of 1,000 data are large.
+    large: usize,
+}
 
 impl Rng {
+    pub fn new(seed: u64) -> Rng {
+        Rng { state: seed, large: 8 }
+    }
+
+    /// The numbers of a case. One case of 60 has large data often and mostly buffers with room for it.
+    pub fn of_case(case: u64) -> Rng {
+        let mut rng = Rng::new(case);
+        if rng.below(60) == 0 {
+            rng.large = 200;
+        }
+        rng
+    }
+
+    fn often_large(&self) -> bool {
+        self.large > 100
+    }
+
     pub fn next(&mut self) -> u64 {
-        self.0 = self.0.wrapping_add(0x9E37_79B9_7F4A_7C15);
-        let mut z = self.0;
+        self.state = self.state.wrapping_add(0x9E37_79B9_7F4A_7C15);
+        let mut z = self.state;
         z = (z ^ (z >> 30)).wrapping_mul(0xBF58_476D_1CE4_E5B9);
         z = (z ^ (z >> 27)).wrapping_mul(0x94D0_49BB_1331_11EB);
         z ^ (z >> 31)
@@ -39,7 +60,12 @@ impl Rng {
     }
 
     pub fn bytes(&mut self, count: usize) -> Vec<u8> {
-        (0..count).map(|_| self.next() as u8).collect()
+        let mut bytes = Vec::with_capacity(count + 7);
+        while bytes.len() < count {
+            bytes.extend(self.next().to_le_bytes());
+        }
+        bytes.truncate(count);
+        bytes
     }
 
     fn tag(&mut self) -> Tag {
@@ -55,6 +81,19 @@ impl Rng {
 
 // ---- Contents ------------------------------------------------------------------------------------------------------
 
+/// The most bytes that the library moves or copies at once.
+pub const PART: usize = 16_384;
+
+/// Sizes about one, two and three parts, for the data alone and with its chunk's header, about 1,024, and any up to 70,000.
+fn large_size(rng: &mut Rng) -> usize {
+    match rng.below(10) {
+        0 => rng.between(1_020, 1_028),
+        1..=3 => PART * rng.between(1, 3) - 20 + rng.below(41),
+        4..=6 => PART * rng.between(1, 3) - 10 + rng.below(5),
+        _ => rng.between(3_001, 70_000),
+    }
+}
+
 fn data(rng: &mut Rng) -> Vec<u8> {
     let length = match rng.below(100) {
         0..=14 => 0,
@@ -63,6 +102,7 @@ fn data(rng: &mut Rng) -> Vec<u8> {
         90..=98 => rng.between(41, 300),
         _ => rng.between(301, 3000),
     };
+    let length = if rng.below(1000) < rng.large { large_size(rng) } else { length };
     rng.bytes(length)
 }
 
@@ -344,7 +384,21 @@ pub fn valid(rng: &mut Rng, count: usize) -> Draft {
     if let (true, Some(picture)) = (rng.chance(40), a_picture(&draft, rng, false)) {
         draft.insert_anywhere(rng, *b"Fspc", picture.to_be_bytes().to_vec());
     }
+    if rng.often_large() && rng.chance(40) {
+        fill_parts(&mut draft, rng);
+    }
     draft
+}
+
+/// A last chunk with which all chunks, or those behind the first, take whole parts, or up to two bytes more or less: an edit
+/// moves just these.
+fn fill_parts(draft: &mut Draft, rng: &mut Rng) {
+    let moved = draft.chunks.iter().skip(rng.below(2));
+    let size: usize = moved.map(|chunk| 8 + chunk.data.len() + chunk.data.len() % 2).sum();
+    let left = PART - (size + 8) % PART;
+    let length = left.saturating_sub(2) + rng.below(5);
+    let content = rng.bytes(length);
+    draft.insert_chunk(draft.chunks.len(), *b"ANNO", content);
 }
 
 fn add_entry(draft: &mut Draft, rng: &mut Rng, count: usize, sharing: usize) {
@@ -566,6 +620,18 @@ pub fn lend(rng: &mut Rng, file: Vec<u8>, records: Vec<u8>, file_more: usize, jo
     file.extend(rng.bytes(file_more));
     journal.extend(rng.bytes(journal_more));
     State { file, length, journal, used }
+}
+
+/// The usual room; where large data comes often, mostly room for some of it too.
+pub fn room(rng: &mut Rng, usual: usize) -> usize {
+    if !rng.often_large() {
+        return usual;
+    }
+    match rng.below(4) {
+        0 => usual,
+        1 => large_size(rng) + usual % 40,
+        _ => rng.between(PART, 8 * PART),
+    }
 }
 
 /// Buffers just large enough for the call, or up to two bytes short of it; else as they were.

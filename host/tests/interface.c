@@ -15,6 +15,98 @@
 
 #include "blorb.h"
 
+/* ---- the header's numbers, by document 01 */
+
+#define IS(name, number) _Static_assert((name) == (number), "01 has " #number " for " #name)
+
+/* Sizes. Before a chunk's data stand type and length (rule 2); a record has 25 bytes before its data and a trailer behind. */
+IS(BLORB_MAX_SIZE, 16777216);
+IS(BLORB_MAX_ENTRIES, 4096);
+IS(BLORB_BLANK_SIZE, 24);
+IS(BLORB_ENTRY_SIZE, 12);
+IS(BLORB_HEADER_SIZE, 4 + 4);
+IS(BLORB_RECORD_SIZE, 25 + 4);
+
+/* Usages as numbers: four bytes, big-endian. */
+IS(BLORB_PICT, 0x50696374);
+IS(BLORB_SND, 0x536e6420);
+IS(BLORB_DATA, 0x44617461);
+IS(BLORB_EXEC, 0x45786563);
+
+/* The table of refusals, beside each its reason there. */
+IS(BLORB_DONE, 0);
+IS(BLORB_TOO_LONG, 1);         /* longer than the limit */
+IS(BLORB_TOO_SHORT, 2);        /* fewer than 12 bytes */
+IS(BLORB_NO_FORM, 3);          /* no 'FORM' */
+IS(BLORB_NO_IFRS, 4);          /* no 'IFRS' */
+IS(BLORB_FORM_LENGTH, 5);      /* FORM length differs */
+IS(BLORB_CHUNK_CUT, 6);        /* header, data or padding runs past the end */
+IS(BLORB_PADDING, 7);          /* padding byte not zero */
+IS(BLORB_NO_INDEX, 8);         /* no chunk, or the first isn't 'RIdx' */
+IS(BLORB_SECOND_INDEX, 9);     /* a second 'RIdx' */
+IS(BLORB_INDEX_LENGTH, 10);    /* index shorter than 4 or not 4 + 12 x count */
+IS(BLORB_TOO_MANY, 11);        /* more than 4,096 entries */
+IS(BLORB_USAGE, 12);           /* unknown usage */
+IS(BLORB_START, 13);           /* start not as in rule 4 */
+IS(BLORB_TYPE, 14);            /* type not as in rule 5 */
+IS(BLORB_EXEC_NUMBER, 15);     /* Exec with a number other than 0 */
+IS(BLORB_REPEATED, 16);        /* pair used by an earlier entry */
+IS(BLORB_SECOND_OPTIONAL, 17); /* a second 'RelN' or 'Fspc' */
+IS(BLORB_OPTIONAL_LENGTH, 18); /* its length wrong */
+IS(BLORB_FRONTISPIECE, 19);    /* a frontispiece whose picture isn't in the index, or is a 'Rect' */
+
+/* The refusals that lookup and editor add. */
+IS(BLORB_LENGTHS, 20);         /* L or U exceeds its buffer */
+IS(BLORB_RECORD, 21);          /* the last journal record isn't well formed or doesn't fit this file */
+IS(BLORB_NOT_THERE, 22);       /* no such entry */
+IS(BLORB_SHARED, 23);          /* the chunk to be replaced is shared */
+IS(BLORB_FILE_ROOM, 24);       /* no room in the file buffer */
+IS(BLORB_JOURNAL_ROOM, 25);    /* no room in the journal */
+IS(BLORB_NOTHING_TO_UNDO, 26); /* U is 0, nothing to undo */
+
+/* 100 + k: the reader would refuse the resulting file with k. */
+IS(BLORB_RESULT, 100);
+IS(BLORB_RESULT_TOO_LONG, 101);
+IS(BLORB_RESULT_SECOND_INDEX, 109);
+IS(BLORB_RESULT_TOO_MANY, 111);
+IS(BLORB_RESULT_USAGE, 112);
+IS(BLORB_RESULT_TYPE, 114);
+IS(BLORB_RESULT_EXEC_NUMBER, 115);
+IS(BLORB_RESULT_REPEATED, 116);
+IS(BLORB_RESULT_FRONTISPIECE, 119);
+
+/* The answers as the archive hands them back: programs are compiled against these layouts. */
+#define LIES_AT(answer, field, at, type) \
+    _Static_assert(offsetof(answer, field) == (at) && _Generic(((answer *)0)->field, type: 1, default: 0), #answer "." #field)
+
+_Static_assert(sizeof(blorb_read_answer) == 32, "blorb_read_answer");
+LIES_AT(blorb_read_answer, refusal, 0, uint64_t);
+LIES_AT(blorb_read_answer, place, 8, uint64_t);
+LIES_AT(blorb_read_answer, length, 16, uint64_t);
+LIES_AT(blorb_read_answer, count, 24, uint64_t);
+
+_Static_assert(sizeof(blorb_entry_answer) == 32, "blorb_entry_answer");
+LIES_AT(blorb_entry_answer, refusal, 0, uint64_t);
+LIES_AT(blorb_entry_answer, place, 8, uint64_t);
+LIES_AT(blorb_entry_answer, usage, 16, uint32_t);
+LIES_AT(blorb_entry_answer, number, 20, uint32_t);
+LIES_AT(blorb_entry_answer, start, 24, uint64_t);
+
+_Static_assert(sizeof(blorb_lookup_answer) == 40, "blorb_lookup_answer");
+LIES_AT(blorb_lookup_answer, refusal, 0, uint64_t);
+LIES_AT(blorb_lookup_answer, place, 8, uint64_t);
+LIES_AT(blorb_lookup_answer, type, 16, uint32_t);
+LIES_AT(blorb_lookup_answer, start, 24, uint64_t);
+LIES_AT(blorb_lookup_answer, length, 32, uint64_t);
+
+_Static_assert(sizeof(blorb_edit_answer) == 32, "blorb_edit_answer");
+LIES_AT(blorb_edit_answer, refusal, 0, uint64_t);
+LIES_AT(blorb_edit_answer, place, 8, uint64_t);
+LIES_AT(blorb_edit_answer, length, 16, uint64_t);
+LIES_AT(blorb_edit_answer, used, 24, uint64_t);
+
+/* ---- what every test uses */
+
 enum { FILLER = 0xee, IMAGE_ROOM = 512 };
 enum { FROM_MALLOC, PAGE_BEHIND, PAGE_BEFORE, LENDINGS } lending;
 static unsigned long checks;

@@ -1,7 +1,7 @@
 //! Journals for undo: from edits, written by hand, damaged, and random bytes.
 
 use super::{
-    data, edit_call, edit_content, entry_count, lend, number, other_value, set_number, suited, tags_of, tighten,
+    data, edit_call, edit_content, entry_count, lend, number, other_value, room, set_number, suited, tags_of, tighten,
     unknown_usage, unsuited, valid, Rng,
 };
 use crate::reference::{self, Call, File, Record, State, Tag, USAGES};
@@ -15,7 +15,8 @@ pub fn undo_state(rng: &mut Rng) -> State {
         4..=7 => {
             let mut records = if rng.chance(50) { Vec::new() } else { data(rng) };
             records.extend(made_record(rng, &file).write());
-            lend(rng, file, records, 4000, 10)
+            let more = room(rng, 4000);
+            lend(rng, file, records, more, 10)
         }
         8 => {
             let (length, more) = (rng.between(0, 28), rng.below(60));
@@ -47,12 +48,13 @@ pub fn undo_state(rng: &mut Rng) -> State {
 
 /// What a few edits leave behind.
 fn edited_state(rng: &mut Rng, file: Vec<u8>) -> State {
-    let mut state = lend(rng, file, Vec::new(), 16_000, 16_000);
+    let (file_more, journal_more) = (room(rng, 16_000), room(rng, 16_000));
+    let mut state = lend(rng, file, Vec::new(), file_more, journal_more);
     for _ in 0..rng.between(1, 4) {
         let call = Call::Edit(edit_call(rng, &state.file[..state.length], 34, 33));
         state = reference::call(&call, &state).1;
     }
-    state.file.truncate(state.length + rng.pick(&[0, 1, 20, 200, 4000]));
+    state.file.truncate(state.length + rng.pick(&[0, 1, 20, 200, 4000, 100_000]));
     state.journal.truncate(state.used + rng.below(40));
     state
 }
