@@ -21,7 +21,7 @@ use Rattle.reader.specs.declared.entries.Hit.the-variants.{At}
 use Rattle.reader.specs.declared.Looked.the-variants.{Found}
 use Rattle.reader.proofs.ChunkLaws.{neither, fine}
 use Rattle.reader.proofs.EntryLaws.{pair-snoc}
-use Rattle.reader.proofs.Laws.{entry-getD, hit-begun}
+use Rattle.reader.proofs.IndexLaws.{entry-getD, hit-begun}
 use Rattle.reader.proofs.AskLaws.{Good, accepted, look-found}
 
 fields : (f : List ℕ) (p : ℕ) → entryIn (drop p f) ≡ record { usage = usageAt f p; number = numberAt f p; start = startAt f p }
