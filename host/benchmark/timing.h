@@ -4,7 +4,7 @@
 
 #include "files.h"
 
-enum { MOST_ROUNDS = 4000, COMPARED = 4 }; /* the three libraries, and memmove where a move is measured */
+enum { MOST_ROUNDS = 40000, COMPARED = 4 }; /* the three libraries, and memmove where a move is measured */
 
 /* Nanoseconds for one call: of each compared, by rounds, and the least and the median of them. */
 struct times {
