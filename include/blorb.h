@@ -6,7 +6,8 @@
  *
  * What is promised of every call, for all bytes, lengths and numbers that can be given to it:
  *
- *   - It answers. Nothing is allocated, nothing is kept between calls, no lock is taken, and nothing is printed.
+ *   - It answers. Nothing is allocated, nothing is kept between calls, no lock is taken, and nothing is printed. 8 KB of stack are
+ *     enough (this is tested, not proved).
  *   - The answer's `refusal` is 0 where the call was carried out; else it is one of the numbers below, and `place` is where
  *     in the file the reason lies (0 where a number has no place).
  *   - A refused call has written nothing: every lent byte is as it was. The `length` and `used` that a refused edit or undo hands

@@ -1,0 +1,63 @@
+/*
+ * Every call on a stack of 8 KB, with a page before it that may not be touched: the editor moves bytes by way of an array of 16 KB
+ * that the compiler is to leave out.
+ */
+#define _DEFAULT_SOURCE
+#include <stdio.h>
+#include <stdlib.h>
+#include <sys/mman.h>
+#include <ucontext.h>
+
+#include "blorb.h"
+
+enum { PAGE = 4096, STACK = 2 * PAGE, ROOM = 200000, DATA = 40001 };
+static uint8_t file[ROOM], journal[ROOM], data[DATA];
+static ucontext_t outside, inside;
+static int calls;
+
+static void done(uint64_t refusal)
+{
+    if (refusal != BLORB_DONE)
+        exit(1);
+    calls++;
+}
+
+static void every_call(void)
+{
+    blorb_edit_answer a = blorb_blank(file, ROOM);
+    done(a.refusal);
+    for (uint32_t i = 0; i < 3; i++) {
+        a = blorb_add(file, ROOM, a.length, journal, ROOM, a.used, "Data", i, "BINA", data, DATA - i);
+        done(a.refusal);
+    }
+    a = blorb_replace(file, ROOM, a.length, journal, ROOM, a.used, "Data", 0, "TEXT", data, DATA / 2);
+    done(a.refusal);
+    a = blorb_replace(file, ROOM, a.length, journal, ROOM, a.used, "Data", 0, "TEXT", data, DATA);
+    done(a.refusal);
+    a = blorb_remove(file, ROOM, a.length, journal, ROOM, a.used, "Data", 1);
+    done(a.refusal);
+    done(blorb_read(file, a.length).refusal);
+    done(blorb_entry(file, a.length, 1).refusal);
+    done(blorb_lookup(file, a.length, "Data", 2).refusal);
+    while (a.used > 0) {
+        a = blorb_undo(file, ROOM, a.length, journal, ROOM, a.used);
+        done(a.refusal);
+    }
+}
+
+int main(void)
+{
+    /* Once outside: the C library then has found its functions, for which it needs a stack of its own. */
+    every_call();
+    uint8_t *pages = mmap(NULL, PAGE + STACK, PROT_READ | PROT_WRITE, MAP_PRIVATE | MAP_ANONYMOUS, -1, 0);
+    if (pages == MAP_FAILED || mprotect(pages, PAGE, PROT_NONE) != 0 || getcontext(&inside) != 0)
+        return 2;
+    inside.uc_stack.ss_sp = pages + PAGE;
+    inside.uc_stack.ss_size = STACK;
+    inside.uc_link = &outside;
+    makecontext(&inside, every_call, 0);
+    if (swapcontext(&outside, &inside) != 0)
+        return 2;
+    printf("stack: ok, %d calls on %d bytes\n", calls / 2, (int)STACK);
+    return 0;
+}
