@@ -2,7 +2,7 @@
 use mathlib.Core.Path.{_≡_, refl, sym, ap, _∙_}
 use Prim.Native.Nat.{ℕ, _+_, _≤_, _<_}
 use mathlib.Core.List.{List, [], _∷_, _++_, map}
-use mathlib.Core.Bool.{Bool, true, false, cond, _||_, not}
+use mathlib.Core.Bool.{Bool, true, false, cond, _||_}
 use native.Mathlib.Omega.{arith}
 use lib.ListN.{length, drop}
 use lib.Dec.{eqb}
@@ -89,25 +89,29 @@ module _ (f : List ℕ) (at : ℕ) (h : at < length f) (w : walkFrom f at ≡ ac
       pub fspc-stop : (k p : ℕ) → singleBy b 4 at (chunkFrom f at) ≡ refuse k p → refuse k p ≡ oneRule pic a b at (chunkFrom f at)
       fspc-stop k p q = sym (fspc ∙ refuses _ _ _ _ q)
 
-      module _ (ok : singleBy b 4 at (chunkFrom f at) ≡ accept) (n : ℕ) (en : n ≡ rd32 (drop (at + 8) f)) where
-        number : rd32 (chunkFrom f at .body) ≡ n
-        number = let l = single-length b 4 ok in body-word f at (omega arith) ∙ sym en
+      pub fspc-on : singleBy b 4 at (chunkFrom f at) ≡ accept → check (pic (rd32 (drop (at + 8) f))) 19 (at + 8) ≡ oneRule pic a b at (chunkFrom f at)
+      fspc-on ok =
+          let l = single-length b 4 ok in
+          let q : rd32 (chunkFrom f at .body) ≡ rd32 (drop (at + 8) f) = body-word f at (omega arith) in
+          sym (fspc ∙ accepts _ _ ok ∙ ap (λ (n : ℕ). check (pic n) 19 (at + 8)) q)
 
-        pub fspc-19 : pic n ≡ false → refuse 19 (at + 8) ≡ oneRule pic a b at (chunkFrom f at)
-        fspc-19 q = sym (fspc ∙ accepts _ _ ok ∙ fails-last _ _ _ (ap pic number ∙ q))
+-- 19 by the lookup's answer; n is the picture's number as the code has read it
+module _ (f : List ℕ) (count at n : ℕ) (en : n ≡ rd32 (drop (at + 8) f)) where
+  same : pictured f count (rd32 (drop (at + 8) f)) ≡ pictured f count n
+  same = ap (pictured f count) (sym en)
 
-        pub fspc-good : pic n ≡ true → accept ≡ oneRule pic a b at (chunkFrom f at)
-        fspc-good q = sym (fspc ∙ accepts _ _ ok ∙ holds-last _ _ _ (ap pic number ∙ q))
-
--- the picture by the lookup's answer
-module _ (f : List ℕ) (count n : ℕ) where
-  pub picture-none : hitIn Pict n (entriesIn count (drop 24 f)) ≡ Nothing → false ≡ pictured f count n
+  pub front-none : hitIn Pict n (entriesIn count (drop 24 f)) ≡ Nothing → refuse 19 (at + 8) ≡ check (pictured f count (rd32 (drop (at + 8) f))) 19 (at + 8)
   unfolding pictured
-  picture-none e = rw e
+  front-none e = sym (fails-last _ _ _ (same ∙ rw e))
 
-  pub picture-there : (x t : ℕ) → hitIn Pict n (entriesIn count (drop 24 f)) ≡ At x → t ≡ rd32 (drop x f) → not (eqb t Rect) ≡ pictured f count n
-  unfolding pictured
-  picture-there x t e et = rw (e, ← et)
+  module _ (x t : ℕ) (e : hitIn Pict n (entriesIn count (drop 24 f)) ≡ At x) (et : t ≡ rd32 (drop x f)) where
+    pub front-rect : t ≡ Rect → refuse 19 (at + 8) ≡ check (pictured f count (rd32 (drop (at + 8) f))) 19 (at + 8)
+    unfolding pictured
+    front-rect q = sym (fails-last _ _ _ (same ∙ rw (e, ← et, q)))
+
+    pub front-there : (t ≡ Rect → ⊥) → accept ≡ check (pictured f count (rd32 (drop (at + 8) f))) 19 (at + 8)
+    unfolding pictured
+    front-there q = sym (holds-last _ _ _ (same ∙ rw (e, ← et, ne-eqb t Rect q)))
 
 -- the loop over the optional chunks
 module _ (pic : ℕ → Bool) (f : List ℕ) (a b : Bool) (at : ℕ) where

@@ -5,11 +5,12 @@ use crate::entries::Hit;
 use crate::entries::find;
 use blorb::Usage;
 ghost use mathlib.Core.Path.{_≡_};
-ghost use Prim.Native.Nat.{_<_};
-ghost use lib.ListN.{length};
+ghost use Prim.Native.Nat.{_+_, _≤_, _<_};
+ghost use lib.ListN.{length, drop};
 ghost use lib.Dec.{eqb};
 ghost use mathlib.Core.Bool.{_||_};
-ghost use Rattle.blorb.specs.Verdict.{accept};
+ghost use Rattle.blorb.specs.Bytes.{rd32};
+ghost use Rattle.blorb.specs.Verdict.{accept, check};
 ghost use Rattle.reader.specs.Walk.{chunkFrom, walkFrom, verdictOf};
 ghost use Rattle.reader.specs.Optional.{pictured, singleBy, oneRule, optionalFault, EntriesPassed};
 
@@ -33,15 +34,24 @@ fn single(s: &[u8], before: bool, right: u64, at: usize) -> Check
     Check::Good
 }
 
-// Whether the picture `n` is in the index, and no 'Rect'.
-fn is_picture(s: &[u8], count: usize, n: u64) -> bool
-    requires { ⌜ EntriesPassed (now s) count ⌝ }
-    ensures { λ r. ⌜ r ≡ pictured (now (s .entry)) count n ⌝ }
+// Refusal 19 of the frontispiece at `at`: its picture is in the index, and no 'Rect'.
+fn frontispiece(s: &[u8], count: usize, at: usize) -> Check
+    requires { ⌜ EntriesPassed (now s) count × (at + 12 ≤ length (now s)) ⌝ }
+    ensures { λ r. ⌜ verdictOf r ≡ check (pictured (now (s .entry)) count (rd32 (drop (at + 8) (now (s .entry))))) 19 (at + 8) ⌝ }
 {
-    let Hit::At(start) = find(s, count, Usage::PICT, n) else {
-        return false;
+    let Hit::At(start) = find(s, count, Usage::PICT, blorb::be32_at(s, at + 8)) else {
+        return Check::Refused {
+            number: 19,
+            place: at + 8,
+        };
     };
-    blorb::be32_at(s, start) != blorb::RECT
+    if blorb::be32_at(s, start) == blorb::RECT {
+        return Check::Refused {
+            number: 19,
+            place: at + 8,
+        };
+    }
+    Check::Good
 }
 
 // Refusals 17 to 19 of the chunk at `at`; `reln` and `fspc` tell whether a 'RelN' and an 'Fspc' stand before it.
@@ -59,13 +69,7 @@ fn optional_chunk(s: &[u8], count: usize, reln: bool, fspc: bool, at: usize) -> 
     if let Check::Refused { number, place } = single(s, fspc, 4, at) {
         return Check::Refused { number, place };
     }
-    if !is_picture(s, count, blorb::be32_at(s, at + 8)) {
-        return Check::Refused {
-            number: 19,
-            place: at + 8,
-        };
-    }
-    Check::Good
+    frontispiece(s, count, at)
 }
 
 fn or_is(before: bool, t: u64, kind: u64) -> bool
