@@ -63,9 +63,9 @@ mixed, mixed_listing = with_length(
 )
 assert len(mixed) == 65536
 
-# a good file, but for its length
-long, _ = with_length(65538, [(b"Data", 1, 0)], [(b"BINA", b"")], 0)
-assert len(long) == 65538
+# one byte more than the lister takes
+long = mixed + b"\0"
+assert len(long) == 65537
 
 for crate, given, expected in (
     ("lister", a, a_listing),

@@ -7,7 +7,8 @@ use native.Mathlib.Nat.{le-of-suc-le-suc, not-suc-le-zero}
 use lib.ListN.{length, take, drop, set, replicate, length-append, length-map}
 use Rattle.blorb.specs.Bytes.{be32}
 use Rattle.blorb.proofs.ByteLaws.{length-be32}
-use Rattle.blorb.specs.Format.{Chunk, heading, size, total, chunkBytes, chunksBytes, fileBytes, entriesBytes, indexChunk}
+use Rattle.blorb.specs.Format.{Chunk, size, total, chunkBytes, chunksBytes, fileBytes, entriesBytes, indexChunk}
+use Rattle.blorb.specs.Layout.{heading}
 use Rattle.blorb.specs.Model.{Model, file}
 use Rattle.blorb.proofs.Codec.{length-entriesBytes}
 use Rattle.blorb.proofs.ModelLaws.{entries, size-index}

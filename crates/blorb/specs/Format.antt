@@ -31,10 +31,6 @@ pub record Ref : Type 0 where
 unfoldable pub sized : ℕ → ℕ
 sized m = 8 + (m + m % 2)
 
--- the same number, for contracts: it unfolds by itself
-abbrev pub sizeOf : ℕ → ℕ
-sizeOf n = 8 + (n + n % 2)
-
 unfoldable pub size : Chunk → ℕ
 unfolding sized
 size c = sized (length (c .body))
@@ -87,10 +83,6 @@ entriesBytes (e ∷ es) = entryBytes e ++ entriesBytes es
 -- rule 3: "Its data: a count, then 12 bytes an entry"; the index chunk that holds these entries
 unfoldable pub indexChunk : List Entry → Chunk
 indexChunk es = record { type = RIdx; body = be32 (length es) ++ entriesBytes es }
-
--- the 24 bytes before the entries, of a file with n entries and chunks of t bytes behind the index
-unfoldable pub heading : ℕ → ℕ → List ℕ
-heading n t = be32 FORM ++ (be32 (16 + 12 * n + t) ++ (be32 IFRS ++ (be32 RIdx ++ (be32 (4 + 12 * n) ++ be32 n))))
 
 -- the entries in an index chunk
 unfoldable pub entriesOf : Chunk → List Entry

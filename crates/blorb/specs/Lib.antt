@@ -3,6 +3,7 @@ pub mod All
 pub mod Little
 pub mod Tags
 pub mod Format
+pub mod Layout
 pub mod Verdict
 pub mod Rules
 pub mod Model

@@ -19,7 +19,7 @@ use Rattle.reader.specs.Reading.{indexOf, noEntry, readBy, readOf, entryBy, ask
 use Rattle.reader.specs.declared.entries.Hit.{Hit}
 use Rattle.reader.specs.declared.entries.Hit.the-variants.{At, Nothing}
 use Rattle.capi.specs.Numbers.{refusalNumber, readNumbers, entryNumbers, lookupNumbers, editNumbers}
-use Rattle.editor.specs.Post.{blankAnswer}
+use Rattle.editor.specs.Called.{blankAnswer}
 use Rattle.capi.specs.Numbered.{Numbered}
 
 none : Numbered accept

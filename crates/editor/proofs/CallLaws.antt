@@ -22,8 +22,8 @@ use Rattle.editor.specs.declared.Outcome.{Outcome}
 use Rattle.editor.specs.declared.Outcome.the-variants.{Done, Refused}
 use Rattle.editor.specs.declared.Answer.{Answer}
 use Rattle.editor.specs.declared.Plan.the-variants.{Go, No}
-use Rattle.editor.specs.Called.{verdictOf, Called}
-use Rattle.editor.specs.Post.{refusedWith, doneWith, planOf, Stands, blankAnswer}
+use Rattle.editor.specs.Called.{verdictOf, Called, blankAnswer}
+use Rattle.editor.specs.Post.{refusedWith, doneWith, planOf, Stands}
 use Rattle.editor.proofs.Writes.{file-length}
 
 and-parts : (a b : Bool) → a && b ≡ true → (a ≡ true) × (b ≡ true)

@@ -6,7 +6,8 @@ use native.Mathlib.Omega.{arith}
 use lib.ListN.{length, take, drop, length-append, length-map}
 use lib.Seq.{drop-at, drop-drop}
 use Rattle.blorb.specs.Bytes.{rd32}
-use Rattle.blorb.specs.Format.{Chunk, entriesBytes, chunkBytes, chunksBytes, total, heading}
+use Rattle.blorb.specs.Format.{Chunk, entriesBytes, chunkBytes, chunksBytes, total}
+use Rattle.blorb.specs.Layout.{heading}
 use Rattle.blorb.specs.Verdict.{noChunk}
 use Rattle.blorb.specs.Model.{Model, base, startOf, file}
 use Rattle.blorb.specs.Queries.{chunkAt, start}

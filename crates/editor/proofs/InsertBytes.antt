@@ -9,7 +9,8 @@ use lib.ListN.{length, take, drop, length-append, length-map, length-drop, take-
 use lib.Seq.{length-take-le, drop-append-le, drop-drop}
 use lib.Dec.{leb}
 use Rattle.blorb.specs.Bytes.{be32, Byte}
-use Rattle.blorb.specs.Format.{Chunk, Entry, size, entryBytes, entriesBytes, chunkBytes, chunksBytes, total, placeOf, chunkOf, heading}
+use Rattle.blorb.specs.Format.{Chunk, Entry, size, entryBytes, entriesBytes, chunkBytes, chunksBytes, total, placeOf, chunkOf}
+use Rattle.blorb.specs.Layout.{heading}
 use Rattle.blorb.specs.Rules.{plainRules}
 use Rattle.blorb.specs.Model.{Model, base, startOf, file, model}
 use Rattle.blorb.specs.Queries.{start}

@@ -9,7 +9,8 @@ use lib.Dec.{eqb}
 use borrow.Author.Tests.{eq-eqb, ne-eqb}
 use Rattle.blorb.specs.Bytes.{rd32}
 use Rattle.blorb.specs.Format.{chunkOf}
-use Rattle.edits.specs.Journal.{lastRec, wellFormed, oldChunk, kindRule}
+use Rattle.edits.specs.Journal.{lastRec, wellFormed, oldChunk}
+use Rattle.edits.specs.KindRule.{kindRule}
 use Rattle.edits.specs.Run.{afterUndo}
 use Rattle.edits.proofs.LastLaws.{numbers-part, formed-part, well-formed-part}
 use Rattle.editor.specs.declared.journal.Record.{Record}

@@ -19,6 +19,9 @@ pub mod LastRead
 pub mod ContentLaws
 pub mod ReadsBack
 pub mod Runs
+pub mod Acts
+pub mod DemandThree
+pub mod Instance
 pub mod UndoTests
 pub mod UndoFits
 pub mod UndoAsked

@@ -14,7 +14,8 @@ use Rattle.blorb.proofs.ByteLaws.{length-be32}
 use Rattle.edits.specs.Run.{noted}
 use Rattle.edits.proofs.Noted.{noted-next}
 use Rattle.blorb.specs.Tags.{FORM, IFRS, RIdx}
-use Rattle.blorb.specs.Format.{chunkBytes, chunkOf, heading}
+use Rattle.blorb.specs.Format.{chunkBytes, chunkOf}
+use Rattle.blorb.specs.Layout.{heading}
 use Rattle.edits.specs.Journal.{recBytes, recBody}
 use Rattle.blorb.specs.Little.{little}
 use Rattle.editor.specs.Moves.{low4, turned, startsMoved}

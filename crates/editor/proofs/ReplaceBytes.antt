@@ -9,7 +9,8 @@ use lib.ListN.{length, take, drop, set, length-append, length-map}
 use lib.Seq.{length-take-le}
 use lib.Dec.{ltb}
 use borrow.Author.Tests.{le-ltb}
-use Rattle.blorb.specs.Format.{Chunk, Entry, size, entriesBytes, chunkBytes, chunksBytes, total, chunkOf, heading}
+use Rattle.blorb.specs.Format.{Chunk, Entry, size, entriesBytes, chunkBytes, chunksBytes, total, chunkOf}
+use Rattle.blorb.specs.Layout.{heading}
 use Rattle.blorb.specs.Verdict.{noChunk}
 use Rattle.blorb.specs.Rules.{plainRules}
 use Rattle.blorb.specs.Model.{Model, base, startOf, file, model}

@@ -8,7 +8,8 @@ use lib.ListN.{length, take, drop}
 use lib.Seq.{length-take-le}
 use lib.Dec.{leb}
 use borrow.Author.Tests.{leb-true}
-use Rattle.blorb.specs.Format.{size, placeOf, chunkOf, sizeOf}
+use Rattle.blorb.specs.Format.{size, placeOf, chunkOf}
+use Rattle.blorb.specs.Layout.{sizeOf}
 use Rattle.blorb.specs.Verdict.{Verdict, accept, refuse, verdict}
 use Rattle.blorb.specs.Rules.{plainRules}
 use Rattle.blorb.specs.Model.{Model, base, startOf, model, file}

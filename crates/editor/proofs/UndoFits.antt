@@ -10,7 +10,8 @@ use lib.Dec.{eqb, leb, ltb}
 use borrow.Author.Tests.{ltb-true, ltb-false, le-leb, lt-leb}
 use Rattle.blorb.specs.Bytes.{rd32, Byte}
 use Rattle.blorb.specs.Tags.{RIdx, Pict, Rect, Fspc}
-use Rattle.blorb.specs.Format.{Chunk, size, chunkIn, chunkBytes, chunksBytes, isStart, sizeOf}
+use Rattle.blorb.specs.Format.{Chunk, size, chunkIn, chunkBytes, chunksBytes, isStart}
+use Rattle.blorb.specs.Layout.{sizeOf}
 use Rattle.blorb.specs.Verdict.{verdict}
 use Rattle.blorb.specs.Rules.{plainAllows, typeIn, plainRules}
 use Rattle.blorb.specs.Model.{Model, base, model, file}

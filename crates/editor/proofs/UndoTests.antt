@@ -10,7 +10,8 @@ use lib.Dec.{eqb, leb, ltb}
 use borrow.Author.Tests.{not-true, not-false, le-leb, lt-leb}
 use Rattle.blorb.specs.Bytes.{rd32}
 use Rattle.blorb.specs.Tags.{RIdx}
-use Rattle.blorb.specs.Format.{chunkIn, chunkOf, sizeOf}
+use Rattle.blorb.specs.Format.{chunkIn, chunkOf}
+use Rattle.blorb.specs.Layout.{sizeOf}
 use Rattle.blorb.specs.Rules.{plainAllows}
 use Rattle.editor.specs.declared.journal.Record.{Record}
 use Rattle.reader.specs.declared.Piece.{Piece}

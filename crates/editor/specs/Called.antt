@@ -2,6 +2,7 @@
 use mathlib.Core.Path.{_≡_}
 use Prim.Native.Nat.{ℕ}
 use mathlib.Core.List.{List}
+use mathlib.Core.Bool.{Bool, true, false}
 use Rattle.blorb.specs.Verdict.{Verdict, accept, refuse}
 use Rattle.blorb.specs.Rules.{plainRules}
 use Rattle.edits.specs.Run.{State, Call, fault, step}
@@ -25,3 +26,8 @@ pub record Called (s : State) (c : Call) (r : Answer) (b j : List ℕ) : Type 0 
   pub used : r .used ≡ step plainRules s c .U
   pub file : b ≡ step plainRules s c .buffer
   pub journal : j ≡ step plainRules s c .journal
+
+-- blank's answer, told whether the buffer has room: "The answer is L = 24, U = 0"; "A buffer under 24 bytes: refusal 24 with L and U 0" (01, The edits)
+abbrev pub blankAnswer : Bool → Answer
+blankAnswer true = record { outcome = Done; len = 24; used = 0 }
+blankAnswer false = record { outcome = Refused 24 0; len = 0; used = 0 }

@@ -110,8 +110,3 @@ pub record Own (f : List ℕ) (u n : ℕ) (p : Piece) : Type 0 where
 abbrev pub changeOf : Verdict → Model → ℕ → ℕ → Change
 changeOf accept m u n = Put (length (m .refs)) (pieceOf m (find u n (m .refs)))
 changeOf (refuse k p) m u n = Keep k p
-
--- blank's answer (01, The edits: "The answer is L = 24, U = 0"; "a buffer under 24 bytes: refusal 24 with L and U 0"): it has room, or not
-abbrev pub blankAnswer : Bool → Answer
-blankAnswer true = doneWith 24 0
-blankAnswer false = refusedWith 24 0 0 0

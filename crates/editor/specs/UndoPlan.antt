@@ -7,7 +7,8 @@ use lib.ListN.{length, take, drop}
 use lib.Dec.{eqb, leb, ltb}
 use Rattle.blorb.specs.Bytes.{rd32, Byte}
 use Rattle.blorb.specs.Tags.{RIdx, Pict, Exec, Rect}
-use Rattle.blorb.specs.Format.{size, chunkIn, chunkOf, sizeOf}
+use Rattle.blorb.specs.Format.{size, chunkIn, chunkOf}
+use Rattle.blorb.specs.Layout.{sizeOf}
 use Rattle.blorb.specs.Verdict.{Verdict, accept, refuse, verdict, knownUsage}
 use Rattle.blorb.specs.Rules.{plainAllows, plainRules}
 use Rattle.blorb.specs.Model.{Model, model}

@@ -2,7 +2,7 @@
 ghost use mathlib.Core.Path.{_≡_};
 ghost use Prim.Native.Nat.{_+_, _≤_, _<_};
 ghost use lib.ListN.{length, take};
-ghost use Rattle.edits.specs.Journal.{kindRule};
+ghost use Rattle.edits.specs.KindRule.{kindRule};
 ghost use Rattle.editor.specs.LastRecord.{recordAt, lastOf};
 
 // A record's numbers; `sort` is its type, `length` the number of its data bytes.

@@ -5,7 +5,8 @@ ghost use mathlib.Core.List.{[], _∷_, _++_};
 ghost use lib.ListN.{length, replicate};
 ghost use Rattle.blorb.specs.Bytes.{be32};
 ghost use Rattle.edits.specs.Run.{noted};
-ghost use Rattle.blorb.specs.Format.{chunkBytes, chunkOf, heading};
+ghost use Rattle.blorb.specs.Format.{chunkBytes, chunkOf};
+ghost use Rattle.blorb.specs.Layout.{heading};
 ghost use Rattle.edits.specs.Journal.{recBytes};
 ghost use Rattle.editor.specs.Moves.{low4, turned, relocated, startsMoved, recordOf};
 

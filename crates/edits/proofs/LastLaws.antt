@@ -11,7 +11,8 @@ use lib.Dec.{eqb, leb}
 use borrow.Author.Tests.{ne-eqb, le-leb, lt-leb, leb-true}
 use Rattle.blorb.specs.Bytes.{rd32}
 use Rattle.blorb.proofs.ByteLaws.{rd32-at}
-use Rattle.edits.specs.Journal.{Rec, trailer, recIn, lastBody, lastRec, zeros, wellFormed, kindRule}
+use Rattle.edits.specs.Journal.{Rec, trailer, recIn, lastBody, lastRec, zeros, wellFormed}
+use Rattle.edits.specs.KindRule.{kindRule}
 use Rattle.edits.proofs.BoolLaws.{and-parts}
 
 -- a part of a first part

@@ -78,10 +78,6 @@ wellFormed j =
     && eqb (25 + rd32 (drop 21 (lastBody j))) (trailer j)
     && leb 1 (lastRec j .kind) && leb (lastRec j .kind) 4 && zeros (lastRec j)
 
--- "the kind is 1 to 4 and the fields named zero are zero", kind by kind, as the code asks it of kind, start, type and m (proofs/LastLaws, kind-rule)
-abbrev pub kindRule : ℕ → ℕ → ℕ → ℕ → Bool
-kindRule k s t m = cond (eqb k 1) (eqb s 0 && (eqb t 0 && eqb m 0)) (cond (eqb k 4) (eqb t 0 && eqb m 0) (eqb k 2 || eqb k 3))
-
 -- the entry has the record's pair
 abbrev pub hasPair : Rec → Ref → Bool
 hasPair r e = eqb (e .usage) (r .usage) && eqb (e .number) (r .number)

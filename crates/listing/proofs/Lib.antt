@@ -1,7 +1,6 @@
 pub mod TextLaws
 pub mod WriteLaws
 pub mod LineLaws
-pub mod EntryLaws
 pub mod ListLaws
 pub mod Samples
 pub mod Sense

@@ -2,13 +2,13 @@
 use mathlib.Core.Path.{_≡_, refl, ap, _∙_}
 use Prim.Native.Nat.{ℕ, zero, suc, _+_, _*_, _-_, _/_, _%_, _^_, _≤_, _<_}
 use mathlib.Core.List.{List, [], _∷_, _++_}
-use mathlib.Core.Bool.{Bool, true, false}
+use mathlib.Core.Bool.{Bool, true, false, _||_}
 use native.Mathlib.Omega.{arith}
 use native.Mathlib.Numerals.{add-one}
 use lib.ListN.{length, getD, take, drop, length-append}
 use lib.Seq.{take-all}
-use lib.Dec.{ltb, leb}
-use borrow.Author.Tests.{lt-ltb, ltb-false, lt-leb}
+use lib.Dec.{ltb}
+use borrow.Author.Tests.{lt-ltb, ltb-false}
 use Rattle.blorb.specs.Bytes.{rd32, Byte}
 use Rattle.blorb.specs.All.{All}
 use Rattle.blorb.proofs.AllLaws.{all-drop}
@@ -18,7 +18,7 @@ use Rattle.reader.specs.Entries.{startAt, place}
 use Rattle.reader.specs.Reading.{indexOf, readOf}
 use Rattle.reader.specs.declared.Reading.{Reading}
 use Rattle.reader.specs.declared.Reading.the-variants.{Accepted, Refused}
-use Rattle.reader.proofs.AskLaws.{Good, accepted}
+use Rattle.reader.proofs.Promises.{accepted-is, counted}
 use Rattle.listing.specs.Text.{text, digit, lastDigit, digitsOf, decimal}
 use Rattle.listing.specs.Listing.{headLine, refusedLine, linesOf, listingBy, listingOf, pickReading, inputReading, inputListing, roomBy, roomFor, inputRoom}
 use Rattle.listing.specs.InPlace.{fieldsAt, chunkText, lineAt}
@@ -73,9 +73,14 @@ unfolding decimal
 decimal-first n z h = first 19 n z (omega arith)
 
 -- "longer input prints as refusal 1 at 0"
-pub longer : (f : List ℕ) → 65536 < length f → inputListing f ≡ text "refused 1 at 0\n"
+pub refused-longer : (f : List ℕ) → inputListing f true ≡ text "refused 1 at 0\n"
 unfolding inputListing inputReading refusedLine decimal
-longer f h = rw (lt-leb (length f) 65536 h)
+refused-longer f = refl
+
+pub refused-over : (f : List ℕ) (longer : Bool) → 65536 < length f → inputListing f longer ≡ text "refused 1 at 0\n"
+unfolding inputListing inputReading refusedLine decimal
+refused-over f true l = refl
+refused-over f false l = rw (lt-ltb 65536 (length f) l)
 
 -- every listing fits the room that is asked for it
 head-room : (size count : ℕ) → length (headLine size count) ≤ 64
@@ -94,19 +99,18 @@ module _ (f : List ℕ) (bytes : All Byte f) where
   unfolding lineAt fieldsAt chunkText
   line-room p = simp (length-append, length-be32) (omega (arith, digits (p + 4), digits (p + 8), digits (startAt f p + 4)))
 
-  lines-room : (count : ℕ) → Good f count → (i : ℕ) → i ≤ count → length (linesOf f (take i (indexOf f))) ≤ 48 * i
+  lines-room : (l count : ℕ) → readOf f ≡ Accepted l count → (i : ℕ) → i ≤ count → length (linesOf f (take i (indexOf f))) ≤ 48 * i
   unfolding linesOf
-  lines-room count g zero h = omega arith
-  lines-room count g (suc i) h =
+  lines-room l count e zero h = omega arith
+  lines-room l count e (suc i) h =
       let on : length (linesOf f (take (i + 1) (indexOf f))) ≡ length (linesOf f (take i (indexOf f))) + length (lineAt f (place i))
-      = ap length (lines-on f count g i (omega arith)) ∙ length-append (linesOf f (take i (indexOf f))) (lineAt f (place i)) in
-      rw (← add-one i) (omega (arith, on, line-room (place i), lines-room count g i (omega arith)))
+      = ap length (lines-on f l count e i (omega arith)) ∙ length-append (linesOf f (take i (indexOf f))) (lineAt f (place i)) in
+      rw (← add-one i) (omega (arith, on, line-room (place i), lines-room l count e i (omega arith)))
 
   listing-go : (v : Reading) → readOf f ≡ v → length (listingBy f v) ≤ roomBy v
   listing-go (Accepted l n) e =
-      let g = accepted f l n e in
-      let whole : take n (indexOf f) ≡ indexOf f = take-all n (indexOf f) (omega (arith, g .many)) in
-      let lines : length (linesOf f (indexOf f)) ≤ 48 * n = rw whole at (lines-room n g n (omega arith)) in
+      let whole : take n (indexOf f) ≡ indexOf f = take-all n (indexOf f) (omega (arith, counted f l n e)) in
+      let lines : length (linesOf f (indexOf f)) ≤ 48 * n = rw whole at (lines-room l n e n (omega arith)) in
       simp length-append (omega (arith, head-room l n, lines))
   listing-go (Refused k p) e = refused-room k p
 
@@ -114,23 +118,23 @@ module _ (f : List ℕ) (bytes : All Byte f) where
   unfolding listingOf roomFor
   listing-fits = listing-go (readOf f) refl
 
-  pub input-fits : length (inputListing f) ≤ inputRoom f
+  picked-fits : (over : Bool) → length (listingBy f (pickReading over (Refused 1 0) (readOf f))) ≤ roomBy (pickReading over (Refused 1 0) (readOf f))
+  picked-fits true = refused-room 1 0
+  picked-fits false = listing-go (readOf f) refl
+
+  pub input-fits : (longer : Bool) → length (inputListing f longer) ≤ inputRoom f longer
   unfolding inputListing inputRoom inputReading
-  input-fits = go (leb (length f) 65536)
-    where
-      go : (b : Bool) → length (listingBy f (pickReading b (readOf f) (Refused 1 0))) ≤ roomBy (pickReading b (readOf f) (Refused 1 0))
-      go true = listing-go (readOf f) refl
-      go false = refused-room 1 0
+  input-fits longer = picked-fits (longer || ltb 65536 (length f))
 
 -- the most room that an input asks for: 4,096 entries
 input-go : (f : List ℕ) (v : Reading) → readOf f ≡ v → roomBy v ≤ 196672
-input-go f (Accepted l n) e = omega (arith, accepted f l n e .passed .judged .few)
+input-go f (Accepted l n) e = omega (arith, accepted-is f l n e .4)
 input-go f (Refused k p) e = omega arith
 
-pick-go : (f : List ℕ) (b : Bool) → roomBy (pickReading b (readOf f) (Refused 1 0)) ≤ 196672
-pick-go f true = input-go f (readOf f) refl
-pick-go f false = omega arith
+picked-room : (f : List ℕ) (over : Bool) → roomBy (pickReading over (Refused 1 0) (readOf f)) ≤ 196672
+picked-room f true = omega arith
+picked-room f false = input-go f (readOf f) refl
 
-pub input-room : (f : List ℕ) → inputRoom f ≤ 196672
+pub input-room : (f : List ℕ) (longer : Bool) → inputRoom f longer ≤ 196672
 unfolding inputRoom inputReading
-input-room f = pick-go f (leb (length f) 65536)
+input-room f longer = picked-room f (longer || ltb 65536 (length f))

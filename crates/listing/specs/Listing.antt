@@ -1,9 +1,9 @@
 -- What the lister prints (01, Sizes and Sample files), byte for byte, and where it goes in a lent buffer.
 use Prim.Native.Nat.{ℕ, _+_, _*_}
 use mathlib.Core.List.{List, [], _∷_, _++_}
-use mathlib.Core.Bool.{Bool, true, false}
+use mathlib.Core.Bool.{Bool, true, false, _||_}
 use lib.ListN.{length, drop}
-use lib.Dec.{leb}
+use lib.Dec.{leb, ltb}
 use Rattle.blorb.specs.Bytes.{be32}
 use Rattle.blorb.specs.Format.{Entry}
 use Rattle.reader.specs.Reading.{indexOf, readOf, lookupOf}
@@ -28,7 +28,7 @@ unfoldable pub entryLine : ℕ → ℕ → ℕ → ℕ → ℕ → List ℕ
 entryLine usage number start type size =
     be32 usage ++ text " " ++ decimal number ++ text " at " ++ decimal start ++ text " " ++ be32 type ++ text " " ++ decimal size ++ text "\n"
 
--- an entry's line: type and length are what a lookup of its usage and number gives. An accepted file's entries are all found (proofs/EntryLaws, entry-found).
+-- an entry's line: type and length are what a lookup of its usage and number gives. An accepted file's entries are all found (reader/proofs/Promises, entry-at).
 abbrev pub lineBy : Entry → Looked → List ℕ
 lineBy e (Found type start size) = entryLine (e .usage) (e .number) (e .start) type size
 lineBy e (Missing number place) = []
@@ -50,12 +50,13 @@ abbrev pub pickReading : Bool → Reading → Reading → Reading
 pickReading true a b = a
 pickReading false a b = b
 
--- "The lister reads standard input into 65,536 bytes; longer input prints as refusal 1 at 0."
-unfoldable pub inputReading : List ℕ → Reading
-inputReading f = pickReading (leb (length f) 65536) (readOf f) (Refused 1 0)
+-- "The lister reads standard input into 65,536 bytes; longer input prints as refusal 1 at 0." f is what was read, and the input is `longer` if more
+-- follows.
+unfoldable pub inputReading : List ℕ → Bool → Reading
+inputReading f longer = pickReading (longer || ltb 65536 (length f)) (Refused 1 0) (readOf f)
 
-unfoldable pub inputListing : List ℕ → List ℕ
-inputListing f = listingBy f (inputReading f)
+unfoldable pub inputListing : List ℕ → Bool → List ℕ
+inputListing f longer = listingBy f (inputReading f longer)
 
 -- the bytes that a buffer must have: 64 for the first line and 48 for each entry's, which is enough for every listing (proofs/Sense, listing-fits)
 abbrev pub roomBy : Reading → ℕ
@@ -65,8 +66,8 @@ roomBy (Refused number place) = 64
 unfoldable pub roomFor : List ℕ → ℕ
 roomFor f = roomBy (readOf f)
 
-unfoldable pub inputRoom : List ℕ → ℕ
-inputRoom f = roomBy (inputReading f)
+unfoldable pub inputRoom : List ℕ → Bool → ℕ
+inputRoom f longer = roomBy (inputReading f longer)
 
 abbrev pub pickListed : Bool → Listed → Listed → Listed
 pickListed true a b = a

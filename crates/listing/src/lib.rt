@@ -155,10 +155,13 @@ pub fn list(file: &[u8], out: &mut [u8]) -> Listed
     }
 }
 
-// The listing of the lister's input, which is refused where it has over 65,536 bytes.
-pub fn list_input(file: &[u8], out: &mut [u8]) -> Listed
-    ensures { λ r. ⌜ (r ≡ listedIn (length (now (out .entry))) (inputRoom (now (file .entry))) (inputListing (now (file .entry)))) × (now (out .exit) ≡ outBy r (inputListing (now (file .entry))) (now (out .entry))) ⌝ }
+// The listing of the lister's input: of the bytes that were read, or its refusal, if more follow or these are over 65,536.
+pub fn list_input(file: &[u8], longer: bool, out: &mut [u8]) -> Listed
+    ensures { λ r. ⌜ (r ≡ listedIn (length (now (out .entry))) (inputRoom (now (file .entry)) longer) (inputListing (now (file .entry)) longer)) × (now (out .exit) ≡ outBy r (inputListing (now (file .entry)) longer) (now (out .entry))) ⌝ }
 {
+    if longer {
+        return list_refused(1, 0, out);
+    }
     if 65536 < file.len() {
         return list_refused(1, 0, out);
     }

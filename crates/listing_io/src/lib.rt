@@ -9,22 +9,32 @@ ghost use lib.ListN.{length, drop};
 ghost use Rattle.listing.specs.Listing.{inputListing};
 
 // The whole listing: 196,672 bytes are room for one of 4,096 entries, so that the other branch is never taken.
-fn list_whole(file: &[u8], out: &mut [u8]) -> usize
+fn list_whole(file: &[u8], longer: bool, out: &mut [u8]) -> usize
     requires { ⌜ 196672 ≤ length (now out) ⌝ }
-    ensures { λ r. ⌜ (r ≡ length (inputListing (now (file .entry)))) × (now (out .exit) ≡ inputListing (now (file .entry)) ++ drop r (now (out .entry))) × (r ≤ length (now (out .exit))) ⌝ }
+    ensures { λ r. ⌜ (r ≡ length (inputListing (now (file .entry)) longer)) × (now (out .exit) ≡ inputListing (now (file .entry)) longer ++ drop r (now (out .entry))) × (r ≤ length (now (out .exit))) ⌝ }
 {
-    let Listed::Written(n) = listing::list_input(file, out) else {
+    let Listed::Written(n) = listing::list_input(file, longer, out) else {
         return 0;
     };
     n
 }
 
-// Prints the listing of what stands on standard input. One byte more than the limit shows longer input.
+// Whether standard input has more, once n bytes were read into 65,536.
+fn more_follows(n: usize) -> bool {
+    if n < 65536 {
+        return false;
+    }
+    let mut next = [0u8; 1];
+    0 < io::read_full(STDIN_FILENO, &mut next)
+}
+
+// Prints the listing of what stands on standard input: 65,536 bytes are read, and then one more shows longer input.
 // No contract can say what is read and written; list_whole's says what the bytes are.
 pub fn list_stdin() {
-    let mut file = [0u8; 65537];
+    let mut file = [0u8; 65536];
     let mut out = [0u8; 196672];
     let n = io::read_full(STDIN_FILENO, &mut file);
-    let to = list_whole(&file[..n], &mut out);
+    let longer = more_follows(n);
+    let to = list_whole(&file[..n], longer, &mut out);
     io::write_all(STDOUT_FILENO, &out[..to]);
 }

@@ -5,11 +5,12 @@ use mathlib.Core.List.{List, [], map}
 use mathlib.Core.Bool.{false}
 use native.Mathlib.Omega.{arith}
 use lib.ListN.{length, getD, drop}
-use borrow.Author.Tests.{lt-leb}
+use lib.Seq.{drop-drop}
+use borrow.Author.Tests.{le-leb, lt-leb}
 use Rattle.blorb.specs.Bytes.{rd32, Byte}
-use Rattle.blorb.specs.Format.{Chunk, entriesIn}
+use Rattle.blorb.specs.Format.{Chunk, entryIn, entriesIn}
 use Rattle.blorb.specs.Verdict.{accept, refuse, headFault, verdict, entriesFault, pairIn}
-use Rattle.blorb.proofs.Checks.{stop, refuses}
+use Rattle.blorb.proofs.Checks.{pass, stop, refuses}
 use Rattle.blorb.specs.Rules.{plainRules, plainVerdict}
 use Rattle.blorb.specs.Model.{base, entryOf, file, model}
 use Rattle.blorb.specs.Queries.{find, refAt, start}
@@ -22,7 +23,7 @@ use Rattle.blorb.proofs.Accept.{accept-back, entryOf-refOf}
 use Rattle.blorb.proofs.Exactly.{plain-exactly}
 use Rattle.blorb.proofs.ModelLaws.{entries}
 use Rattle.reader.specs.Walk.{chunkFrom, chunksFrom}
-use Rattle.reader.specs.Entries.{place, entriesFrom, earlier}
+use Rattle.reader.specs.Entries.{usageAt, numberAt, startAt, place, entriesFrom, earlier}
 use Rattle.reader.specs.Optional.{EntriesPassed}
 use Rattle.reader.specs.Passed.{modelAt}
 use Rattle.reader.specs.Reading.{indexOf, readOf, noEntry, askedOf, hitIn, lookupOf, partOf}
@@ -33,9 +34,9 @@ use Rattle.reader.specs.declared.Looked.{Looked}
 use Rattle.reader.specs.declared.Looked.the-variants.{Found, Refused as Missing}
 use Rattle.reader.proofs.ChunkLaws.{fine}
 use Rattle.reader.proofs.StartLaws.{begun}
-use Rattle.reader.proofs.IndexLaws.{hit-start}
+use Rattle.reader.proofs.IndexLaws.{entry-getD, hit-start, hit-begun}
 use Rattle.reader.proofs.ReadLaws.{refused}
-use Rattle.reader.proofs.AskLaws.{good, read-go, refused-as, known-at, not-unknown, given-as}
+use Rattle.reader.proofs.AskLaws.{good, accepted, look-found, read-go, refused-as, known-at, not-unknown, given-as}
 use Rattle.reader.proofs.PartLaws.{refs-count, starts}
 use Rattle.reader.proofs.LookLaws.{body-at, either, only-hit}
 
@@ -78,6 +79,49 @@ refused-is f k p = (λ e. refused-as f k p e, λ e. sym (refused f k p e))
 pub too-long : (f : List ℕ) → 16777216 < length f → readOf f ≡ Refused 1 0
 unfolding plainVerdict verdict headFault
 too-long f h = refused-is f 1 0 .1 (refuses _ _ _ _ (stop _ _ _ _ (lt-leb _ _ h)))
+
+-- and one of fewer than 12 bytes with 2 at 0
+pub too-short : (f : List ℕ) → length f < 12 → readOf f ≡ Refused 2 0
+unfolding plainVerdict verdict headFault
+too-short f h =
+    let short : length f ≤ 16777216 = omega arith in
+    refused-is f 2 0 .1 (refuses _ _ _ _ (pass _ _ _ _ (le-leb _ _ short) ∙ stop _ _ _ _ (lt-leb _ _ h)))
+
+-- an accepted file's index has as many entries as the reading says
+pub counted : (f : List ℕ) (l n : ℕ) → readOf f ≡ Accepted l n → length (indexOf f) ≡ n
+counted f l n e = accepted f l n e .many
+
+-- entry i of an accepted file, read where it stands: it and its chunk's header lie in the file, and the lookup of its pair finds that chunk
+pub record EntryAt (f : List ℕ) (i : ℕ) : Type 0 where
+  pub listed : getD (indexOf f) i noEntry ≡ record { usage = usageAt f (place i); number = numberAt f (place i); start = startAt f (place i) }
+  pub inside : place i + 12 ≤ length f
+  pub chunk : startAt f (place i) + 8 ≤ length f
+  pub found : lookupOf f (usageAt f (place i)) (numberAt f (place i))
+      ≡ Found (rd32 (drop (startAt f (place i)) f)) (startAt f (place i) + 8) (rd32 (drop (startAt f (place i) + 4) f))
+
+fields : (f : List ℕ) (p : ℕ) → entryIn (drop p f) ≡ record { usage = usageAt f p; number = numberAt f p; start = startAt f p }
+unfolding entryIn
+fields f p = λ i. record { usage = usageAt f p; number = rd32 (drop-drop 4 p f i); start = rd32 (drop-drop 8 p f i) }
+
+pub entry-at : (f : List ℕ) (l n i : ℕ) → readOf f ≡ Accepted l n → i < n → EntryAt f i
+unfolding entriesFrom earlier
+entry-at f l n i e h =
+    let g = accepted f l n e in
+    let j : EntriesPassed f n = g .passed .judged in
+    let u : ℕ = usageAt f (place i) in
+    let k : ℕ = numberAt f (place i) in
+    let x : ℕ = startAt f (place i) in
+    let listed : getD (indexOf f) i noEntry ≡ record { usage = u; number = k; start = x } = rw (g .index) (entry-getD f n i 24 noEntry h ∙ fields f (place i)) in
+    let es : entriesFault plainRules (place n) (chunksFrom f (place n)) [] 24 (indexOf f) ≡ accept = rw (g .index) (j .entries) in
+    let hit : hitIn u k (indexOf f) ≡ At x = rw listed at (only-hit f (place n) (j .walks) (indexOf f) [] 24 i noEntry es (rw (g .many) h)) in
+    let there : hitIn u k (entriesIn n (drop 24 f)) ≡ At x = rw (g .index) at hit in
+    let b = hit-begun f n u k x j there in
+    record {
+      listed = listed;
+      inside = omega (arith, j .room);
+      chunk = fine f x (b .0) (b .1) .header;
+      found = sym (look-found f u k n g x _ _ there refl refl);
+    }
 
 -- the index's entries are the model's
 pub index-is : (f : List ℕ) → plainVerdict f ≡ accept → indexOf f ≡ entries (model f)

@@ -81,3 +81,12 @@ lookupOf f u n = lookedBy (plainVerdict f) (foundBy f (hitIn u n (indexOf f)))
 abbrev pub partOf : Looked → List ℕ → List ℕ
 partOf (Found t a m) f = take m (drop a f)
 partOf (Missing k p) f = []
+
+-- where that part begins in the caller's slice; the empty part of a refused call at its first byte
+abbrev pub partStart : Looked → ℕ
+partStart (Found t a m) = a
+partStart (Missing k p) = 0
+
+-- where it lies in memory, for a slice that lies at p: a block and an offset in it
+abbrev pub partAt : Looked → ℕ × ℕ → ℕ × ℕ
+partAt l p = (p .0, partStart l + p .1)

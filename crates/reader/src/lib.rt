@@ -14,7 +14,7 @@ ghost use mathlib.Core.Path.{_≡_};
 ghost use Rattle.blorb.specs.Bytes.{rd32};
 ghost use Rattle.blorb.specs.Rules.{plainVerdict};
 ghost use Rattle.blorb.specs.Model.{model};
-ghost use Rattle.reader.specs.Reading.{readOf, askedOf, lookupOf, partOf};
+ghost use Rattle.reader.specs.Reading.{readOf, askedOf, lookupOf, partOf, partAt};
 ghost use Rattle.reader.specs.Inspecting.{inspectionOf};
 ghost use Rattle.reader.specs.Passed.{Judges, JudgesEntries};
 
@@ -206,9 +206,9 @@ pub fn lookup(file: &[u8], usage: [u8; 4], number: u32) -> Looked
     }
 }
 
-// The data that the lookup names: empty where it refuses.
+// The part of `file` that the lookup names: these very bytes, where they lie. It is empty where the lookup refuses.
 pub fn data(file: &[u8], usage: [u8; 4], number: u32) -> &[u8]
-    ensures { λ r. ⌜ now r ≡ partOf (lookupOf (now (file .entry)) (rd32 usage) number) (now (file .entry)) ⌝ }
+    ensures { λ r. ⌜ (now r ≡ partOf (lookupOf (now (file .entry)) (rd32 usage) number) (now (file .entry))) × (r .ptr ≡ partAt (lookupOf (now (file .entry)) (rd32 usage) number) (file .entry .ptr)) ⌝ }
 {
     match lookup(file, usage, number) {
         Looked::Found {

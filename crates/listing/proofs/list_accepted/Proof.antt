@@ -3,7 +3,7 @@ use Prim.Native.Nat.{_+_, _*_}
 use mathlib.Core.List.{_++_}
 use denote.Ref.{now}
 use Rattle.reader.specs.Reading.{indexOf}
-use Rattle.reader.proofs.AskLaws.{accepted}
+use Rattle.reader.proofs.Promises.{accepted-is}
 use Rattle.listing.specs.Listing.{headLine, linesOf}
 use Rattle.listing.proofs.WriteLaws.{more}
 use Rattle.listing.proofs.ListLaws.{size-known, no-room, written}
@@ -17,11 +17,11 @@ use Rattle.listing.proofs.put_head.Reads as put-head-reads
 
 -- src/lib.rt:129:25
 mul-if1 : tie.Need-mul-if1
-mul-if1 c = let a = c .before .before .args in let g = accepted (now (a .file)) _ _ (c .before .before .pre) in omega (arith, g .passed .judged .few)
+mul-if1 c = omega (arith, accepted-is (now (c .before .before .args .file)) _ _ (c .before .before .pre) .4)
 
 -- src/lib.rt:129:20
 add-if1 : tie.Need-add-if1
-add-if1 c = let a = c .before .before .args in let g = accepted (now (a .file)) _ _ (c .before .before .pre) in omega (arith, g .passed .judged .few)
+add-if1 c = omega (arith, accepted-is (now (c .before .before .args .file)) _ _ (c .before .before .pre) .4)
 
 -- src/lib.rt:130:9
 returns : tie.Need-returns

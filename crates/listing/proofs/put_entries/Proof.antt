@@ -5,10 +5,9 @@ use mathlib.Core.Path.{_≡_, refl}
 use denote.Ref.{now}
 use lib.ListN.{length, take}
 use Rattle.reader.specs.Reading.{indexOf}
-use Rattle.reader.proofs.AskLaws.{accepted}
+use Rattle.reader.proofs.Promises.{accepted-is, entry-at}
 use Rattle.listing.specs.Listing.{linesOf}
 use Rattle.listing.specs.InPlace.{Wrote}
-use Rattle.listing.proofs.EntryLaws.{chunk-in}
 use Rattle.listing.proofs.ListLaws.{lines-none, lines-turn, lines-whole}
 use Rattle.listing.proofs.put_entries.Statement.{statement}
 use Rattle.listing.proofs.put_entries.Tie as tie
@@ -28,17 +27,17 @@ loop-holds c = let a = c .before .before .args in (omega arith, refl, omega arit
 
 -- src/lib.rt:108:44
 mul-put-entry : tie.Need-mul-put-entry Inv-loop μ-loop
-mul-put-entry c = let g = accepted (now (c .before .before .before .before .before .args .file)) _ _ (c .before .before .before .before .before .pre .0) in omega (arith, g .passed .judged .few)
+mul-put-entry c = omega (arith, accepted-is (now (c .before .before .before .before .before .args .file)) _ _ (c .before .before .before .before .before .pre .0) .4)
 
 -- src/lib.rt:108:39
 add-put-entry : tie.Need-add-put-entry Inv-loop μ-loop
-add-put-entry c = let g = accepted (now (c .before .before .before .before .before .args .file)) _ _ (c .before .before .before .before .before .pre .0) in omega (arith, g .passed .judged .few)
+add-put-entry c = omega (arith, accepted-is (now (c .before .before .before .before .before .args .file)) _ _ (c .before .before .before .before .before .pre .0) .4)
 
 -- src/lib.rt:108:9
 put-entry-requires : tie.Need-put-entry-requires Inv-loop μ-loop
 put-entry-requires c κs = let f = now (c .before .before .before .before .before .args .file) in
-    let g = accepted f _ _ (c .before .before .before .before .before .pre .0) in
-    (omega (arith, g .passed .judged .room), chunk-in f _ g (c .before .before .loop .i) (c .before .loop-test .taken), omega (arith, c .before .before .before .before .before .pre .1))
+    let e = entry-at f _ _ (c .before .before .loop .i) (c .before .before .before .before .before .pre .0) (c .before .loop-test .taken) in
+    (e .inside, e .chunk, omega (arith, c .before .before .before .before .before .pre .1))
 
 -- src/lib.rt:109:9
 add-i : tie.Need-add-i Inv-loop μ-loop
@@ -52,11 +51,11 @@ loop-less c = search needs
 loop-again : tie.Need-loop-again Inv-loop μ-loop
 loop-again c = let f = now (c .before .before .before .before .before .before .before .before .args .file) in
     let l = c .before .before .before .before .before .loop in
-    let g = accepted f _ _ (c .before .before .before .before .before .before .before .before .pre .0) in (
+    let e = c .before .before .before .before .before .before .before .before .pre .0 in (
       omega arith,
       omega arith,
       omega (arith, c .before .before .put-entry .ensures .1),
-      lines-turn f _ g (now (c .before .before .before .before .before .before .before .before .args .out)) _ _ (c .before .before .before .before .before .before .before .before .args .at) (l .i) _ _ (c .before .before .before .before .loop-test .taken) (l .inv .3) (c .before .before .put-entry .ensures .0),
+      lines-turn f _ _ e (now (c .before .before .before .before .before .before .before .before .args .out)) _ _ (c .before .before .before .before .before .before .before .before .args .at) (l .i) _ _ (c .before .before .before .before .loop-test .taken) (l .inv .3) (c .before .before .put-entry .ensures .0),
     )
 
 -- src/lib.rt:101:1
@@ -67,7 +66,7 @@ same-length c = search needs
 returns : tie.Need-returns Inv-loop μ-loop
 returns c = let f = now (c .before .before .before .before .args .file) in
     let l = c .before .loop in
-    (lines-whole f _ (accepted f _ _ (c .before .before .before .before .pre .0)) (now (c .before .before .before .before .args .out)) _ (c .before .before .before .before .args .at) (l .i) _ (c .loop-test .left) (l .inv .3), omega (arith, l .inv .2, l .inv .0))
+    (lines-whole f _ _ (c .before .before .before .before .pre .0) (now (c .before .before .before .before .args .out)) _ (c .before .before .before .before .args .at) (l .i) _ (c .loop-test .left) (l .inv .3), omega (arith, l .inv .2, l .inv .0))
 
 pub put-entries-spec : {M : Type 1} → statement M
 put-entries-spec =
