@@ -1,17 +1,19 @@
 -- A model's file as its parts, for the code: header, count, entries, chunks; and where the parts of an old file stand.
-use mathlib.Core.Path.{_≡_, refl, sym}
+use mathlib.Core.Path.{_≡_, refl, sym, ap, _∙_}
 use Prim.Native.Nat.{ℕ, zero, suc, _+_, _*_, _<_, _%_}
 use mathlib.Core.List.{List, [], _∷_, _++_, append-assoc, append-nil}
 use native.Mathlib.Omega.{arith}
 use native.Mathlib.Nat.{le-of-suc-le-suc, not-suc-le-zero}
-use lib.ListN.{length, take, drop, set, replicate, length-append, length-map}
+use lib.ListN.{length, getD, take, drop, set, replicate, length-append, length-map}
+use lib.Seq.{split-at}
 use Rattle.blorb.specs.Bytes.{be32}
 use Rattle.blorb.proofs.ByteLaws.{length-be32}
-use Rattle.blorb.specs.Format.{Chunk, size, total, chunkBytes, chunksBytes, fileBytes, entriesBytes, indexChunk}
+use Rattle.blorb.specs.Format.{Chunk, chunkOf, size, sized, total, chunkBytes, chunksBytes, fileBytes, entriesBytes, indexChunk}
 use Rattle.blorb.specs.Layout.{heading}
-use Rattle.blorb.specs.Model.{Model, file}
+use Rattle.blorb.specs.Verdict.{noChunk}
+use Rattle.blorb.specs.Model.{Model, base, file}
 use Rattle.blorb.proofs.Codec.{length-entriesBytes}
-use Rattle.blorb.proofs.ModelLaws.{entries, size-index}
+use Rattle.blorb.proofs.ModelLaws.{entries, size-index, length-file}
 
 no-pad : (n : ℕ) → replicate {A = ℕ} ((4 + 12 * n) % 2) 0 ≡ []
 no-pad n = rw e
@@ -27,6 +29,14 @@ file-parts m =
     let t : 4 + (size (indexChunk (entries m)) + total (m .chunks)) ≡ 16 + 12 * n + total (m .chunks) = rw size-index (simp length-map (omega arith)) in
     rw (l, t, no-pad n, append-nil (be32 (length (entries m)) ++ entriesBytes (entries m)), length-map) (simp append-assoc)
 
+pub file-length : (m : Model) → length (file m) ≡ 24 + 12 * length (m .refs) + total (m .chunks)
+unfolding base
+file-length m = length-file m
+
+pub size-of : (t : ℕ) (d : List ℕ) → size (chunkOf t d) ≡ 8 + length d + length d % 2
+unfolding size sized
+size-of t d = omega arith
+
 pub length-heading : (n t : ℕ) → length (heading n t) ≡ 24
 unfolding heading
 length-heading n t = simp (length-append, length-be32)
@@ -35,6 +45,16 @@ pub chunks-append : (a b : List Chunk) → chunksBytes (a ++ b) ≡ chunksBytes 
 unfolding chunksBytes
 chunks-append [] b = refl
 chunks-append (c ∷ a) b = rw (chunks-append a b) (sym (append-assoc (chunkBytes c) (chunksBytes a) (chunksBytes b)))
+
+pub chunks-cons : (c : Chunk) (cs : List Chunk) → chunksBytes (c ∷ cs) ≡ chunkBytes c ++ chunksBytes cs
+unfolding chunksBytes
+chunks-cons c cs = refl
+
+-- chunks around one of them
+pub chunks-around : (cs : List Chunk) (k : ℕ) → k < length cs → chunksBytes cs ≡ chunksBytes (take k cs) ++ (chunkBytes (getD cs k noChunk) ++ chunksBytes (drop (suc k) cs))
+chunks-around cs k h =
+    ap chunksBytes (split-at cs k noChunk h) ∙ chunks-append (take k cs) (getD cs k noChunk ∷ drop (suc k) cs)
+    ∙ ap (λ (z : List ℕ). chunksBytes (take k cs) ++ z) (chunks-cons (getD cs k noChunk) (drop (suc k) cs))
 
 pub chunks-set : (cs : List Chunk) (k : ℕ) (c : Chunk) → k < length cs → chunksBytes (set cs k c) ≡ chunksBytes (take k cs) ++ (chunkBytes c ++ chunksBytes (drop (suc k) cs))
 unfolding chunksBytes

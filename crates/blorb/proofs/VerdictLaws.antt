@@ -19,7 +19,7 @@ use Rattle.blorb.specs.All.{All}
 use Rattle.blorb.specs.Sound.{W, RefOk, Sound}
 use Rattle.blorb.proofs.Places.{size-pos, body-size, isStart-startOf}
 use Rattle.blorb.proofs.Codec.{length-chunkBytes, length-fileBytes, length-entriesBytes, first-length, first-rest, drop-header, entriesOf-indexChunk}
-use Rattle.blorb.proofs.Checks.{pass, accepts, holds-last}
+use Rattle.blorb.proofs.Checks.{then-accept, pass, accepts, holds-last}
 use Rattle.blorb.proofs.ModelLaws.{entries, size-index, chunks-of, entries-ok, few, refOf-entryOf, refOf-entryOf1}
 
 -- an encoded chunk has no fault
@@ -161,3 +161,7 @@ module _ (R : Rules) where
           ∙ holds-last _ _ _ (eq-eqb (8 + rd32 (drop 4 (file m))) (length (file m)) (rw (l, f, h .1) (omega arith))))
           ∙ accepts _ _ (rw (f, drop-header cs) (walk-fine (length (fileBytes cs)) 12 cs (omega arith)))
           ∙ rest ∙ sym (pass _ _ _ _ e)
+
+  -- the model of an accepted file passes what is left to judge
+  pub file-judged : (m : Model) → Sound m → verdict R (file m) ≡ accept → modelFault m ≡ accept
+  file-judged m s h = then-accept _ _ (sym (verdict-file m s) ∙ h) .1

@@ -5,7 +5,7 @@ use mathlib.Core.Bool.{Bool, false, cond, _&&_, _||_}
 use lib.ListN.{length, getD, take, drop}
 use lib.Dec.{eqb}
 use Rattle.blorb.specs.Bytes.{rd32}
-use Rattle.blorb.specs.Format.{Ref, Chunk}
+use Rattle.blorb.specs.Format.{Ref, Chunk, placeOf}
 use Rattle.blorb.specs.Verdict.{noChunk}
 use Rattle.blorb.specs.Tags.{Fspc}
 use Rattle.blorb.specs.Model.{Model, base, startOf}
@@ -41,6 +41,10 @@ shared m i = uses (refAt m i .chunk) (without i (m .refs))
 -- where the chunk at place k starts
 unfoldable pub start : Model → ℕ → ℕ
 start m k = startOf (base (length (m .refs))) (m .chunks) k
+
+-- the place of the chunk that starts at s; their number where none does
+abbrev pub placeAt : Model → ℕ → ℕ
+placeAt m s = placeOf s (base (length (m .refs))) (m .chunks)
 
 -- rule 7's frontispiece chunk: its place among the chunks, and "the number of a picture" in it
 unfoldable pub frontPlace : List Chunk → ℕ

@@ -13,7 +13,8 @@ ghost use Rattle.reader.specs.Reading.{readOf, askedOf, lookupOf};
 ghost use Rattle.edits.specs.Edit.{add, replace, remove};
 ghost use Rattle.edits.specs.Run.{edit, undo};
 ghost use Rattle.edits.specs.Blank.{blanked};
-ghost use Rattle.editor.specs.Called.{state, blankAnswer};
+ghost use Rattle.edits.specs.Run.{state};
+ghost use Rattle.editor.specs.Called.{blankAnswer};
 ghost use Rattle.capi.specs.Numbers.{readNumbers, entryNumbers, lookupNumbers, editNumbers};
 ghost use Rattle.capi.specs.Answered.{Answered};
 

@@ -12,7 +12,7 @@ use borrow.Fn.Kinds.{PK, RK, sigOf, endedOf, GoodsP}
 use Rattle.blorb.specs.Bytes.{rd32}
 use Rattle.edits.specs.Edit.{add, replace, remove}
 use Rattle.edits.specs.Run.{State, Call, edit, undo}
-use Rattle.editor.specs.Called.{state}
+use Rattle.edits.specs.Run.{state}
 use Rattle.editor.specs.Runs.{Turn, stateAfter}
 use Rattle.editor.proofs.add.Kinds as add-kinds
 use Rattle.editor.proofs.add.Reads as add-reads

@@ -11,27 +11,30 @@ use borrow.Author.Tests.{leb-true}
 use Rattle.blorb.specs.Verdict.{Verdict, accept, _then_, check, verdict}
 use Rattle.blorb.specs.Rules.{plainRules}
 use Rattle.blorb.specs.Model.{model, file}
-use Rattle.edits.specs.Edit.{Edit, add, edited, givenChunk}
+use Rattle.blorb.specs.Format.{chunkOf}
+use Rattle.edits.specs.Edit.{Edit, add, added, edited, givenChunk}
 use Rattle.edits.specs.Journal.{recOf, recBytes}
 use Rattle.edits.proofs.JournalLaws.{length-recBytes}
 use Rattle.blorb.specs.All.{All}
 use Rattle.blorb.specs.Bytes.{Byte}
 use Rattle.blorb.proofs.Checks.{then-accept, check-accept, accepts}
-use Rattle.blorb.proofs.Accept.{accept-back, accept-short}
+use Rattle.blorb.proofs.Accept.{accept-short}
 use Rattle.edits.proofs.Lengths.{length-added}
 use Rattle.edits.specs.Run.{hundred, targetFault, editFault, editedFile, editRecord, noted}
-use Rattle.editor.specs.Moves.{recordOf}
-use Rattle.editor.specs.declared.Outcome.{Outcome}
-use Rattle.editor.specs.declared.Outcome.the-variants as outcome
+use Rattle.moves.specs.Moves.{recordOf}
+use Rattle.judging.specs.declared.Outcome.{Outcome}
+use Rattle.judging.specs.declared.Outcome.the-variants as outcome
 use Rattle.editor.specs.declared.Plan.the-variants.{Go, No}
 use Rattle.reader.specs.declared.Facts.{Facts}
 use Rattle.reader.specs.declared.Inspection.the-variants.{Whole, Refused}
 use Rattle.reader.specs.Inspecting.{targetOf}
-use Rattle.editor.specs.Called.{verdictOf}
-use Rattle.editor.specs.Post.{planOf, Stands}
-use Rattle.editor.proofs.OpenLaws.{asked, asked-refused, asked-whole}
-use Rattle.editor.proofs.Writes.{size-given}
-use Rattle.editor.proofs.CallLaws.{plan-go, hundred-fine, open-stands, stands-part, edit-unopened, edit-told}
+use Rattle.judging.specs.Outcomes.{verdictOf}
+use Rattle.judging.specs.Told.{Counted}
+use Rattle.rewrite.specs.Rewriting.{Stands}
+use Rattle.editor.specs.Post.{planOf}
+use Rattle.judging.proofs.OpenLaws.{asked, asked-refused, asked-whole}
+use Rattle.edits.proofs.Lengths.{size-given}
+use Rattle.editor.proofs.CallLaws.{plan-go, hundred-fine, open-stands, stands-counted, edit-unopened, edit-told}
 
 module _ (b : List ℕ) (l J U u n t : ℕ) (d : List ℕ) (bytes : All Byte (take l b)) where
   abbrev pub f : List ℕ
@@ -61,8 +64,7 @@ module _ (b : List ℕ) (l J U u n t : ℕ) (d : List ℕ) (bytes : All Byte (ta
   unfolding editedFile edited
   add-length h =
       let st = open-stands b l U J K bytes h refl in
-      let g = accept-back plainRules f bytes (st .0 .fine) in
-      let lf : length (file (model f)) ≡ l = ap length (g .0) ∙ length-take-le l b (st .0 .inside) in
+      let lf : length (file (model f)) ≡ l = ap length (st .0 .whole) ∙ length-take-le l b (st .0 .inside) in
       length-added (model f) u n (givenChunk t d) ∙ omega (arith, size-given t d)
 
   pub plan-unopened : (x k p : ℕ) → asked b l J U u n x ≡ Refused k p → No k p ≡ planOf Vd K
@@ -79,12 +81,13 @@ module _ (b : List ℕ) (l J U u n t : ℕ) (d : List ℕ) (bytes : All Byte (ta
     told-stands = open-stands b l U J (fs .count) bytes ok count-is
 
     -- what add_fault asks
-    pub told-pair : Stands f (length f) (fs .count) × (fs .target ≡ targetOf (model f) u n)
-    told-pair = (stands-part b l (fs .count) (told-stands .0), ap (λ (z : Facts). z .target) (asked-whole b l J U u n x fs op .1))
+    pub told-pair : (verdict plainRules f ≡ accept) × (Counted f (fs .count) × (fs .target ≡ targetOf (model f) u n))
+    told-pair = (then-accept _ _ ok .1, (stands-counted b l (fs .count) (told-stands .0), ap (λ (z : Facts). z .target) (asked-whole b l J U u n x fs op .1)))
 
-    module _ (j r : Outcome) (judged : verdictOf j ≡ hundred (verdict plainRules (editedFile f E)))
+    module _ (j r : Outcome) (judged : verdictOf j ≡ hundred (verdict plainRules (file (added (model f) u n (chunkOf t d)))))
         (e : verdictOf r ≡ verdictOf j then (check (leb (l + (20 + (length d + length d % 2))) (length b)) 24 0 then check (leb 29 (J - U)) 25 0)) where
       told : Vd ≡ verdictOf r
+      unfolding editedFile edited givenChunk
       told = edit-told (length b) J f l U E j r _ _ ok on-target (told-stands .1) judged (sym (add-length ok)) (sym record-29) e
 
       pub plan-refused : (k p : ℕ) → r ≡ outcome.Refused k p → No k p ≡ planOf Vd K

@@ -5,7 +5,7 @@ use mathlib.Core.List.{List}
 use mathlib.Core.Bool.{Bool, true, false, _&&_}
 use native.Mathlib.Omega.{arith}
 use lib.ListN.{length, take, drop, length-drop}
-use lib.Seq.{length-take-le, take-length}
+use lib.Seq.{length-take-le}
 use lib.Dec.{leb}
 use borrow.Author.Tests.{le-leb, lt-leb, leb-true, leb-false}
 use Rattle.blorb.specs.Verdict.{Verdict, accept, refuse, _then_, check, verdict}
@@ -18,13 +18,16 @@ use Rattle.blorb.proofs.Checks.{then-accept, check-accept, pass, accepts, stop}
 use Rattle.blorb.proofs.Accept.{accept-back}
 use Rattle.edits.proofs.AddVerdict.{then-assoc}
 use Rattle.edits.specs.Run.{State, Call, hundred, targetFault, editFault, editedFile, editRecord, fault, after, step, answered}
-use Rattle.editor.specs.declared.Outcome.{Outcome}
-use Rattle.editor.specs.declared.Outcome.the-variants.{Done, Refused}
+use Rattle.judging.specs.declared.Outcome.{Outcome}
+use Rattle.judging.specs.declared.Outcome.the-variants.{Done, Refused}
 use Rattle.editor.specs.declared.Answer.{Answer}
 use Rattle.editor.specs.declared.Plan.the-variants.{Go, No}
-use Rattle.editor.specs.Called.{verdictOf, Called, blankAnswer}
-use Rattle.editor.specs.Post.{refusedWith, doneWith, planOf, Stands}
-use Rattle.editor.proofs.Writes.{file-length}
+use Rattle.judging.specs.Outcomes.{verdictOf}
+use Rattle.judging.specs.Told.{Counted}
+use Rattle.rewrite.specs.Rewriting.{Stands}
+use Rattle.editor.specs.Called.{Called, blankAnswer}
+use Rattle.editor.specs.Post.{refusedWith, doneWith, planOf}
+use Rattle.blorb.proofs.Parts.{file-length}
 
 and-parts : (a b : Bool) → a && b ≡ true → (a ≡ true) × (b ≡ true)
 and-parts true b h = (refl, h)
@@ -52,14 +55,17 @@ open-stands b l u J k bytes h e =
     let g = accept-back plainRules (take l b) bytes (a .1) in
     let len : length (take l b) ≡ l = length-take-le l b inside in
     let fl : length (file (model (take l b))) ≡ length (take l b) = ap length (g .0) in
-    (record { inside = inside; fine = a .1; entries = e; index = omega (arith, file-length (model (take l b))); short = omega (arith, g .2) }, leb-true _ _ (p .1))
+    (record { inside = inside; whole = g .0; sound = g .1; entries = e; index = omega (arith, file-length (model (take l b))); short = omega (arith, g .2) }, leb-true _ _ (p .1))
+
+-- the same with the count by another name
+pub stands-as : (b : List ℕ) (l k n : ℕ) → k ≡ n → Stands b l n → Stands b l k
+stands-as b l k n e s = record { inside = s .inside; whole = s .whole; sound = s .sound; entries = e ∙ s .entries; index = omega (arith, e, s .index); short = s .short }
 
 -- the file by itself
-pub stands-part : (b : List ℕ) (l k : ℕ) → Stands b l k → Stands (take l b) (length (take l b)) k
-stands-part b l k s =
+pub stands-counted : (b : List ℕ) (l k : ℕ) → Stands b l k → Counted (take l b) k
+stands-counted b l k s =
     let len : length (take l b) ≡ l = length-take-le l b (s .inside) in
-    let e : take (length (take l b)) (take l b) ≡ take l b = take-length (take l b) in
-    record { inside = omega arith; fine = ap (verdict plainRules) e ∙ s .fine; entries = s .entries ∙ ap (λ (z : List ℕ). length (model z .refs)) (sym e); index = omega (arith, s .index); short = omega (arith, s .short) }
+    record { entries = s .entries; index = omega (arith, s .index); short = omega (arith, s .short) }
 
 -- room for y more
 left-room : (u y J : ℕ) → u ≤ J → leb (u + y) J ≡ leb y (J - u)

@@ -20,7 +20,7 @@ use Rattle.blorb.specs.Sound.{RefOk, Sound}
 use Rattle.blorb.proofs.Checks.{then-accept, check-accept, both-true}
 use Rattle.blorb.proofs.Accept.{accept-back, accept-short}
 use Rattle.blorb.proofs.ModelLaws.{model-file}
-use Rattle.blorb.proofs.VerdictLaws.{modelFault, verdict-file}
+use Rattle.blorb.proofs.VerdictLaws.{modelFault, file-judged}
 use Rattle.reader.specs.Reading.{lookupOf, partOf}
 use Rattle.reader.specs.declared.Looked.the-variants.{Found, Refused}
 use Rattle.reader.proofs.Promises.{lookup-here, lookup-nowhere}
@@ -71,9 +71,6 @@ pub record Told (f : List ℕ) (e : Edit) : Type 0 where
   pub applies : Applies (model f) e
   pub same : model (editedFile f e) ≡ edited (model f) e
 
-judged-as : (m : Model) → Sound m → verdict plainRules (file m) ≡ accept → modelFault plainRules m ≡ accept
-judged-as m s h = then-accept _ _ (sym (verdict-file plainRules m s) ∙ h) .1
-
 pub edit-told : (N J : ℕ) (f : List ℕ) (L U : ℕ) (e : Edit) → All Byte f → ArgsOk e → editFault plainRules N J f L U e ≡ accept → Told f e
 unfolding editFault editedFile plainVerdict
 edit-told N J f L U e bytes args h =
@@ -87,8 +84,8 @@ edit-told N J f L U e bytes args h =
       old = h2 .0;
       new = new;
       sound = g .1;
-      judged = judged-as (model f) (g .1) (rw (g .0) (h2 .0));
-      judged-new = judged-as (edited (model f) e) sd new;
+      judged = file-judged plainRules (model f) (g .1) (rw (g .0) (h2 .0));
+      judged-new = file-judged plainRules (edited (model f) e) sd new;
       applies = ap;
       same = model-file (edited (model f) e) sd (omega (arith, accept-short plainRules (file (edited (model f) e)) new));
     }

@@ -34,7 +34,8 @@ use Rattle.edits.specs.Run.{written, noted, afterEdit, afterUndo, after}
 use Rattle.edits.specs.Demand3.{Begins}
 use Rattle.editor.specs.declared.Answer.{Answer}
 use Rattle.editor.specs.declared.Outcome.the-variants.{Done, Refused}
-use Rattle.editor.specs.Called.{state, Called}
+use Rattle.edits.specs.Run.{state}
+use Rattle.editor.specs.Called.{Called}
 use Rattle.editor.specs.Runs.{AsLedger}
 use Rattle.editor.proofs.Acts.{Act, by-add, by-undo, turnOf, Follows}
 use Rattle.editor.proofs.DemandThree.{code-as-ledger}

@@ -19,16 +19,15 @@ use Rattle.edits.specs.Journal.{recOf, recBytes, Rec, removal}
 use Rattle.edits.proofs.JournalLaws.{length-recBytes}
 use Rattle.blorb.specs.All.{All}
 use Rattle.blorb.proofs.AllLaws.{all-getD}
-use Rattle.blorb.specs.Sound.{RefOk, Sound}
-use Rattle.blorb.proofs.VerdictLaws.{modelFault, verdict-file}
+use Rattle.blorb.specs.Sound.{RefOk}
+use Rattle.blorb.proofs.VerdictLaws.{modelFault, file-judged}
 use Rattle.edits.proofs.FitLaws.{find-pair}
 use Rattle.blorb.specs.Bytes.{Byte}
 use Rattle.blorb.proofs.Checks.{then-accept, check-accept, accepts, holds-last}
-use Rattle.blorb.proofs.Accept.{accept-back}
 use Rattle.edits.specs.Run.{edit, hundred, targetFault, editFault, editedFile, editRecord, noted, written, fault, after, afterEdit}
-use Rattle.editor.specs.Moves.{recordOf}
-use Rattle.editor.specs.declared.Outcome.{Outcome}
-use Rattle.editor.specs.declared.Outcome.the-variants as outcome
+use Rattle.moves.specs.Moves.{recordOf}
+use Rattle.judging.specs.declared.Outcome.{Outcome}
+use Rattle.judging.specs.declared.Outcome.the-variants as outcome
 use Rattle.editor.specs.declared.Answer.{Answer}
 use Rattle.editor.specs.declared.Removal.the-variants.{Take, Not}
 use Rattle.reader.specs.declared.Piece.{Piece}
@@ -36,13 +35,18 @@ use Rattle.reader.specs.declared.Target.the-variants as target
 use Rattle.reader.specs.declared.Facts.{Facts}
 use Rattle.reader.specs.declared.Inspection.the-variants.{Whole, Refused}
 use Rattle.reader.specs.Inspecting.{pieceOf, frontOf}
-use Rattle.editor.proofs.OpenLaws.{asked, asked-refused, asked-whole, target-at, target-nothing, place-is, start-is, length-is}
-use Rattle.editor.specs.Called.{verdictOf, state, Called}
-use Rattle.editor.specs.Post.{doneWith, removalOf, goneSize, Stands, Listed, Removable}
-use Rattle.editor.proofs.Writes.{file-length}
-use Rattle.editor.proofs.RemoveFault.{removed-length}
-use Rattle.editor.proofs.ChunkAt.{body-at}
-use Rattle.editor.proofs.CallLaws.{open-stands, edit-unopened, edit-off-target, edit-told, gave-done, part-size, part-length}
+use Rattle.judging.proofs.OpenLaws.{asked, asked-refused, asked-whole, target-at, target-nothing, place-is, start-is, length-is}
+use Rattle.judging.specs.Outcomes.{verdictOf}
+use Rattle.edits.specs.Run.{state}
+use Rattle.editor.specs.Called.{Called}
+use Rattle.edits.specs.GoneSize.{goneSize}
+use Rattle.rewrite.specs.Rewriting.{Stands, Removable}
+use Rattle.judging.specs.Told.{Listed}
+use Rattle.editor.specs.Post.{doneWith, removalOf}
+use Rattle.blorb.proofs.Parts.{file-length}
+use Rattle.judging.proofs.RemoveFault.{removed-length}
+use Rattle.judging.proofs.ChunkAt.{body-at}
+use Rattle.editor.proofs.CallLaws.{open-stands, stands-as, edit-unopened, edit-off-target, edit-told, gave-done, part-size, part-length}
 
 -- the size that goes, by what the reader tells
 gone-is : (m : Model) (i : ℕ) (p : Piece) → p ≡ pieceOf m i → cond (p .shared) 0 (8 + (p .length + p .length % 2)) ≡ goneSize m i
@@ -103,8 +107,6 @@ module _ (b : List ℕ) (l J U u n : ℕ) (bytes : All Byte (take l b)) where
   pub record Found (k : ℕ) : Type 0 where
     pub stands : Stands b l k
     pub used-in : U ≤ J
-    pub whole : file m ≡ f
-    pub sound : Sound m
     pub length-l : length (file m) ≡ l
     pub model-fine : modelFault plainRules m ≡ accept
     pub listed : i < K
@@ -115,17 +117,24 @@ module _ (b : List ℕ) (l J U u n : ℕ) (bytes : All Byte (take l b)) where
   pub found : O ≡ accept → i < K → Found K
   found h lt =
       let st = open-stands b l U J K bytes h refl in
-      let g = accept-back plainRules f bytes (st .0 .fine) in
-      let lm : length (file m) ≡ l = ap length (g .0) ∙ length-take-le l b (st .0 .inside) in
-      let th : kc < length (m .chunks) = all-getD (RefOk (length (m .chunks))) (m .refs) i noRef (g .1 .refs-ok) lt .chunk-there in
+      let lm : length (file m) ≡ l = ap length (st .0 .whole) ∙ length-take-le l b (st .0 .inside) in
+      let th : kc < length (m .chunks) = all-getD (RefOk (length (m .chunks))) (m .refs) i noRef (st .0 .sound .refs-ok) lt .chunk-there in
       let sb = start-before m kc th in
-      let old : check (leb (length (file m)) 16777216) 1 0 then modelFault plainRules m ≡ accept = sym (verdict-file plainRules m (g .1)) ∙ ap (verdict plainRules) (g .0) ∙ st .0 .fine in
-      record { stands = st .0; used-in = st .1; whole = g .0; sound = g .1; length-l = lm; model-fine = then-accept _ _ old .1; listed = lt; there = th; ends = omega (arith, sb .0); behind = sb .1 }
+      record {
+        stands = st .0;
+        used-in = st .1;
+        length-l = lm;
+        model-fine = file-judged plainRules m (st .0 .sound) (ap (verdict plainRules) (st .0 .whole) ∙ then-accept _ _ h .1);
+        listed = lt;
+        there = th;
+        ends = omega (arith, sb .0);
+        behind = sb .1;
+      }
 
   module _ (w : Found K) where
     pub new-length : length (editedFile f E) ≡ l - (12 + goneSize m i)
     unfolding editedFile edited
-    new-length = let p = find-pair u n (m .refs) (w .listed) in omega (arith, removed-length m i u n (w .sound) (w .model-fine) (w .listed) (p .0) (p .1), w .length-l)
+    new-length = let p = find-pair u n (m .refs) (w .listed) in omega (arith, removed-length m i u n (w .stands .sound) (w .model-fine) (w .listed) (p .0) (p .1), w .length-l)
 
     pub record-length : length (editRecord f E) ≡ 29 + cond (shared m i) 0 (length (chunkAt m kc .body))
     unfolding editRecord recOf removal
@@ -189,15 +198,16 @@ module _ (b : List ℕ) (l J U u n : ℕ) (bytes : All Byte (take l b)) where
 
   module _ (fs : Facts) (p : Piece) (w : Told fs p) (a : ℕ) (ea : a ≡ cond (p .shared) 0 (8 + (p .length + p .length % 2))) where
     -- what remove_fault asks
-    pub listed : Listed f u n (p .start) a × (fs .front ≡ frontOf m)
+    pub listed : (verdict plainRules f ≡ accept) × (Listed f u n (p .start) a × (fs .front ≡ frontOf m))
     listed =
         let st = w .found .stands in
         let ga = gone-now p (w .found) (w .piece-is) a ea in
-        (record { fine = st .fine; found = w .found .listed; starts = start-is m i p (w .piece-is); gone = ga; small = omega (arith, gone-sized m i, w .found .ends, st .short) }, w .front-is)
+        (then-accept _ _ (w .opened) .1, (record { found = w .found .listed; starts = start-is m i p (w .piece-is); gone = ga; small = omega (arith, gone-sized m i, w .found .ends, st .short) }, w .front-is))
 
-    module _ (x : ℕ) (ex : x ≡ cond (p .shared) 0 (p .length)) (j r : Outcome) (judged : verdictOf j ≡ hundred (verdict plainRules (editedFile f E)))
+    module _ (x : ℕ) (ex : x ≡ cond (p .shared) 0 (p .length)) (j r : Outcome) (judged : verdictOf j ≡ hundred (verdict plainRules (file (removed m i))))
         (e : verdictOf r ≡ verdictOf j then (check (leb (l - (12 + a)) (length b)) 24 0 then check (leb (29 + x) (J - U)) 25 0)) where
       judged-is : Vd ≡ verdictOf r
+      unfolding editedFile edited
       judged-is =
           edit-told (length b) J f l U E j r _ _ (w .opened) (on-target (w .found)) (w .found .used-in) judged (length-now p (w .found) (w .piece-is) a ea)
           (ap (λ (z : ℕ). 29 + z) ex ∙ record-now p (w .found) (w .piece-is)) e
@@ -238,14 +248,14 @@ module _ (b : List ℕ) (l J U u n : ℕ) (bytes : All Byte (take l b)) where
   pub body-of : (w : Found K) → take (length (chunkAt m kc .body)) (drop (start m kc + 8) b) ≡ chunkAt m kc .body
   body-of w =
       let c : Chunk = chunkAt m kc in
-      let whole : b ≡ file m ++ drop l b = sym (take-append-drop l b) ∙ ap (λ (z : List ℕ). z ++ drop l b) (sym (w .whole)) in
+      let whole : b ≡ file m ++ drop l b = sym (take-append-drop l b) ∙ ap (λ (z : List ℕ). z ++ drop l b) (sym (w .stands .whole)) in
       let h1 : start m kc + 8 ≤ length (file m) = omega (arith, body-sized c, w .ends, w .length-l) in
       let ld : length (drop (start m kc + 8) (file m)) ≡ length (file m) - (start m kc + 8) = length-drop (start m kc + 8) (file m) in
       let h2 : length (c .body) ≤ length (drop (start m kc + 8) (file m)) = omega (arith, body-sized c, w .ends, w .length-l) in
       ap (λ (z : List ℕ). take (length (c .body)) (drop (start m kc + 8) z)) whole
       ∙ ap (take (length (c .body))) (drop-append-le (start m kc + 8) (file m) (drop l b) h1)
       ∙ take-append-le (length (c .body)) (drop (start m kc + 8) (file m)) (drop l b) h2
-      ∙ body-at m kc (w .sound) (w .there) (omega (arith, w .length-l, w .stands .short))
+      ∙ body-at m kc (w .stands .sound) (w .there) (omega (arith, w .length-l, w .stands .short))
 
   module _ (k : ℕ) (p : Piece) (r : Ready k p) where
     pub used-now : 29 + cond (p .shared) 0 (p .length) ≡ length (editRecord f E)
@@ -267,7 +277,7 @@ module _ (b : List ℕ) (l J U u n : ℕ) (bytes : All Byte (take l b)) where
         let ga : a ≡ goneSize m i = gone-now p w (r .piece-is) a ea in
         let es = start-is m i p (r .piece-is) in
         let ep = place-is m i p (r .piece-is) in (
-          record { inside = w .stands .inside; fine = w .stands .fine; entries = r .count-is; index = omega (arith, r .count-is, w .stands .index); short = w .stands .short },
+          stands-as b l k K (r .count-is) (w .stands),
           record {
             listed = omega (arith, r .count-is, w .listed);
             starts = es ∙ ap (λ (z : ℕ). start m (refAt m z .chunk)) (sym ep);

@@ -21,9 +21,9 @@ use Rattle.blorb.specs.Bytes.{Byte}
 use Rattle.blorb.proofs.Checks.{then-accept, check-accept, accepts, holds-last, pass}
 use Rattle.blorb.proofs.Accept.{accept-short}
 use Rattle.edits.specs.Run.{edit, hundred, targetFault, editFault, editedFile, editRecord, noted, written, fault, after, afterEdit}
-use Rattle.editor.specs.Moves.{recordOf}
-use Rattle.editor.specs.declared.Outcome.{Outcome}
-use Rattle.editor.specs.declared.Outcome.the-variants as outcome
+use Rattle.moves.specs.Moves.{recordOf}
+use Rattle.judging.specs.declared.Outcome.{Outcome}
+use Rattle.judging.specs.declared.Outcome.the-variants as outcome
 use Rattle.editor.specs.declared.Answer.{Answer}
 use Rattle.editor.specs.declared.Change.the-variants.{Put, Keep}
 use Rattle.reader.specs.declared.Piece.{Piece}
@@ -31,14 +31,18 @@ use Rattle.reader.specs.declared.Target.the-variants as target
 use Rattle.reader.specs.declared.Facts.{Facts}
 use Rattle.reader.specs.declared.Inspection.the-variants.{Whole, Refused}
 use Rattle.reader.specs.Inspecting.{pieceOf, frontOf}
-use Rattle.editor.proofs.OpenLaws.{asked, asked-refused, place-is, start-is, length-is, shared-is}
-use Rattle.editor.specs.Called.{verdictOf, state, Called}
-use Rattle.editor.specs.Post.{doneWith, changeOf, Stands, Own, Replaceable}
+use Rattle.judging.proofs.OpenLaws.{asked, asked-refused, place-is, start-is, length-is, shared-is}
+use Rattle.judging.specs.Outcomes.{verdictOf}
+use Rattle.edits.specs.Run.{state}
+use Rattle.editor.specs.Called.{Called}
+use Rattle.rewrite.specs.Rewriting.{Stands, Replaceable}
+use Rattle.judging.specs.Told.{Own}
+use Rattle.editor.specs.Post.{doneWith, changeOf}
 use Rattle.edits.proofs.Lengths.{length-replaced}
-use Rattle.editor.proofs.Writes.{size-given}
+use Rattle.edits.proofs.Lengths.{size-given}
 use Rattle.editor.proofs.RemoveCall.{Found, found, Told, told-missing, body-sized, body-of}
-use Rattle.editor.proofs.ReplaceFault.{size-body}
-use Rattle.editor.proofs.CallLaws.{hundred-fine, edit-unopened, edit-off-target, edit-told, gave-done, part-size, part-length}
+use Rattle.judging.proofs.ReplaceFault.{size-body}
+use Rattle.editor.proofs.CallLaws.{hundred-fine, stands-as, edit-unopened, edit-off-target, edit-told, gave-done, part-size, part-length}
 
 pub change-no : (v : Verdict) (m : Model) (u n k p : ℕ) → changeOf v m u n ≡ Keep k p → v ≡ refuse k p
 change-no accept m u n k p e = let z : _≡_ {A = ℕ} 0 1 = cc in absurd (omega arith)
@@ -112,30 +116,33 @@ module _ (b : List ℕ) (l J U u n t : ℕ) (d : List ℕ) (bytes : All Byte (ta
 
     module _ (alone : p .shared ≡ false) where
       -- what replace_fault asks
-      pub own : Own f u n p × (fs .front ≡ frontOf m)
+      pub own : (verdict plainRules f ≡ accept) × (Own f u n p × (fs .front ≡ frontOf m))
       own =
           let st = w .found .stands in
           let lf : length f ≡ l = length-take-le l b (st .inside) in
           let sz = size-now p (w .found) (w .piece-is) (8 + (p .length + p .length % 2)) refl in (
-            record {
-              fine = st .fine;
-              found = w .found .listed;
-              piece = w .piece-is;
-              alone = alone;
-              inside = omega (arith, w .found .ends);
-              short = omega (arith, st .short);
-              low = omega (arith, place-is m i p (w .piece-is), w .found .listed, st .index, st .short);
-            },
-            w .front-is,
+            then-accept _ _ (w .opened) .1,
+            (
+              record {
+                found = w .found .listed;
+                piece = w .piece-is;
+                alone = alone;
+                inside = omega (arith, w .found .ends);
+                short = omega (arith, st .short);
+                low = omega (arith, place-is m i p (w .piece-is), w .found .listed, st .index, st .short);
+              },
+              w .front-is,
+            ),
           )
 
       on-target : targetFault m E ≡ accept
       unfolding targetFault
       on-target = pass _ _ _ _ (lt-ltb _ _ (w .found .listed)) ∙ holds-last _ _ _ (ap not (sym (shared-is m i p (w .piece-is)) ∙ alone))
 
-      module _ (a : ℕ) (ea : a ≡ 8 + (p .length + p .length % 2)) (j r : Outcome) (judged : verdictOf j ≡ hundred (verdict plainRules (editedFile f E)))
+      module _ (a : ℕ) (ea : a ≡ 8 + (p .length + p .length % 2)) (j r : Outcome) (judged : verdictOf j ≡ hundred (verdict plainRules (file (replaced m kc (chunkOf t d)))))
           (e : verdictOf r ≡ verdictOf j then (check (leb (l - a + (8 + (length d + length d % 2))) (length b)) 24 0 then check (leb (29 + p .length) (J - U)) 25 0)) where
         judged-is : Vd ≡ verdictOf r
+        unfolding editedFile edited givenChunk
         judged-is = edit-told (length b) J f l U E j r _ _ (w .opened) on-target (w .found .used-in) judged (length-now p (w .found) (w .piece-is) a ea) (record-now p (w .found) (w .piece-is)) e
 
         pub plan-refused : (k q : ℕ) → r ≡ outcome.Refused k q → Keep k q ≡ changeOf Vd m u n
@@ -194,7 +201,7 @@ module _ (b : List ℕ) (l J U u n t : ℕ) (d : List ℕ) (bytes : All Byte (ta
         let ln = length-now p w (r .piece-is) a ea in
         let es = start-is m i p (r .piece-is) in
         let ep = place-is m i p (r .piece-is) in (
-          record { inside = w .stands .inside; fine = w .stands .fine; entries = r .count-is; index = omega (arith, r .count-is, w .stands .index); short = w .stands .short },
+          stands-as b l k K (r .count-is) (w .stands),
           (
             record {
               listed = omega (arith, r .count-is, w .listed);

@@ -1,19 +1,19 @@
 -- What a plan to go on tells, and that the writers give the file that the definitions say.
 use mathlib.Core.Path.{_≡_, refl, sym, ap, _∙_}
 use Prim.Native.Nat.{ℕ, _+_, _*_, _-_, _≤_, _<_, _%_}
-use mathlib.Core.List.{List, []}
+use mathlib.Core.List.{List}
 use mathlib.Core.Bool.{Bool, true, _&&_, cond}
 use native.Mathlib.Omega.{arith}
 use lib.ListN.{length, take, drop}
 use lib.Seq.{length-take-le}
 use lib.Dec.{leb}
 use borrow.Author.Tests.{leb-true}
-use Rattle.blorb.specs.Format.{size, placeOf, chunkOf}
+use Rattle.blorb.specs.Format.{size, chunkOf}
 use Rattle.blorb.specs.Layout.{sizeOf}
 use Rattle.blorb.specs.Verdict.{Verdict, accept, refuse, verdict}
 use Rattle.blorb.specs.Rules.{plainRules}
 use Rattle.blorb.specs.Model.{Model, base, startOf, model, file}
-use Rattle.blorb.specs.Queries.{refAt, chunkAt, start, shared}
+use Rattle.blorb.specs.Queries.{refAt, chunkAt, start, placeAt, shared}
 use Rattle.blorb.specs.All.{All}
 use Rattle.blorb.proofs.AllLaws.{all-take}
 use Rattle.blorb.specs.Sound.{W}
@@ -21,23 +21,24 @@ use Rattle.blorb.specs.Bytes.{Byte}
 use Rattle.blorb.proofs.Checks.{then-accept, check-accept}
 use Rattle.blorb.proofs.Accept.{accept-short}
 use Rattle.blorb.proofs.ModelLaws.{length-file}
-use Rattle.edits.specs.Edit.{with-at, removed, replaced}
+use Rattle.edits.specs.Edit.{removed, replaced, entered, inserted}
+use Rattle.edits.specs.GoneSize.{goneSize}
 use Rattle.edits.specs.Journal.{Rec, lastRec, wellFormed, fits, fits3, fits4, undo2, undo3, undo4, oldChunk}
 use Rattle.edits.specs.Run.{accepted, undoneFile, undoFault}
 use Rattle.edits.proofs.BoolLaws.{and-parts}
 use Rattle.edits.proofs.JudgedLaws.{chunk-in}
 use Rattle.edits.proofs.UndoJudged.{AcceptedFile, accepted-facts, fits1-facts, fits2-facts, undo1-removed, kind-1, kind-2, kind-3, kind-4}
-use Rattle.edits.proofs.FitFacts.{size-is, fits3-in}
+use Rattle.edits.proofs.FitFacts.{size-is}
 use Rattle.edits.proofs.UndoTold.{after-2, after-3, after-4}
-use Rattle.editor.specs.declared.journal.Record.{Record}
-use Rattle.editor.specs.declared.journal.Last.the-variants.{Good}
-use Rattle.editor.specs.declared.undoing.Undoing.the-variants.{Go, Not}
-use Rattle.editor.specs.Post.{Stands, Removable, Replaceable, Insertable, goneSize, goneRec}
-use Rattle.editor.specs.LastRecord.{numbersOf, lastOf}
-use Rattle.editor.specs.UndoPlan.{chunkStart, chunkSize, goOf, undoingOf, undoPlan}
-use Rattle.editor.proofs.LastRead.{Ends, good-ends}
-use Rattle.editor.proofs.InsertBytes.{insertable3, insertable4, gone-again}
-use Rattle.editor.proofs.UndoFits.{chunk-ends, at-1, at-2, at-3, at-4}
+use Rattle.judging.specs.declared.journal.Record.{Record}
+use Rattle.judging.specs.declared.journal.Last.the-variants.{Good}
+use Rattle.judging.specs.declared.undoing.Undoing.the-variants.{Go, Not}
+use Rattle.rewrite.specs.Rewriting.{Stands, Removable, Replaceable, Insertable}
+use Rattle.judging.specs.LastRecord.{numbersOf, lastOf}
+use Rattle.judging.specs.UndoPlan.{chunkStart, chunkSize, goOf, undoingOf, undoPlan}
+use Rattle.judging.proofs.LastRead.{Ends, good-ends}
+use Rattle.rewrite.proofs.InsertBytes.{insertable3, insertable4}
+use Rattle.judging.proofs.UndoFits.{chunk-ends, at-1, at-2, at-3, at-4}
 
 -- the undo goes on with these numbers
 pub record Ready (b : List ℕ) (l : ℕ) (j : List ℕ) (u k a s t : ℕ) (r : Record) : Type 0 where
@@ -111,7 +112,8 @@ module _ (b : List ℕ) (l : ℕ) (j : List ℕ) (u k a s t : ℕ) (r : Record) 
         within = leb-true u (length j) (lens .1);
         stands = record {
           inside = inside;
-          fine = h2 .0;
+          whole = st .whole;
+          sound = st .sound;
           entries = count;
           index = omega (arith, count, index-in (model f), ap length (st .whole));
           short = omega (arith, accept-short plainRules f (h2 .0));
@@ -234,18 +236,16 @@ module _ (b : List ℕ) (l : ℕ) (j : List ℕ) (u k a s t : ℕ) (r : Record) 
 
     pub back-removed : (All Byte j) → Stands b l k × (Insertable b l k (r .place) a × ((l + (20 + (length d + length d % 2)) ≤ length b) × (l + (20 + (length d + length d % 2)) ≤ 16777216)))
     back-removed bj =
-        let i = insertable3 b l k (w .stands) (all-take Byte l b bytes) rec fit-3 in
+        let i = insertable3 b l k (w .stands) rec fit-3 in
         let to : length (undoneFile (take l b) (take u j)) ≡ l + 12 + sizeOf (length d)
         = after-3 (take l b) (take u j) (w .file-facts) (all-take Byte u j bj) (kind-is 3 h) ∙ (λ i. file-is i + 12 + sizeOf (length (sym body-is i))) in
         (w .stands, (coe 0 1 (z. Insertable b l k (place-is z) (sym at-3-is z)) i, (omega (arith, to, w .room), omega (arith, to, after-short))))
 
-    pub written-removed : file (undo3 (goneRec 3 (r .usage) (r .number) (r .place) a (r .sort) d) (model (take l b))) ≡ undoneFile (take l b) (take u j)
-    unfolding undoneFile
+    pub written-removed : file (inserted (model (take l b)) (r .place) (placeAt (model (take l b)) a) (r .usage) (r .number) (chunkOf (r .sort) d)) ≡ undoneFile (take l b) (take u j)
+    unfolding undoneFile undo3
     written-removed =
         let n : r ≡ numbersOf rec = sym (w .ends .numbers) in
-        let low : 12 ≤ rec .start = omega (arith, fits3-in rec m fit-3 .behind) in
-        (λ i. file (undo3 (goneRec (sym (kind-is 3 h) i) (n i .usage) (n i .number) (n i .place) (at-3-is i) (n i .sort) (body-is i)) m))
-        ∙ ap (λ (z : Rec). file (undo3 z m)) (gone-again rec low) ∙ sym (ap file (kind-3 rec m (kind-is 3 h) .1))
+        (λ i. file (inserted m (n i .place) (placeAt m (at-3-is i)) (n i .usage) (n i .number) (old-is i))) ∙ sym (ap file (kind-3 rec m (kind-is 3 h) .1))
 
   -- kind 4
   module _ (h : r .kind ≡ 4) where
@@ -257,19 +257,13 @@ module _ (b : List ℕ) (l : ℕ) (j : List ℕ) (u k a s t : ℕ) (r : Record) 
 
     pub back-unlisted : (All Byte j) → Stands b l k × (Insertable b l k (r .place) a × ((l + 12 ≤ length b) × (l + 12 ≤ 16777216)))
     back-unlisted bj =
-        let i = insertable4 b l k (w .stands) (all-take Byte l b bytes) rec fit-4 in
+        let i = insertable4 b l k (w .stands) rec fit-4 in
         let to : length (undoneFile (take l b) (take u j)) ≡ l + 12
         = after-4 (take l b) (take u j) (w .file-facts) (all-take Byte u j bj) (kind-is 4 h) fit-4 ∙ ap (λ (z : ℕ). z + 12) file-is in
         (w .stands, (coe 0 1 (z. Insertable b l k (place-is z) (sym at-4-is z)) i, (omega (arith, to, w .room), omega (arith, to, after-short))))
 
-    -- its undo looks at neither type nor data
-    pub written-unlisted : file (undo4 (goneRec 4 (r .usage) (r .number) (r .place) a 0 []) (model (take l b))) ≡ undoneFile (take l b) (take u j)
+    pub written-unlisted : file (entered (model (take l b)) (r .place) (placeAt (model (take l b)) a) (r .usage) (r .number)) ≡ undoneFile (take l b) (take u j)
     unfolding undoneFile undo4
     written-unlisted =
         let n : r ≡ numbersOf rec = sym (w .ends .numbers) in
-        let e : a + 12 - 12 ≡ rec .start - 12 = omega (arith, at-4-is) in
-        (λ i. file (record {
-          refs = with-at (n i .place) (record { usage = n i .usage; number = n i .number; chunk = placeOf (e i) (base (length (m .refs))) (m .chunks) }) (m .refs);
-          chunks = m .chunks;
-        }))
-        ∙ sym (ap file (kind-4 rec m (kind-is 4 h) .1))
+        (λ i. file (entered m (n i .place) (placeAt m (at-4-is i)) (n i .usage) (n i .number))) ∙ sym (ap file (kind-4 rec m (kind-is 4 h) .1))

@@ -3,21 +3,17 @@ use mathlib.Core.Path.{_≡_}
 use Prim.Native.Nat.{ℕ}
 use mathlib.Core.List.{List}
 use mathlib.Core.Bool.{Bool, true, false}
+use Rattle.editor.specs.declared.Outcome.the-variants.{Done, Refused}
+use Rattle.editor.specs.declared.Outcome.{Outcome}
 use Rattle.blorb.specs.Verdict.{Verdict, accept, refuse}
 use Rattle.blorb.specs.Rules.{plainRules}
 use Rattle.edits.specs.Run.{State, Call, fault, step}
-use Rattle.editor.specs.declared.Outcome.{Outcome}
-use Rattle.editor.specs.declared.Outcome.the-variants.{Done, Refused}
 use Rattle.editor.specs.declared.Answer.{Answer}
 
 -- the answer's number and place, as document 01 has them
 abbrev pub verdictOf : Outcome → Verdict
 verdictOf Done = accept
 verdictOf (Refused k p) = refuse k p
-
--- a file buffer with L, a journal with U
-abbrev pub state : List ℕ → ℕ → List ℕ → ℕ → State
-state b l j u = record { buffer = b; L = l; journal = j; U = u }
 
 -- a call c in state s gives the answer r and leaves these buffers
 pub record Called (s : State) (c : Call) (r : Answer) (b j : List ℕ) : Type 0 where

@@ -10,20 +10,21 @@ ghost use Rattle.blorb.specs.Rules.{plainRules, plainVerdict};
 ghost use Rattle.blorb.specs.Model.{model};
 ghost use Rattle.edits.specs.Edit.{add, replace, remove};
 ghost use Rattle.edits.specs.Run.{edit, undo, editFault};
+ghost use Rattle.edits.specs.Run.{written, undoneFile};
+ghost use Rattle.judging.specs.declared.undoing.Undoing.the-variants.{Go};
+ghost use Rattle.judging.specs.UndoPlan.{undoPlan};
 ghost use Rattle.edits.specs.Blank.{blanked};
 ghost use Rattle.reader.specs.Inspecting.{inspectionOf};
-ghost use Rattle.editor.specs.Called.{verdictOf, state, Called, blankAnswer};
+ghost use Rattle.judging.specs.Outcomes.{verdictOf};
+ghost use Rattle.edits.specs.Run.{state};
+ghost use Rattle.editor.specs.Called.{Called, blankAnswer};
 ghost use Rattle.editor.specs.Post.{refusedWith, doneWith, planOf, removalOf, changeOf};
+use judging::journal::Record;
+use judging::judge;
+use judging::undoing;
 use reader::Inspection;
 use reader::Piece;
 use reader::Target;
-
-mod journal;
-mod judge;
-mod moves;
-mod rewrite;
-mod shift;
-mod undoing;
 
 pub enum Outcome {
     Done,
@@ -92,10 +93,16 @@ fn opened(
 }
 
 // What was judged, then 24 and 25: a new file of `size` bytes in a buffer of `room`, a record of `more` bytes where `left` are left.
-fn with_room(judged: Outcome, size: usize, room: usize, more: usize, left: usize) -> Outcome
+fn with_room(
+    judged: judging::Outcome,
+    size: usize,
+    room: usize,
+    more: usize,
+    left: usize,
+) -> judging::Outcome
     ensures { λ r. ⌜ verdictOf r ≡ verdictOf judged then (check (leb size room) 24 0 then check (leb more left) 25 0) ⌝ }
 {
-    if let Outcome::Refused { number, place } = judged {
+    if let judging::Outcome::Refused { number, place } = judged {
         return judge::refused(number, place);
     }
     if room < size {
@@ -104,7 +111,7 @@ fn with_room(judged: Outcome, size: usize, room: usize, more: usize, left: usize
     if left < more {
         return judge::refused(25, 0);
     }
-    Outcome::Done
+    judging::Outcome::Done
 }
 
 // An add's refusal, or the file's count where it can be made.
@@ -128,8 +135,8 @@ fn add_plan(
             let judged = judge::add_fault(&buf[..len], count, target, usage, number, kind, d);
             let m = d.len();
             match with_room(judged, len + (20 + (m + m % 2)), buf.len(), 29, room - used) {
-                Outcome::Refused { number: k, place } => Plan::No(k, place),
-                Outcome::Done => Plan::Go { count },
+                judging::Outcome::Refused { number: k, place } => Plan::No(k, place),
+                judging::Outcome::Done => Plan::Go { count },
             }
         }
     }
@@ -228,8 +235,8 @@ fn remove_plan(buf: &[u8], len: usize, room: usize, used: usize, usage: u32, num
                 29 + body,
                 room - used,
             ) {
-                Outcome::Refused { number: k, place } => Removal::Not(k, place),
-                Outcome::Done => Removal::Take {
+                judging::Outcome::Refused { number: k, place } => Removal::Not(k, place),
+                judging::Outcome::Done => Removal::Take {
                     count: facts.count,
                     piece,
                 },
@@ -311,8 +318,8 @@ fn replace_plan(
             let size = len - old as usize + (8 + (m + m % 2));
             let more = 29 + piece.length as usize;
             match with_room(judged, size, buf.len(), more, room - used) {
-                Outcome::Refused { number: k, place } => Change::Keep(k, place),
-                Outcome::Done => Change::Put {
+                judging::Outcome::Refused { number: k, place } => Change::Keep(k, place),
+                judging::Outcome::Done => Change::Put {
                     count: facts.count,
                     piece,
                 },
@@ -455,6 +462,40 @@ pub fn blank(buf: &mut [u8]) -> Answer
     Answer::done(fresh.len, fresh.used)
 }
 
+// The file before the last record's edit, written over the present one.
+fn write_back(
+    buf: &mut [u8],
+    len: usize,
+    jrn: &[u8],
+    used: usize,
+    count: usize,
+    at: usize,
+    size: usize,
+    r: Record,
+)
+    requires { ⌜ undoPlan (now buf) len (now jrn) used ≡ Go count at size (length (undoneFile (take len (now buf)) (take used (now jrn)))) r ⌝ }
+    ensures { λ _. ⌜ now (buf .exit) ≡ written (now (buf .entry)) len (undoneFile (take len (now (buf .entry))) (take used (now (jrn .entry)))) ⌝ }
+{
+    let kind = r.kind;
+    let place = r.place as usize;
+    if kind == 1 {
+        rewrite::remove_bytes(buf, len, count, place, at, size);
+        return;
+    }
+    if kind == 4 {
+        rewrite::insert_entry(buf, len, count, place, at, r.usage, r.number);
+        return;
+    }
+    let end = used - 4;
+    let from = end - r.length as usize;
+    let d = &jrn[from..end];
+    if kind == 2 {
+        rewrite::replace_bytes(buf, len, count, place, at, size, r.sort, d);
+        return;
+    }
+    rewrite::insert_bytes(buf, len, count, place, at, r.usage, r.number, r.sort, d);
+}
+
 // Undo: the last record's edit is taken back. The journal is only read.
 pub fn undo(buf: &mut [u8], len: usize, jrn: &[u8], used: usize) -> Answer
     ensures { λ r. ⌜ Called (state (now (buf .entry)) len (now (jrn .entry)) used) undo r (now (buf .exit)) (now (jrn .entry)) ⌝ }
@@ -473,7 +514,7 @@ pub fn undo(buf: &mut [u8], len: usize, jrn: &[u8], used: usize) -> Answer
             record,
         } => {
             let m = record.length as usize;
-            undoing::write_back(buf, len, jrn, used, count, at, size, record);
+            write_back(buf, len, jrn, used, count, at, size, record);
             Answer {
                 outcome: Outcome::Done,
                 len: to,

@@ -20,7 +20,7 @@ use Rattle.blorb.specs.Sound.{W, RefOk, ChunkOk, Sound}
 use Rattle.blorb.proofs.Checks.{then-accept, check-accept, pass}
 use Rattle.blorb.proofs.ModelLaws.{length-file}
 use Rattle.blorb.proofs.VerdictLaws.{refsFault, modelFault}
-use Rattle.edits.specs.Edit.{with-at, raise}
+use Rattle.edits.specs.Edit.{with-at, raise, entered, inserted}
 use Rattle.edits.specs.Run.{accepted}
 use Rattle.edits.proofs.AddVerdict.{second-any}
 use Rattle.edits.proofs.Starts.{map-append}
@@ -163,39 +163,38 @@ front-stays at at′ rs rs′ a b l h f =
     go false e = refl
     go true e = ap (λ (z : Bool). not (not z)) (f (front-picture at rs a h e))
 
--- the model with an entry put in at i
-abbrev pub entered : Model → ℕ → Ref → Model
-entered m i x = record { refs = with-at i x (m .refs); chunks = m .chunks }
+-- an entry put in at i
+module _ (m : Model) (i k u n : ℕ) (s : Sound m) (ok : modelFault plainRules m ≡ accept) (fits : RefOk (length (m .chunks)) (record { usage = u; number = n; chunk = k })) where
+  abbrev new : Ref
+  new = record { usage = u; number = n; chunk = k }
 
-module _ (m : Model) (i : ℕ) (x : Ref) (s : Sound m) (ok : modelFault plainRules m ≡ accept) (fits : RefOk (length (m .chunks)) x) where
-  pub entered-sound : Sound (entered m i x)
-  entered-sound = record { refs-ok = all-with (RefOk (length (m .chunks))) i x (m .refs) fits (s .refs-ok); chunks-ok = s .chunks-ok }
+  pub entered-sound : Sound (entered m i k u n)
+  unfolding entered
+  entered-sound = record { refs-ok = all-with (RefOk (length (m .chunks))) i new (m .refs) fits (s .refs-ok); chunks-ok = s .chunks-ok }
 
-  pub entered-length : length (file (entered m i x)) ≡ length (file m) + 12
-  unfolding base
-  entered-length = rw (length-file (entered m i x), length-file m) (omega (arith, length-with i x (m .refs)))
+  pub entered-length : length (file (entered m i k u n)) ≡ length (file m) + 12
+  unfolding entered base
+  entered-length = rw (length-file (entered m i k u n), length-file m) (omega (arith, length-with i new (m .refs)))
 
-  pub entered-accepted : accepted (verdict plainRules (file (entered m i x)))
-      ≡ (leb (length (file m) + 12) 16777216 && (leb (suc (length (m .refs))) 4096 && entryTests (x .usage) (x .number) (getD (m .chunks) (x .chunk) noChunk) (m .refs)))
+  pub entered-accepted : accepted (verdict plainRules (file (entered m i k u n)))
+      ≡ (leb (length (file m) + 12) 16777216 && (leb (suc (length (m .refs))) 4096 && entryTests u n (getD (m .chunks) k noChunk) (m .refs)))
+  unfolding entered
   entered-accepted =
       let p = model-parts m ok in
       let at : ℕ = base (length (m .refs)) in
       let at′ : ℕ = base (suc (length (m .refs))) in
-      let rs′ : List Ref = with-at i x (m .refs) in
-      accepted-file (entered m i x) entered-sound
+      let rs′ : List Ref = with-at i new (m .refs) in
+      accepted-file (entered m i k u n) entered-sound
       ∙ rw (
         entered-length,
-        length-with i x (m .refs),
+        length-with i new (m .refs),
         second-any at at′ (m .chunks) (p .no-second),
-        entry-tests (m .chunks) i x (m .refs) (p .entries-fine),
-        front-stays at at′ (m .refs) rs′ (m .chunks) (m .chunks) (like-self (m .chunks)) (p .seven) (picture-with (frontNumber (m .chunks)) (m .chunks) i x (m .refs)),
+        entry-tests (m .chunks) i new (m .refs) (p .entries-fine),
+        front-stays at at′ (m .refs) rs′ (m .chunks) (m .chunks) (like-self (m .chunks)) (p .seven) (picture-with (frontNumber (m .chunks)) (m .chunks) i new (m .refs)),
       )
-      (ap (λ (b : Bool). leb (length (file m) + 12) 16777216 && (leb (suc (length (m .refs))) 4096 && b)) (and-true (entryTests (x .usage) (x .number) (getD (m .chunks) (x .chunk) noChunk) (m .refs))))
+      (ap (λ (b : Bool). leb (length (file m) + 12) 16777216 && (leb (suc (length (m .refs))) 4096 && b)) (and-true (entryTests u n (getD (m .chunks) k noChunk) (m .refs))))
 
--- the model with an entry put in at i and its chunk at k
-abbrev pub inserted : Model → ℕ → ℕ → ℕ → ℕ → Chunk → Model
-inserted m i k u n c = record { refs = with-at i (record { usage = u; number = n; chunk = k }) (map (raise k) (m .refs)); chunks = with-at k c (m .chunks) }
-
+-- an entry put in at i and its chunk at k
 raise-ok : (k n : ℕ) (r : Ref) → RefOk n r → RefOk (suc n) (raise k r)
 unfolding raise
 raise-ok k n r ok = record { usage-fits = ok .usage-fits; number-fits = ok .number-fits; chunk-there = go (leb k (r .chunk)) }
@@ -215,6 +214,7 @@ module _ (m : Model) (i k u n : ℕ) (c : Chunk) (s : Sound m) (ok : modelFault 
   up = map (raise k) (m .refs)
 
   pub inserted-sound : u < W → n < W → c .type < W → Sound (inserted m i k u n c)
+  unfolding inserted
   inserted-sound hu hn ht =
       let l : length cs′ ≡ suc (length (m .chunks)) = length-with k c (m .chunks) in
       record {
@@ -227,11 +227,12 @@ module _ (m : Model) (i k u n : ℕ) (c : Chunk) (s : Sound m) (ok : modelFault 
   inserted-count = length-with i x up ∙ ap suc (length-map (m .refs) (raise k))
 
   pub inserted-length : length (file (inserted m i k u n c)) ≡ length (file m) + 12 + size c
-  unfolding base
+  unfolding inserted base
   inserted-length = rw (length-file (inserted m i k u n c), length-file m) (omega (arith, inserted-count, total-with k c (m .chunks)))
 
   pub inserted-accepted : u < W → n < W → c .type < W → accepted (verdict plainRules (file (inserted m i k u n c)))
       ≡ (leb (length (file m) + 12 + size c) 16777216 && (not (eqb (c .type) RIdx) && (leb (suc (length (m .refs))) 4096 && entryTests u n c (m .refs))))
+  unfolding inserted
   inserted-accepted hu hn ht =
       let p = model-parts m ok in
       let at : ℕ = base (length (m .refs)) in

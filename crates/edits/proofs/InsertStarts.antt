@@ -1,11 +1,11 @@
--- The undo of a removal moves the starts as document 01 says: the removal's moves, back.
+-- How starts move where an entry goes in, alone or with its chunk; and that a record which fits says where.
 use mathlib.Core.Path.{_≡_, refl, sym, ap, _∙_}
 use Prim.Native.Nat.{ℕ, zero, suc, _+_, _*_, _-_, _≤_}
 use mathlib.Core.List.{List, [], _∷_, map}
 use mathlib.Core.Bool.{Bool, true, false, cond, _&&_, _||_}
 use native.Mathlib.Omega.{arith}
 use native.Mathlib.Nat.{le-of-suc-le-suc, not-suc-le-zero}
-use lib.ListN.{length, getD, take, drop, length-append, length-map, length-take, length-drop}
+use lib.ListN.{length, getD, take, drop, length-map, length-take}
 use lib.Seq.{take-append-le, take-take}
 use lib.Dec.{eqb, leb}
 use borrow.Author.Tests.{le-leb, lt-leb, leb-true, leb-false, eqb-true}
@@ -13,18 +13,13 @@ use Rattle.blorb.specs.Format.{Ref, Chunk, Entry, size, total, isStart, placeOf
 use Rattle.blorb.specs.Verdict.{noChunk}
 use Rattle.blorb.specs.Model.{Model, base, startOf, entryOf}
 use Rattle.blorb.specs.Queries.{start}
-use Rattle.edits.specs.Edit.{with-at, raise}
-use Rattle.edits.specs.Journal.{Rec, oldChunk, oldPlace, oldRef, undo3, undo4, fits3, fits4}
+use Rattle.edits.specs.Edit.{with-at, raise, entered, inserted}
+use Rattle.edits.specs.Journal.{Rec, oldPlace, fits3, fits4}
 use Rattle.blorb.proofs.Places.{size-pos, startOf-placeOf, placeOf-startOf}
 use Rattle.blorb.proofs.ModelLaws.{entries}
 use Rattle.edits.specs.Starts.{moved}
 use Rattle.edits.proofs.Starts.{total-more, total-mono}
-
--- one element more
-module _ {A : Type 0} where
-  pub length-with : (i : ℕ) (x : A) (l : List A) → length (with-at i x l) ≡ suc (length l)
-  unfolding with-at
-  length-with i x l = simp (length-append, length-take, length-drop) (omega arith)
+use Rattle.edits.proofs.InsertJudged.{length-with}
 
 pub map-with : {A B : Type 0} (f : A → B) (i : ℕ) (x : A) (l : List A) → map f (with-at i x l) ≡ with-at i (f x) (map f l)
 unfolding with-at
@@ -75,62 +70,52 @@ place-inside s at (c ∷ cs) = go (eqb s at) (place-inside s (at + size c) cs)
     go true h = omega arith
     go false h = omega arith
 
--- undo of kind 3: starts at or behind the chunk's place rise by 12 and the chunk's size, the others by 12
-pub starts-inserted : (m : Model) (r : Rec) → r .start ≡ start m (oldPlace r m) + 12
-    → entries (undo3 r m) ≡ with-at (r .place) (record { usage = r .usage; number = r .number; start = r .start }) (map (moved (risen (r .start - 12) (size (oldChunk r)))) (entries m))
-unfolding undo3 start entryOf raise
-starts-inserted m r e =
-    let f : Ref → Entry = entryOf (base (suc n)) cs′ in
-    let l : length (with-at (r .place) x (map (raise k) (m .refs))) ≡ suc n = length-with (r .place) x (map (raise k) (m .refs)) ∙ ap suc (length-map (m .refs) (raise k)) in
-    let e′ : r .start - 12 ≡ startOf (base n) (m .chunks) k = omega arith in
-    let own : startOf (base (suc n)) cs′ k ≡ r .start = rose-own n (m .chunks) k (oldChunk r) inside ∙ sym e in
-    ap (λ (z : ℕ). map (entryOf (base z) cs′) (with-at (r .place) x (map (raise k) (m .refs)))) l
-    ∙ map-with f (r .place) x (map (raise k) (m .refs))
-    ∙ (λ i. with-at (r .place) (record { usage = r .usage; number = r .number; start = own i }) (all (m .refs) i))
-    ∙ ap (λ (z : ℕ). with-at (r .place) (record { usage = r .usage; number = r .number; start = r .start }) (map (moved (risen z (size (oldChunk r)))) (entries m))) (sym e′)
+-- an entry and a chunk go in at places i and k: starts at or behind the chunk's place rise by 12 and the chunk's size, the others by 12
+pub starts-inserted : (m : Model) (i k u n : ℕ) (c : Chunk) → k ≤ length (m .chunks)
+    → entries (inserted m i k u n c) ≡ with-at i (record { usage = u; number = n; start = start m k + 12 }) (map (moved (risen (start m k) (size c))) (entries m))
+unfolding inserted start entryOf raise
+starts-inserted m i k u n c inside =
+    let f : Ref → Entry = entryOf (base (suc N)) cs′ in
+    let l : length (with-at i x (map (raise k) (m .refs))) ≡ suc N = length-with i x (map (raise k) (m .refs)) ∙ ap suc (length-map (m .refs) (raise k)) in
+    ap (λ (z : ℕ). map (entryOf (base z) cs′) (with-at i x (map (raise k) (m .refs)))) l
+    ∙ map-with f i x (map (raise k) (m .refs))
+    ∙ (λ z. with-at i (record { usage = u; number = n; start = rose-own N (m .chunks) k c inside z }) (all (m .refs) z))
   where
-    k : ℕ
-    k = oldPlace r m
-
-    n : ℕ
-    n = length (m .refs)
+    N : ℕ
+    N = length (m .refs)
 
     x : Ref
-    x = oldRef r m
+    x = record { usage = u; number = n; chunk = k }
 
     cs′ : List Chunk
-    cs′ = with-at (oldPlace r m) (oldChunk r) (m .chunks)
+    cs′ = with-at k c (m .chunks)
 
-    inside : oldPlace r m ≤ length (m .chunks)
-    inside = place-inside (r .start - 12) (base (length (m .refs))) (m .chunks)
-
-    all : (rs : List Ref) → map (entryOf (base (suc n)) cs′) (map (raise k) rs) ≡ map (moved (risen (startOf (base n) (m .chunks) k) (size (oldChunk r)))) (map (entryOf (base n) (m .chunks)) rs)
+    all : (rs : List Ref) → map (entryOf (base (suc N)) cs′) (map (raise k) rs) ≡ map (moved (risen (startOf (base N) (m .chunks) k) (size c))) (map (entryOf (base N) (m .chunks)) rs)
     all [] = refl
-    all (y ∷ rs) = λ i. record { usage = y .usage; number = y .number; start = rose n (m .chunks) k (oldChunk r) (y .chunk) inside i } ∷ all rs i
+    all (y ∷ rs) = λ z. record { usage = y .usage; number = y .number; start = rose N (m .chunks) k c (y .chunk) inside z } ∷ all rs z
 
--- undo of kind 4: every start rises by 12
-pub starts-relisted : (m : Model) (r : Rec) → r .start ≡ start m (oldPlace r m) + 12
-    → entries (undo4 r m) ≡ with-at (r .place) (record { usage = r .usage; number = r .number; start = r .start }) (map (moved (λ t. t + 12)) (entries m))
-unfolding undo4 start entryOf
-starts-relisted m r e =
-    let l : length (with-at (r .place) x (m .refs)) ≡ suc n = length-with (r .place) x (m .refs) in
-    let own : startOf (base (suc n)) (m .chunks) (oldPlace r m) ≡ r .start = grown (oldPlace r m) ∙ sym e in
-    ap (λ (z : ℕ). map (entryOf (base z) (m .chunks)) (with-at (r .place) x (m .refs))) l
-    ∙ map-with (entryOf (base (suc n)) (m .chunks)) (r .place) x (m .refs)
-    ∙ (λ i. with-at (r .place) (record { usage = r .usage; number = r .number; start = own i }) (all (m .refs) i))
+-- an entry goes in at place i: every start rises by 12
+pub starts-entered : (m : Model) (i k u n : ℕ)
+    → entries (entered m i k u n) ≡ with-at i (record { usage = u; number = n; start = start m k + 12 }) (map (moved (λ t. t + 12)) (entries m))
+unfolding entered start entryOf
+starts-entered m i k u n =
+    let l : length (with-at i x (m .refs)) ≡ suc N = length-with i x (m .refs) in
+    ap (λ (z : ℕ). map (entryOf (base z) (m .chunks)) (with-at i x (m .refs))) l
+    ∙ map-with (entryOf (base (suc N)) (m .chunks)) i x (m .refs)
+    ∙ (λ z. with-at i (record { usage = u; number = n; start = grown k z }) (all (m .refs) z))
   where
-    n : ℕ
-    n = length (m .refs)
+    N : ℕ
+    N = length (m .refs)
 
     x : Ref
-    x = oldRef r m
+    x = record { usage = u; number = n; chunk = k }
 
-    grown : (j : ℕ) → startOf (base (suc n)) (m .chunks) j ≡ startOf (base n) (m .chunks) j + 12
+    grown : (j : ℕ) → startOf (base (suc N)) (m .chunks) j ≡ startOf (base N) (m .chunks) j + 12
     grown j = unfold startOf base in omega arith
 
-    all : (rs : List Ref) → map (entryOf (base (suc n)) (m .chunks)) rs ≡ map (moved (λ t. t + 12)) (map (entryOf (base n) (m .chunks)) rs)
+    all : (rs : List Ref) → map (entryOf (base (suc N)) (m .chunks)) rs ≡ map (moved (λ t. t + 12)) (map (entryOf (base N) (m .chunks)) rs)
     all [] = refl
-    all (y ∷ rs) = λ i. record { usage = y .usage; number = y .number; start = grown (y .chunk) i } ∷ all rs i
+    all (y ∷ rs) = λ z. record { usage = y .usage; number = y .number; start = grown (y .chunk) z } ∷ all rs z
 
 -- a record that fits: its start less 12 is where the chunk at its place begins, or the file's end
 fit-parts : (a b : Bool) → a && b ≡ true → (a ≡ true) × (b ≡ true)

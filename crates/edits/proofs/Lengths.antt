@@ -1,6 +1,6 @@
 -- Lengths: of chunks put together, taken out or changed, and of the file after each edit.
 use mathlib.Core.Path.{_≡_}
-use Prim.Native.Nat.{ℕ, zero, suc, _+_, _<_}
+use Prim.Native.Nat.{ℕ, zero, suc, _+_, _<_, _%_}
 use mathlib.Core.List.{List, [], _∷_, _++_}
 use native.Mathlib.Omega.{arith}
 use native.Mathlib.Nat.{le-of-suc-le-suc, not-suc-le-zero}
@@ -8,10 +8,15 @@ use lib.ListN.{length, getD, set, length-append}
 use Rattle.blorb.specs.Format.{Ref, Chunk, size, total}
 use Rattle.blorb.specs.Verdict.{noChunk}
 use Rattle.blorb.specs.Model.{Model, base, file}
-use Rattle.edits.specs.Edit.{added, replaced, removedBoth}
+use Rattle.edits.specs.Edit.{added, replaced, removedBoth, givenChunk}
 use Rattle.blorb.specs.Queries.{chunkAt, without}
 use Rattle.blorb.proofs.ModelLaws.{length-file}
+use Rattle.blorb.proofs.Parts.{size-of}
 use Rattle.edits.proofs.UndoLaws.{length-remaining}
+
+pub size-given : (t : ℕ) (d : List ℕ) → size (givenChunk t d) ≡ 8 + length d + length d % 2
+unfolding givenChunk
+size-given t d = size-of t d
 
 pub total-append : (a b : List Chunk) → total (a ++ b) ≡ total a + total b
 unfolding total

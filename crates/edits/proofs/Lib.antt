@@ -25,5 +25,6 @@ pub mod UndoJudged
 pub mod FitFacts
 pub mod UndoTold
 pub mod InsertStarts
+pub mod AddInserts
 pub mod BlankLaws
 pub mod TooLong

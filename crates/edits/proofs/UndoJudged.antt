@@ -19,17 +19,17 @@ use Rattle.blorb.specs.Sound.{W, RefOk, Sound}
 use Rattle.blorb.proofs.Places.{startOf-placeOf}
 use Rattle.blorb.specs.Bytes.{Byte}
 use Rattle.blorb.proofs.Accept.{accept-back}
-use Rattle.blorb.proofs.Checks.{then-accept}
 use Rattle.blorb.proofs.ModelLaws.{length-file, size-getD}
-use Rattle.blorb.proofs.VerdictLaws.{verdict-file, modelFault}
+use Rattle.blorb.proofs.VerdictLaws.{modelFault, file-judged}
 use Rattle.edits.specs.Edit.{lower, replaced, removed, removedBoth}
-use Rattle.edits.specs.Journal.{Rec, hasPair, fits, fits1, fits2, fits3, fits4, undone, undo1, undo2, undo3, undo4, oldChunk, oldRef, oldPlace}
+use Rattle.edits.specs.Journal.{Rec, hasPair, fits, fits1, fits2, fits3, fits4, undone, undo1, undo2, undo3, undo4, oldChunk, oldPlace}
 use Rattle.edits.specs.Run.{accepted}
 use Rattle.edits.proofs.Lengths.{length-replaced}
 use Rattle.edits.proofs.BoolLaws.{and-parts}
 use Rattle.edits.proofs.JudgedLaws.{model-parts, isFront, find-at, chunk-in}
 use Rattle.edits.proofs.RemoveJudged.{removed-length, removed-accepted}
 use Rattle.edits.proofs.ReplaceJudged.{replaced-accepted}
+use Rattle.edits.proofs.InsertStarts.{place-inside}
 use Rattle.edits.proofs.InsertJudged.{entryTests, entered-length, entered-accepted, inserted-length, inserted-accepted}
 
 -- ---- kind 1
@@ -157,42 +157,33 @@ module _ (r : Rec) (m : Model) (s : Sound m) (ok : modelFault plainRules m ≡ a
       && (not (eqb (r .type) RIdx) && (plainAllows (r .usage) (oldChunk r) && not (isFront (m .chunks) (r .usage) (r .number) && eqb (r .type) Rect)))) e
 
 -- ---- kinds 3 and 4
-pub place-le : (x at : ℕ) (cs : List Chunk) → placeOf x at cs ≤ length cs
-unfolding placeOf
-place-le x at [] = omega arith
-place-le x at (c ∷ cs) = go (eqb x at) (place-le x (at + size c) cs)
-  where
-    go : (b : Bool) → placeOf x (at + size c) cs ≤ length cs → cond b 0 (suc (placeOf x (at + size c) cs)) ≤ length (c ∷ cs)
-    go true h = omega arith
-    go false h = omega arith
-
 module _ (r : Rec) (m : Model) (s : Sound m) (ok : modelFault plainRules m ≡ accept) where
   pub undo3-length : length (file (undo3 r m)) ≡ length (file m) + 12 + size (oldChunk r)
   unfolding undo3
-  undo3-length = inserted-length m (r .place) (oldPlace r m) (r .usage) (r .number) (oldChunk r) s ok (place-le (r .start - 12) (base (length (m .refs))) (m .chunks))
+  undo3-length = inserted-length m (r .place) (oldPlace r m) (r .usage) (r .number) (oldChunk r) s ok (place-inside (r .start - 12) (base (length (m .refs))) (m .chunks))
 
   pub undo3-accepted : r .usage < W → r .number < W → r .type < W → accepted (verdict plainRules (file (undo3 r m)))
       ≡ (leb (length (file m) + 12 + size (oldChunk r)) 16777216 && (not (eqb (r .type) RIdx) && (leb (suc (length (m .refs))) 4096
       && entryTests (r .usage) (r .number) (oldChunk r) (m .refs))))
   unfolding undo3
-  undo3-accepted hu hn ht = inserted-accepted m (r .place) (oldPlace r m) (r .usage) (r .number) (oldChunk r) s ok (place-le (r .start - 12) (base (length (m .refs))) (m .chunks)) hu hn ht
+  undo3-accepted hu hn ht = inserted-accepted m (r .place) (oldPlace r m) (r .usage) (r .number) (oldChunk r) s ok (place-inside (r .start - 12) (base (length (m .refs))) (m .chunks)) hu hn ht
 
   module _ (hu : r .usage < W) (hn : r .number < W) (fit : fits4 r m ≡ true) where
     fits4-start : isStart (r .start - 12) (base (length (m .refs))) (m .chunks) ≡ true
     unfolding fits4
     fits4-start = and-parts (leb (r .place) (length (m .refs))) (isStart (r .start - 12) (base (length (m .refs))) (m .chunks)) fit .1
 
-    old-ok : RefOk (length (m .chunks)) (oldRef r m)
+    old-ok : RefOk (length (m .chunks)) (record { usage = r .usage; number = r .number; chunk = oldPlace r m })
     old-ok = record { usage-fits = hu; number-fits = hn; chunk-there = startOf-placeOf (r .start - 12) (base (length (m .refs))) (m .chunks) fits4-start .1 }
 
     pub undo4-length : length (file (undo4 r m)) ≡ length (file m) + 12
     unfolding undo4
-    undo4-length = entered-length m (r .place) (oldRef r m) s ok old-ok
+    undo4-length = entered-length m (r .place) (oldPlace r m) (r .usage) (r .number) s ok old-ok
 
     pub undo4-accepted : accepted (verdict plainRules (file (undo4 r m)))
         ≡ (leb (length (file m) + 12) 16777216 && (leb (suc (length (m .refs))) 4096 && entryTests (r .usage) (r .number) (chunkAt m (oldPlace r m)) (m .refs)))
     unfolding undo4
-    undo4-accepted = entered-accepted m (r .place) (oldRef r m) s ok old-ok
+    undo4-accepted = entered-accepted m (r .place) (oldPlace r m) (r .usage) (r .number) s ok old-ok
 
 -- ---- by kind
 pub kind-1 : (r : Rec) (m : Model) → r .kind ≡ 1 → (fits r m ≡ fits1 r m) × (undone r m ≡ undo1 m)
@@ -221,5 +212,4 @@ pub record AcceptedFile (f : List ℕ) : Type 0 where
 pub accepted-facts : (f : List ℕ) → All Byte f → verdict plainRules f ≡ accept → AcceptedFile f
 accepted-facts f bytes fine =
     let g = accept-back plainRules f bytes fine in
-    let old = sym (verdict-file plainRules (model f) (g .1)) ∙ ap (verdict plainRules) (g .0) ∙ fine in
-    record { sound = g .1; judged = then-accept _ _ old .1; whole = g .0; short = omega (arith, ap length (g .0), g .2) }
+    record { sound = g .1; judged = file-judged plainRules (model f) (g .1) (ap (verdict plainRules) (g .0) ∙ fine); whole = g .0; short = omega (arith, ap length (g .0), g .2) }

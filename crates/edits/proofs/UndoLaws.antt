@@ -11,7 +11,7 @@ use borrow.Author.Tests.{eqb-false, ltb-true, ltb-false, le-leb, lt-leb}
 use Rattle.blorb.specs.Format.{Ref, Chunk}
 use Rattle.blorb.specs.Verdict.{noChunk}
 use Rattle.blorb.specs.Model.{Model, base, startOf}
-use Rattle.edits.specs.Edit.{with-at, raise, lower, added, replaced, removedBoth, removedEntry}
+use Rattle.edits.specs.Edit.{with-at, raise, lower, added, replaced, removedBoth, removedEntry, entered, inserted}
 use Rattle.blorb.specs.Queries.{uses, shared, refAt, noRef, chunkAt, without, start}
 use Rattle.edits.specs.Journal.{removal, undo1, undo3, undo4}
 use Rattle.blorb.proofs.Places.{placeOf-startOf}
@@ -80,7 +80,7 @@ module _ (m : Model) (i : ℕ) (inside : i < length (m .refs)) (valid : refAt m 
   remove-start = rw (← length-remaining m i (refAt m i .chunk) inside) (old-start (length (removedBoth m i (refAt m i .chunk) .refs)) (m .chunks) (refAt m i .chunk) valid)
 
   pub undo-remove : shared m i ≡ false → undo3 (removal false m (refAt m i .usage) (refAt m i .number) i) (removedBoth m i (refAt m i .chunk)) ≡ m
-  unfolding undo3 removal removedBoth shared
+  unfolding undo3 inserted removal removedBoth shared
   undo-remove alone =
       let k : ℕ = refAt m i .chunk in
       rw (
@@ -101,7 +101,7 @@ module _ (m : Model) (i : ℕ) (inside : i < length (m .refs)) (valid : refAt m 
   entry-start = rw (← length-without i (m .refs) inside) (same-place (length (without i (m .refs))) (m .chunks) (refAt m i .chunk))
 
   pub undo-remove-entry : undo4 (removal true m (refAt m i .usage) (refAt m i .number) i) (removedEntry m i) ≡ m
-  unfolding undo4 removal removedEntry
+  unfolding undo4 entered removal removedEntry
   undo-remove-entry =
       rw (entry-start, placeOf-startOf (base (length (without i (m .refs)))) (m .chunks) (refAt m i .chunk) (omega arith))
       λ j. record { refs = with-without i (m .refs) noRef inside j; chunks = m .chunks }

@@ -46,6 +46,17 @@ removedEntry m i = record { refs = without i (m .refs); chunks = m .chunks }
 unfoldable pub removed : Model → ℕ → Model
 removed m i = cond (shared m i) (removedEntry m i) (removedBoth m i (refAt m i .chunk))
 
+-- an entry for usage u, number n and chunk k goes in at place i of the index
+unfoldable pub entered : Model → ℕ → ℕ → ℕ → ℕ → Model
+entered m i k u n = record { refs = with-at i (record { usage = u; number = n; chunk = k }) (m .refs); chunks = m .chunks }
+
+-- such an entry goes in at place i of the index, and its chunk c at place k among the chunks
+unfoldable pub inserted : Model → ℕ → ℕ → ℕ → ℕ → Chunk → Model
+inserted m i k u n c = record {
+  refs = with-at i (record { usage = u; number = n; chunk = k }) (map (raise k) (m .refs));
+  chunks = with-at k c (m .chunks);
+}
+
 -- the chunk that the arguments of add and replace describe
 unfoldable pub givenChunk : ℕ → List ℕ → Chunk
 givenChunk t d = chunkOf t d

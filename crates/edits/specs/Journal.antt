@@ -1,14 +1,14 @@
 -- The undo journal's records (01, The undo journal).
 use Prim.Native.Nat.{ℕ, suc, _+_, _-_}
-use mathlib.Core.List.{List, [], _∷_, _++_, map}
+use mathlib.Core.List.{List, [], _∷_, _++_}
 use mathlib.Core.Bool.{Bool, true, false, cond, _&&_, _||_, not}
 use lib.ListN.{length, getD, take, drop}
 use lib.Dec.{eqb, leb, ltb}
 use Rattle.blorb.specs.Bytes.{be32, rd32}
-use Rattle.blorb.specs.Format.{Ref, Chunk, chunkOf, isStart, placeOf}
-use Rattle.blorb.specs.Queries.{start, find, shared, refAt, chunkAt}
+use Rattle.blorb.specs.Format.{Ref, Chunk, chunkOf, isStart}
+use Rattle.blorb.specs.Queries.{start, placeAt, find, shared, refAt, chunkAt}
 use Rattle.blorb.specs.Model.{Model, base}
-use Rattle.edits.specs.Edit.{Edit, add, replace, remove, with-at, raise, replaced}
+use Rattle.edits.specs.Edit.{Edit, add, replace, remove, replaced, entered, inserted}
 
 -- "Each record: kind (1 byte), usage, number, index place from 0, start, type, m (4 bytes each), m data bytes"
 pub record Rec : Type 0 where
@@ -120,19 +120,16 @@ abbrev pub oldChunk : Rec → Chunk
 oldChunk r = chunkOf (r .type) (r .body)
 
 abbrev pub oldPlace : Rec → Model → ℕ
-oldPlace r m = placeOf (r .start - 12) (base (length (m .refs))) (m .chunks)
-
-abbrev pub oldRef : Rec → Model → Ref
-oldRef r m = record { usage = r .usage; number = r .number; chunk = oldPlace r m }
+oldPlace r m = placeAt m (r .start - 12)
 
 unfoldable pub undo2 : Rec → Model → Model
 undo2 r m = replaced m (refAt m (r .place) .chunk) (oldChunk r)
 
 unfoldable pub undo3 : Rec → Model → Model
-undo3 r m = record { refs = with-at (r .place) (oldRef r m) (map (raise (oldPlace r m)) (m .refs)); chunks = with-at (oldPlace r m) (oldChunk r) (m .chunks) }
+undo3 r m = inserted m (r .place) (oldPlace r m) (r .usage) (r .number) (oldChunk r)
 
 unfoldable pub undo4 : Rec → Model → Model
-undo4 r m = record { refs = with-at (r .place) (oldRef r m) (m .refs); chunks = m .chunks }
+undo4 r m = entered m (r .place) (oldPlace r m) (r .usage) (r .number)
 
 unfoldable pub undone : Rec → Model → Model
 undone r m = byKind (r .kind) (undo1 m) (undo2 r m) (undo3 r m) (undo4 r m)

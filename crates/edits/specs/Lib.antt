@@ -5,3 +5,4 @@ pub mod KindRule
 pub mod Run
 pub mod Demand3
 pub mod Blank
+pub mod GoneSize

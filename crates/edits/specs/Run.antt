@@ -17,6 +17,10 @@ pub record State : Type 0 where
   pub journal : List ℕ
   pub U : ℕ
 
+-- these, in the order in which the calls take them
+abbrev pub state : List ℕ → ℕ → List ℕ → ℕ → State
+state b l j u = record { buffer = b; L = l; journal = j; U = u }
+
 pub data Call : Type 0 where
   edit : Edit → Call
   undo : Call

@@ -10,7 +10,7 @@ use lib.Seq.{drop-drop}
 use borrow.Author.Tests.{lt-ltb, le-ltb}
 use Rattle.blorb.specs.Bytes.{rd32}
 use Rattle.blorb.specs.Format.{Entry, Ref, refOf, chunkIn, entryIn, entriesIn}
-use Rattle.blorb.specs.Verdict.{Verdict, accept, refuse, entriesFault, knownUsage}
+use Rattle.blorb.specs.Verdict.{Rules, Verdict, accept, refuse, entriesFault, knownUsage}
 use Rattle.blorb.specs.Rules.{plainRules, plainVerdict, optional}
 use Rattle.reader.specs.Walk.{chunkFrom, skipAt, chunksFrom}
 use Rattle.blorb.proofs.Checks.{then-accept, check-accept}
@@ -57,7 +57,7 @@ good f h =
     let j : EntriesPassed f count = is-judged f (a1 .0) (a2 .0) (a3 .0) (skipAt f 12) refl (a4 .0) (a5 .0) count refl (a6 .0) in
     record {
       verdict = h;
-      passed = record { judged = j; optional = sym (optional-is f count (j .walks) (j .entries)) ∙ a6 .1; short = accept-short plainRules f h };
+      passed = record { judged = j; optional = sym (optional-is (j .rules) f count (j .walks) (j .entries)) ∙ a6 .1; short = accept-short plainRules f h };
       index = is;
       many = ap length is ∙ length-entriesIn count (drop 24 f);
       model = model-of f (a1 .0) (a2 .0) (a3 .0) (skipAt f 12) refl (a4 .0) (a5 .0) count refl (a6 .0);
@@ -150,13 +150,13 @@ module _ (f : List ℕ) (i n : ℕ) (g : Good f n) (l : i < n) (u : ℕ) (eu : u
       (λ j. Given (record { usage = k; number = ea j; start = ex j })) ∙ (rw q at (entry-there f i n g l))
 
 -- the entries of an accepted file have a known usage
-pub known-at : (f : List ℕ) (base : ℕ) (es : List Entry) (earlier : List Ref) (p i : ℕ) (d : Entry)
-    → entriesFault plainRules base (chunksFrom f base) earlier p es ≡ accept → i < length es → knownUsage (getD es i d .usage) ≡ true
+pub known-at : (R : Rules) (f : List ℕ) (base : ℕ) (es : List Entry) (earlier : List Ref) (p i : ℕ) (d : Entry)
+    → entriesFault R base (chunksFrom f base) earlier p es ≡ accept → i < length es → knownUsage (getD es i d .usage) ≡ true
 unfolding entriesFault
-known-at f base [] earlier p i d h l = absurd (not-suc-le-zero l)
-known-at f base (e ∷ es) earlier p zero d h l = check-accept _ _ _ (then-accept _ _ h .0)
-known-at f base (e ∷ es) earlier p (suc i) d h l =
-    known-at f base es (earlier ++ (refOf base (chunksFrom f base) e ∷ [])) (p + 12) i d (then-accept _ _ (then-accept _ _ (then-accept _ _ h .1) .1) .1) (le-of-suc-le-suc l)
+known-at R f base [] earlier p i d h l = absurd (not-suc-le-zero l)
+known-at R f base (e ∷ es) earlier p zero d h l = check-accept _ _ _ (then-accept _ _ h .0)
+known-at R f base (e ∷ es) earlier p (suc i) d h l =
+    known-at R f base es (earlier ++ (refOf base (chunksFrom f base) e ∷ [])) (p + 12) i d (then-accept _ _ (then-accept _ _ (then-accept _ _ h .1) .1) .1) (le-of-suc-le-suc l)
 
 pub not-unknown : (u : ℕ) (k : Known) → usageOf u ≡ k → knownUsage u ≡ true → (x : Usage) × (usageOf u ≡ Is x)
 not-unknown u (Is x) e h = (x, e)

@@ -12,14 +12,14 @@ use lib.Dec.{eqb, leb}
 use borrow.Author.Tests.{eq-eqb, ne-eqb, eqb-true, le-leb, lt-leb, leb-true, not-true}
 use Rattle.blorb.specs.Bytes.{rd32}
 use Rattle.blorb.specs.Format.{Chunk, Entry, Ref, refOf, chunkIn, entryIn, entriesIn, entriesOf, isStart, placeOf}
-use Rattle.blorb.specs.Verdict.{accept, refuse, noChunk, pairIn, refFault, entriesFault, indexFault}
-use Rattle.blorb.specs.Rules.{plainRules, picture}
+use Rattle.blorb.specs.Verdict.{Rules, accept, refuse, noChunk, pairIn, refFault, entriesFault, indexFault}
+use Rattle.blorb.specs.Rules.{picture}
 use Rattle.blorb.specs.Tags.{Pict, Rect}
 use Rattle.reader.specs.Walk.{chunkFrom, nextAt, chunksFrom, walkFrom}
 use Rattle.reader.proofs.ChunkLaws.{fine}
 use Rattle.reader.proofs.StartLaws.{begun}
 use Rattle.blorb.proofs.Checks.{pass, stop, holds-last, fails-last, then-accept, check-accept, and-both}
-use Rattle.reader.specs.Entries.{usageAt, numberAt, startAt, place, earlier, entriesFrom, pairPlace}
+use Rattle.reader.specs.Entries.{usageAt, numberAt, startAt, place, pairPlace}
 use Rattle.blorb.proofs.UsageLaws.{rd32-take, or-false}
 use Rattle.reader.proofs.EntryLaws.{pair-snoc}
 use Rattle.reader.specs.declared.entries.Hit.the-variants.{At, Nothing}
@@ -205,10 +205,10 @@ or-true true = refl
 or-true false = refl
 
 -- what the acceptance of entries tells of the first of them
-module _ (f : List ℕ) (base : ℕ) (w : walkFrom f base ≡ accept) where
-  pub first-entry : (e : Entry) (es : List Entry) (earlier : List Ref) (p : ℕ) → entriesFault plainRules base (chunksFrom f base) earlier p (e ∷ es) ≡ accept
+module _ (R : Rules) (f : List ℕ) (base : ℕ) (w : walkFrom f base ≡ accept) where
+  pub first-entry : (e : Entry) (es : List Entry) (earlier : List Ref) (p : ℕ) → entriesFault R base (chunksFrom f base) earlier p (e ∷ es) ≡ accept
       → (isStart (e .start) base (chunksFrom f base) ≡ true) × (pairIn (e .usage) (e .number) earlier ≡ false)
-      × (entriesFault plainRules base (chunksFrom f base) (earlier ++ (refOf base (chunksFrom f base) e ∷ [])) (p + 12) es ≡ accept)
+      × (entriesFault R base (chunksFrom f base) (earlier ++ (refOf base (chunksFrom f base) e ∷ [])) (p + 12) es ≡ accept)
   unfolding entriesFault refFault refOf
   first-entry e es earlier p h =
       let a = then-accept _ _ (then-accept _ _ h .1) in
@@ -217,7 +217,7 @@ module _ (f : List ℕ) (base : ℕ) (w : walkFrom f base ≡ accept) where
       (check-accept _ _ _ (a .0), not-true (pairIn (e .usage) (e .number) earlier) (check-accept _ _ _ (d .1)), b .1)
 
   -- a hit is a chunk's beginning
-  pub hit-start : (u n x : ℕ) (es : List Entry) (earlier : List Ref) (p : ℕ) → entriesFault plainRules base (chunksFrom f base) earlier p es ≡ accept
+  pub hit-start : (u n x : ℕ) (es : List Entry) (earlier : List Ref) (p : ℕ) → entriesFault R base (chunksFrom f base) earlier p es ≡ accept
       → hitIn u n es ≡ At x → isStart x base (chunksFrom f base) ≡ true
   unfolding hitIn
   hit-start u n x [] earlier p h e = let z : _≡_ {A = ℕ} 0 1 = cc in absurd (omega arith)
@@ -231,7 +231,7 @@ module _ (f : List ℕ) (base : ℕ) (w : walkFrom f base ≡ accept) where
       go false s ih e = ih e
 
   -- a pair that an earlier entry has is no later one's
-  none-later : (n : ℕ) (es : List Entry) (earlier : List Ref) (p : ℕ) → entriesFault plainRules base (chunksFrom f base) earlier p es ≡ accept
+  none-later : (n : ℕ) (es : List Entry) (earlier : List Ref) (p : ℕ) → entriesFault R base (chunksFrom f base) earlier p es ≡ accept
       → pairIn Pict n earlier ≡ true → picture n (chunksFrom f base) (map (refOf base (chunksFrom f base)) es) ≡ false
   unfolding picture refOf
   none-later n [] earlier p h t = refl
@@ -254,7 +254,7 @@ module _ (f : List ℕ) (base : ℕ) (w : walkFrom f base ≡ accept) where
       go false e a z ih = ih
 
   -- so the picture of rule 19 is the lookup's
-  pub picture-hit : (n : ℕ) (es : List Entry) (earlier : List Ref) (p : ℕ) → entriesFault plainRules base (chunksFrom f base) earlier p es ≡ accept
+  pub picture-hit : (n : ℕ) (es : List Entry) (earlier : List Ref) (p : ℕ) → entriesFault R base (chunksFrom f base) earlier p es ≡ accept
       → picture n (chunksFrom f base) (map (refOf base (chunksFrom f base)) es) ≡ pictureBy f (hitIn Pict n es)
   unfolding picture refOf hitIn chunkIn
   picture-hit n [] earlier p h = refl
@@ -280,7 +280,6 @@ module _ (f : List ℕ) (base : ℕ) (w : walkFrom f base ≡ accept) where
 
 -- the chunk of a hit
 pub hit-begun : (f : List ℕ) (count u n x : ℕ) → EntriesPassed f count → hitIn u n (entriesIn count (drop 24 f)) ≡ At x → (x < length f) × (walkFrom f x ≡ accept)
-unfolding entriesFrom earlier
 hit-begun f count u n x j e =
-    let b = begun f x (place count) (j .walks) (hit-start f (place count) (j .walks) u n x (entriesIn count (drop 24 f)) [] 24 (j .entries) e) in
+    let b = begun f x (place count) (j .walks) (hit-start (j .rules) f (place count) (j .walks) u n x (entriesIn count (drop 24 f)) [] 24 (j .entries) e) in
     (b .below, b .walks)

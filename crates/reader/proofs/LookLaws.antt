@@ -11,8 +11,8 @@ use lib.Dec.{eqb, ltb}
 use borrow.Author.Tests.{eq-eqb, lt-ltb, le-ltb, ltb-true, ltb-false}
 use Rattle.blorb.specs.Bytes.{rd32}
 use Rattle.blorb.specs.Format.{Entry, Ref, refOf, Chunk, chunkIn, entriesIn, placeOf}
-use Rattle.blorb.specs.Verdict.{accept, noChunk, entriesFault, pairIn}
-use Rattle.blorb.specs.Rules.{plainRules, plainVerdict}
+use Rattle.blorb.specs.Verdict.{Rules, accept, noChunk, entriesFault, pairIn}
+use Rattle.blorb.specs.Rules.{plainVerdict}
 use Rattle.blorb.specs.Model.{Model, base, model}
 use Rattle.blorb.specs.Queries.{find, noRef, refAt, start}
 use Rattle.blorb.specs.Lookup.{missing, here, lookIn, lookup}
@@ -134,24 +134,24 @@ module _ (f : List ℕ) (u n : ℕ) (h : plainVerdict f ≡ accept) where
       go false e = none (absent (ltb-false _ _ e))
 
 -- no pair stands twice, so the first entry with a pair is the only one
-module _ (f : List ℕ) (base : ℕ) (w : walkFrom f base ≡ accept) where
-  new-pair : (es : List Entry) (earlier : List Ref) (p i : ℕ) (d : Entry) → entriesFault plainRules base (chunksFrom f base) earlier p es ≡ accept → i < length es
+module _ (R : Rules) (f : List ℕ) (base : ℕ) (w : walkFrom f base ≡ accept) where
+  new-pair : (es : List Entry) (earlier : List Ref) (p i : ℕ) (d : Entry) → entriesFault R base (chunksFrom f base) earlier p es ≡ accept → i < length es
       → pairIn (getD es i d .usage) (getD es i d .number) earlier ≡ false
   new-pair [] earlier p i d h l = absurd (not-suc-le-zero l)
-  new-pair (e ∷ es) earlier p zero d h l = first-entry f base w e es earlier p h .1
+  new-pair (e ∷ es) earlier p zero d h l = first-entry R f base w e es earlier p h .1
   new-pair (e ∷ es) earlier p (suc i) d h l =
       let r : Ref = refOf base (chunksFrom f base) e in
-      let q = new-pair es (earlier ++ (r ∷ [])) (p + 12) i d (first-entry f base w e es earlier p h .2) (le-of-suc-le-suc l) in
+      let q = new-pair es (earlier ++ (r ∷ [])) (p + 12) i d (first-entry R f base w e es earlier p h .2) (le-of-suc-le-suc l) in
       neither _ _ (sym (pair-snoc (getD es i d .usage) (getD es i d .number) earlier r) ∙ q) .0
 
-  pub only-hit : (es : List Entry) (earlier : List Ref) (p i : ℕ) (d : Entry) → entriesFault plainRules base (chunksFrom f base) earlier p es ≡ accept → i < length es
+  pub only-hit : (es : List Entry) (earlier : List Ref) (p i : ℕ) (d : Entry) → entriesFault R base (chunksFrom f base) earlier p es ≡ accept → i < length es
       → hitIn (getD es i d .usage) (getD es i d .number) es ≡ At (getD es i d .start)
   unfolding hitIn refOf
   only-hit [] earlier p i d h l = absurd (not-suc-le-zero l)
   only-hit (e ∷ es) earlier p zero d h l = rw (eq-eqb (e .usage) (e .usage) refl, eq-eqb (e .number) (e .number) refl)
   only-hit (e ∷ es) earlier p (suc i) d h l =
       let r : Ref = refOf base (chunksFrom f base) e in
-      let a = first-entry f base w e es earlier p h .2 in
+      let a = first-entry R f base w e es earlier p h .2 in
       let q = new-pair es (earlier ++ (r ∷ [])) (p + 12) i d a (le-of-suc-le-suc l) in
       let t : eqb (e .usage) (getD es i d .usage) && eqb (e .number) (getD es i d .number) ≡ false
       = neither (pairIn (getD es i d .usage) (getD es i d .number) earlier) _ (sym (pair-snoc (getD es i d .usage) (getD es i d .number) earlier r) ∙ q) .1 in

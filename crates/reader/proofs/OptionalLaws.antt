@@ -9,14 +9,14 @@ use lib.Dec.{eqb}
 use borrow.Author.Tests.{eq-eqb, ne-eqb, eqb-true}
 use Rattle.blorb.specs.Bytes.{rd32}
 use Rattle.blorb.specs.Format.{Chunk, Ref, refOf, size, chunkIn, entriesIn}
-use Rattle.blorb.specs.Verdict.{Verdict, accept, refuse, _then_, check}
+use Rattle.blorb.specs.Verdict.{Rules, Verdict, accept, refuse, _then_, check, entriesFault}
 use Rattle.blorb.specs.Rules.{picture, optional, chunkRules, chunkRule, single, typeIn}
 use Rattle.blorb.specs.Tags.{Pict, Rect, RelN, Fspc}
 use Rattle.reader.specs.Walk.{chunkFrom, skipAt, chunksFrom, walkFrom}
 use Rattle.reader.specs.Ordinary.{ordinaryType, allOrdinary}
 use Rattle.reader.proofs.ChunkLaws.{ordinary-not, fine, chunks-end}
 use Rattle.blorb.proofs.Checks.{pass, stop, holds-last, fails-last, accepts, refuses, then-accept, check-accept, and-both}
-use Rattle.reader.specs.Entries.{place, earlier, entriesFrom}
+use Rattle.reader.specs.Entries.{place}
 use Rattle.blorb.proofs.UsageLaws.{or-assoc, or-false}
 use Rattle.reader.specs.declared.entries.Hit.the-variants.{At, Nothing}
 use Rattle.reader.specs.Reading.{hitIn}
@@ -41,13 +41,14 @@ rules-flags rs all earlier at (c ∷ cs) =
     ∙ ap (λ (b : Bool). rulesFrom (λ n. picture n all rs) (typeIn RelN earlier || eqb (c .type) RelN) b (at + size c) cs) (type-snoc Fspc earlier c) in
     ap (λ (v : Verdict). chunkRule rs all earlier at c then v) ih
 
-pub optional-is : (f : List ℕ) (count : ℕ) → walkFrom f (place count) ≡ accept → entriesFrom f (place count) 0 count ≡ accept
+pub optional-is : (R : Rules) (f : List ℕ) (count : ℕ) → walkFrom f (place count) ≡ accept
+    → entriesFault R (place count) (chunksFrom f (place count)) [] 24 (entriesIn count (drop 24 f)) ≡ accept
     → optional (place count) (map (refOf (place count) (chunksFrom f (place count))) (entriesIn count (drop 24 f))) (chunksFrom f (place count)) ≡ optionalFault f count
-unfolding optional optionalFault entriesFrom pictured typeIn earlier
-optional-is f count w h =
+unfolding optional optionalFault pictured typeIn
+optional-is R f count w h =
     rules-flags _ _ [] (place count) (chunksFrom f (place count))
     ∙ ap (λ (p : ℕ → Bool). rulesFrom p false false (place count) (chunksFrom f (place count)))
-    (λ i n. picture-hit f (place count) w n (entriesIn count (drop 24 f)) [] 24 h i)
+    (λ i n. picture-hit R f (place count) w n (entriesIn count (drop 24 f)) [] 24 h i)
 
 -- one chunk of rule 7, by facts on its numbers
 module _ (f : List ℕ) (at : ℕ) (h : at < length f) (w : walkFrom f at ≡ accept) where

@@ -13,7 +13,7 @@ use borrow.Author.Tests.{eq-eqb, ne-eqb, eqb-true, eqb-false, lt-ltb, le-ltb}
 use Rattle.blorb.specs.Bytes.{rd32}
 use Rattle.blorb.specs.Format.{Chunk, Entry, Ref, refOf, size, chunkIn, entryIn, entriesIn, isStart, placeOf}
 use Rattle.blorb.specs.Verdict.{Verdict, accept, refuse, noChunk}
-use Rattle.blorb.specs.Rules.{plainRules, plainVerdict, typeIn}
+use Rattle.blorb.specs.Rules.{plainVerdict, typeIn}
 use Rattle.blorb.specs.Tags.{RelN, Fspc}
 use Rattle.blorb.specs.Model.{base, model, startOf}
 use Rattle.blorb.specs.Queries.{find, uses, without, noRef, refAt, shared, start, frontPlace}
@@ -24,7 +24,7 @@ use Rattle.blorb.proofs.Accept.{starts-ok}
 use Rattle.blorb.proofs.Checks.{then-accept, check-accept, and-both}
 use Rattle.reader.specs.Walk.{chunkFrom, skipAt, chunksFrom, walkFrom}
 use Rattle.reader.specs.Ordinary.{ordinaryType, allOrdinary}
-use Rattle.reader.specs.Entries.{startAt, place, entriesFrom, earlier, pairPlace, startAgain}
+use Rattle.reader.specs.Entries.{startAt, place, pairPlace, startAgain}
 use Rattle.reader.specs.Optional.{oneRule, rulesFrom, optionalFault}
 use Rattle.reader.specs.Passed.{Judges, JudgesEntries, Passed, modelAt, Fronts, pickFront, frontFrom}
 use Rattle.reader.specs.Inspecting.{pieceOf, targetBy, targetOf, frontBy, frontOf, factsOf, inspectionOf}
@@ -114,8 +114,7 @@ module _ (at : ℕ) (cs : List Chunk) (x i : ℕ) (s : isStart x at cs ≡ true)
 
 -- the starts of a passed file's entries
 pub starts : (f : List ℕ) (count : ℕ) → Passed f count → All (λ e. isStart (e .start) (place count) (chunksFrom f (place count)) ≡ true) (entriesIn count (drop 24 f))
-unfolding entriesFrom earlier
-starts f count g = starts-ok plainRules (place count) (chunksFrom f (place count)) [] 24 (entriesIn count (drop 24 f)) (g .judged .entries)
+starts f count g = starts-ok (g .judged .rules) (place count) (chunksFrom f (place count)) [] 24 (entriesIn count (drop 24 f)) (g .judged .entries)
 
 -- entry i of a passed file
 module _ (f : List ℕ) (count i : ℕ) (g : Passed f count) (h : i < count) where

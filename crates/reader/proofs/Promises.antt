@@ -23,7 +23,7 @@ use Rattle.blorb.proofs.Accept.{accept-back, entryOf-refOf}
 use Rattle.blorb.proofs.Exactly.{plain-exactly}
 use Rattle.blorb.proofs.ModelLaws.{entries}
 use Rattle.reader.specs.Walk.{chunkFrom, chunksFrom}
-use Rattle.reader.specs.Entries.{usageAt, numberAt, startAt, place, entriesFrom, earlier}
+use Rattle.reader.specs.Entries.{usageAt, numberAt, startAt, place}
 use Rattle.reader.specs.Optional.{EntriesPassed}
 use Rattle.reader.specs.Passed.{modelAt}
 use Rattle.reader.specs.Reading.{indexOf, readOf, noEntry, askedOf, hitIn, lookupOf, partOf}
@@ -104,7 +104,6 @@ unfolding entryIn
 fields f p = λ i. record { usage = usageAt f p; number = rd32 (drop-drop 4 p f i); start = rd32 (drop-drop 8 p f i) }
 
 pub entry-at : (f : List ℕ) (l n i : ℕ) → readOf f ≡ Accepted l n → i < n → EntryAt f i
-unfolding entriesFrom earlier
 entry-at f l n i e h =
     let g = accepted f l n e in
     let j : EntriesPassed f n = g .passed .judged in
@@ -112,8 +111,8 @@ entry-at f l n i e h =
     let k : ℕ = numberAt f (place i) in
     let x : ℕ = startAt f (place i) in
     let listed : getD (indexOf f) i noEntry ≡ record { usage = u; number = k; start = x } = rw (g .index) (entry-getD f n i 24 noEntry h ∙ fields f (place i)) in
-    let es : entriesFault plainRules (place n) (chunksFrom f (place n)) [] 24 (indexOf f) ≡ accept = rw (g .index) (j .entries) in
-    let hit : hitIn u k (indexOf f) ≡ At x = rw listed at (only-hit f (place n) (j .walks) (indexOf f) [] 24 i noEntry es (rw (g .many) h)) in
+    let es : entriesFault (j .rules) (place n) (chunksFrom f (place n)) [] 24 (indexOf f) ≡ accept = rw (g .index) (j .entries) in
+    let hit : hitIn u k (indexOf f) ≡ At x = rw listed at (only-hit (j .rules) f (place n) (j .walks) (indexOf f) [] 24 i noEntry es (rw (g .many) h)) in
     let there : hitIn u k (entriesIn n (drop 24 f)) ≡ At x = rw (g .index) at hit in
     let b = hit-begun f n u k x j there in
     record {
@@ -136,24 +135,23 @@ index-is f h =
 -- entry i of an accepted file is given, with one of the four usages, so 12 is never the answer
 pub entry-given : (f : List ℕ) (i : ℕ) → plainVerdict f ≡ accept → i < length (indexOf f)
     → (x : Usage) × (askedOf f i ≡ Given (record { usage = x; number = getD (indexOf f) i noEntry .number; start = getD (indexOf f) i noEntry .start }))
-unfolding entriesFrom earlier
 entry-given f i h l =
     let g = good f h in
-    let es : entriesFault plainRules (place (rd32 (drop 20 f))) (chunksFrom f (place (rd32 (drop 20 f)))) [] 24 (indexOf f) ≡ accept = rw (g .index) (g .passed .judged .entries) in
-    let k = not-unknown (getD (indexOf f) i noEntry .usage) _ refl (known-at f (place (rd32 (drop 20 f))) (indexOf f) [] 24 i noEntry es l) in
+    let es : entriesFault (g .passed .judged .rules) (place (rd32 (drop 20 f))) (chunksFrom f (place (rd32 (drop 20 f)))) [] 24 (indexOf f) ≡ accept = rw (g .index) (g .passed .judged .entries) in
+    let k = not-unknown (getD (indexOf f) i noEntry .usage) _ refl (known-at (g .passed .judged .rules) f (place (rd32 (drop 20 f))) (indexOf f) [] 24 i noEntry es l) in
     (k .0, given-as f i h l (k .0) (k .1))
 
 -- an entry of the index with the pair (u, n) and the start x: the lookup gives the chunk at x, and the part is that chunk's data
 pub lookup-found : (f : List ℕ) (u n i x : ℕ) → plainVerdict f ≡ accept → i < length (indexOf f) → getD (indexOf f) i noEntry ≡ record { usage = u; number = n; start = x }
     → (lookupOf f u n ≡ Found (chunkFrom f x .type) (x + 8) (length (chunkFrom f x .body))) × (partOf (lookupOf f u n) f ≡ chunkFrom f x .body)
-unfolding lookupOf entriesFrom earlier
+unfolding lookupOf
 lookup-found f u n i x h l e =
     let g = good f h in
     let count : ℕ = rd32 (drop 20 f) in
     let j : EntriesPassed f count = g .passed .judged in
-    let es : entriesFault plainRules (place count) (chunksFrom f (place count)) [] 24 (indexOf f) ≡ accept = rw (g .index) (j .entries) in
-    let a : hitIn u n (indexOf f) ≡ At x = rw e at (only-hit f (place count) (j .walks) (indexOf f) [] 24 i noEntry es l) in
-    let b = begun f x (place count) (j .walks) (hit-start f (place count) (j .walks) u n x (indexOf f) [] 24 es a) in
+    let es : entriesFault (j .rules) (place count) (chunksFrom f (place count)) [] 24 (indexOf f) ≡ accept = rw (g .index) (j .entries) in
+    let a : hitIn u n (indexOf f) ≡ At x = rw e at (only-hit (j .rules) f (place count) (j .walks) (indexOf f) [] 24 i noEntry es l) in
+    let b = begun f x (place count) (j .walks) (hit-start (j .rules) f (place count) (j .walks) u n x (indexOf f) [] 24 es a) in
     let found : lookupOf f u n ≡ Found (chunkFrom f x .type) (x + 8) (length (chunkFrom f x .body)) = rw (h, a) in
     (found, ap (λ (r : Looked). partOf r f) found ∙ body-at f x (length (chunkFrom f x .body)) (fine f x (b .below) (b .walks) .bodied))
 

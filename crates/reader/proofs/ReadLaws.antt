@@ -108,13 +108,15 @@ module _ (f : List ℕ) where
 
             module _ (h6 : entriesFrom f (place count) 0 count ≡ accept) where
               v6 : plainVerdict f ≡ optionalFault f count
-              v6 = v5 ∙ accepts _ _ h6 ∙ optional-is f count (is-shaped .walks) h6
+              unfolding entriesFrom earlier
+              v6 = v5 ∙ accepts _ _ h6 ∙ optional-is plainRules f count (is-shaped .walks) h6
 
               pub read-7 : (k p : ℕ) → optionalFault f count ≡ refuse k p → Refused k p ≡ readOf f
               read-7 k p e = refused k p (v6 ∙ e)
 
               pub is-judged : EntriesPassed f count
-              is-judged = record { few = is-shaped .few; room = is-shaped .room; walks = is-shaped .walks; entries = h6 }
+              unfolding entriesFrom earlier
+              is-judged = record { few = is-shaped .few; room = is-shaped .room; walks = is-shaped .walks; rules = plainRules; entries = h6 }
 
               pub index-of : indexOf f ≡ entriesIn count (drop 24 f)
               unfolding indexOf

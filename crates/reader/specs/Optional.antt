@@ -7,10 +7,10 @@ use lib.ListN.{length, drop}
 use lib.Dec.{eqb}
 use Rattle.blorb.specs.Bytes.{rd32}
 use Rattle.blorb.specs.Format.{Chunk, size, entriesIn}
-use Rattle.blorb.specs.Verdict.{Verdict, accept, _then_, check}
+use Rattle.blorb.specs.Verdict.{Rules, Verdict, accept, _then_, check, entriesFault}
 use Rattle.blorb.specs.Tags.{Pict, Rect, RelN, Fspc}
 use Rattle.reader.specs.Walk.{chunksFrom, walkFrom}
-use Rattle.reader.specs.Entries.{place, entriesFrom}
+use Rattle.reader.specs.Entries.{place}
 use Rattle.reader.specs.declared.entries.Hit.{Hit}
 use Rattle.reader.specs.declared.entries.Hit.the-variants.{At, Nothing}
 use Rattle.reader.specs.Reading.{hitIn}
@@ -47,4 +47,6 @@ pub record EntriesPassed (f : List ℕ) (count : ℕ) : Type 0 where
   pub few : count ≤ 4096
   pub room : place count ≤ length f
   pub walks : walkFrom f (place count) ≡ accept
-  pub entries : entriesFrom f (place count) 0 count ≡ accept
+  -- under some rules; which matters no more
+  pub rules : Rules
+  pub entries : entriesFault rules (place count) (chunksFrom f (place count)) [] 24 (entriesIn count (drop 24 f)) ≡ accept

@@ -8,7 +8,7 @@ use Rattle.blorb.specs.Bytes.{be32, rd32}
 use Rattle.blorb.specs.Tags.{FORM, IFRS, Pict, Data, Rect, TEXT, BINA}
 use Rattle.blorb.specs.declared.Usage.the-variants as usage
 use Rattle.blorb.specs.All.{All}
-use Rattle.edits.specs.Edit.{add, replace, remove, with-at, lower, raise, added, replaced, removedBoth, removedEntry, removed, givenChunk, edited}
+use Rattle.edits.specs.Edit.{add, replace, remove, with-at, lower, raise, added, replaced, removedBoth, removedEntry, removed, givenChunk, edited, entered, inserted}
 use Rattle.edits.specs.Blank.{blanked, blankFile}
 use Rattle.blorb.specs.Verdict.{accept, refuse, _then_, check, headFault, chunkFault, walkFault, secondIndex, indexFault, pairIn, refFault, entriesFault, restFault, layoutFault, verdict}
 use Rattle.edits.specs.Run.{edit, undo, targetFault, editedFile, editRecord, undoneFile, editFault, undoFault, written, noted, afterEdit, afterUndo, after, fault, step, run, answers}
@@ -27,7 +27,7 @@ use Rattle.reader.specs.Reading.{indexOf, readOf, askedOf, hitIn, lookupOf}
 
 -- opens every definition that a row computes with: a definition opens what its own line names
 computed : ℕ
-unfolding be32 rd32 sized size chunkBytes chunksBytes total fileBytes chunkIn chunksIn chunksOf entryIn entriesIn entryBytes entriesBytes indexChunk entriesOf isStart placeOf refOf _then_ check headFault chunkFault walkFault secondIndex indexFault pairIn refFault entriesFault restFault layoutFault verdict oneOf plainAllows picture typeIn single chunkRule chunkRules optional plainVerdict base startOf entryOf file modelOf model without find uses shared start frontPlace usageOf with-at lower raise added replaced removedBoth removedEntry removed givenChunk edited recBody recBytes removal recOf trailer recIn lastBody lastRec zeros wellFormed fits1 fits2 fits3 fits4 fits undo1 undo2 undo3 undo4 undone targetFault editedFile editRecord undoneFile editFault undoFault indexOf readOf askedOf hitIn lookupOf written noted afterEdit afterUndo after fault step run answers blanked blankFile
+unfolding be32 rd32 sized size chunkBytes chunksBytes total fileBytes chunkIn chunksIn chunksOf entryIn entriesIn entryBytes entriesBytes indexChunk entriesOf isStart placeOf refOf _then_ check headFault chunkFault walkFault secondIndex indexFault pairIn refFault entriesFault restFault layoutFault verdict oneOf plainAllows picture typeIn single chunkRule chunkRules optional plainVerdict base startOf entryOf file modelOf model without find uses shared start frontPlace usageOf with-at lower raise entered inserted added replaced removedBoth removedEntry removed givenChunk edited recBody recBytes removal recOf trailer recIn lastBody lastRec zeros wellFormed fits1 fits2 fits3 fits4 fits undo1 undo2 undo3 undo4 undone targetFault editedFile editRecord undoneFile editFault undoFault indexOf readOf askedOf hitIn lookupOf written noted afterEdit afterUndo after fault step run answers blanked blankFile
 computed = 0
 
 unfoldable pub table : List Row

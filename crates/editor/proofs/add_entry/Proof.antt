@@ -6,9 +6,9 @@ use Rattle.blorb.specs.Bytes.{Byte}
 use Rattle.blorb.proofs.Accept.{bytes-all}
 use Rattle.blorb.specs.All.{All}
 use Rattle.blorb.proofs.AllLaws.{all-take}
-use Rattle.edits.specs.Edit.{add}
-use Rattle.edits.specs.Run.{edit, fault, after, afterEdit}
-use Rattle.editor.specs.Called.{state}
+use Rattle.edits.specs.Edit.{add, edited, givenChunk}
+use Rattle.edits.specs.Run.{edit, fault, after, afterEdit, editedFile}
+use Rattle.edits.specs.Run.{state}
 use Prim.Native.Nat.{ℕ, _+_}
 use Rattle.editor.proofs.AddCall.{ready, record-written}
 use Rattle.editor.proofs.CallLaws.{plan-no, gave-refused, gave-done}
@@ -114,7 +114,7 @@ same-length-3 c = search needs
 
 -- src/lib.rt:115:1
 returns-2 : tie.Need-returns-2
-unfolding fault after afterEdit
+unfolding fault after afterEdit editedFile edited givenChunk
 returns-2 c =
     let a = c .before .before .before .before .before .before .before .before .before .before .before .before .before .before .before .before .before .before .args in
     let b = now (a .buf) in

@@ -4,7 +4,7 @@ use lib.Seq.{length-take-le}
 use denote.Ref.{now}
 use Rattle.blorb.specs.Rules.{plainVerdict}
 use Rattle.blorb.specs.Model.{model}
-use Rattle.editor.proofs.OpenLaws.{opened-first, opened-second, opened-third}
+use Rattle.judging.proofs.OpenLaws.{opened-first, opened-second, opened-third}
 use borrow.Author.Needs.{needs}
 use Rattle.editor.proofs.opened.Statement.{statement}
 use Rattle.editor.proofs.opened.Tie as tie

@@ -8,7 +8,7 @@ use Rattle.blorb.specs.All.{All}
 use Rattle.blorb.proofs.AllLaws.{all-take}
 use Rattle.edits.specs.Edit.{replace}
 use Rattle.edits.specs.Run.{edit, fault}
-use Rattle.editor.specs.Called.{state}
+use Rattle.edits.specs.Run.{state}
 use Rattle.editor.proofs.RemoveCall.{body-short}
 use Rattle.editor.proofs.ReplaceCall.{ready, change-no, inside, length-now, replaceable, part-in, used-room, record-room, made}
 use Rattle.editor.proofs.CallLaws.{gave-refused}

@@ -11,8 +11,8 @@ use Rattle.editor.proofs.undo.Statement.{statement}
 use Rattle.editor.proofs.undo.Tie as tie
 use Rattle.editor.proofs.undo.Reads as reads
 use Rattle.editor.proofs.undo.Lts as lts
-use Rattle.editor.proofs.undoing.undo_plan.Reads as undo-plan-reads
-use Rattle.editor.proofs.undoing.write_back.Reads as write-back-reads
+use Rattle.judging.proofs.undoing.undo_plan.Reads as undo-plan-reads
+use Rattle.editor.proofs.write_back.Reads as write-back-reads
 
 -- src/lib.rt:276:11
 undo-plan-requires : tie.Need-undo-plan-requires

@@ -1,5 +1,5 @@
 use mathlib.Core.Path.{ap, _∙_}
-use Rattle.editor.specs.Called.{verdictOf}
+use Rattle.judging.specs.Outcomes.{verdictOf}
 use Rattle.editor.proofs.CallLaws.{room-judged, room-24, room-25, room-fine}
 use borrow.Author.Needs.{needs}
 use Rattle.editor.proofs.with_room.Statement.{statement}

@@ -1,0 +1,177 @@
+use native.Mathlib.Omega.{arith}
+use mathlib.Core.Path.{ap, _∙_}
+use mathlib.Core.List.{List}
+use Prim.Native.Nat.{ℕ}
+use denote.Ref.{now}
+use Rattle.blorb.specs.Bytes.{Byte}
+use Rattle.blorb.proofs.Accept.{bytes-all}
+use Rattle.blorb.specs.All.{All}
+use Rattle.edits.specs.Run.{written}
+use Rattle.editor.proofs.UndoBack.{ready, back-added, written-added, back-replaced, written-replaced, back-removed, written-removed, back-unlisted, written-unlisted, kind-3-left}
+use borrow.Author.Needs.{needs}
+use Rattle.editor.proofs.write_back.Statement.{statement}
+use Rattle.editor.proofs.write_back.Tie as tie
+use Rattle.editor.proofs.write_back.Reads as reads
+use Rattle.editor.proofs.write_back.Lts as lts
+use Rattle.rewrite.proofs.insert_bytes.Reads as insert-bytes-reads
+use Rattle.rewrite.proofs.insert_entry.Reads as insert-entry-reads
+use Rattle.rewrite.proofs.remove_bytes.Reads as remove-bytes-reads
+use Rattle.rewrite.proofs.replace_bytes.Reads as replace-bytes-reads
+
+-- src/undoing.rt:310:17
+cast-place : tie.Need-cast-place
+cast-place c = search needs
+
+-- src/undoing.rt:312:9
+remove-bytes-requires : tie.Need-remove-bytes-requires
+remove-bytes-requires c κs =
+    let a = c .before .before .before .before .before .args in
+    let b = now (a .buf) in
+    let bb : All Byte b = bytes-all b (λ i. omega (arith, c .before .before .before .before .slice-known .given i)) in
+    let w = ready b (a .len) (now (a .jrn)) (a .used) (a .count) (a .at) (a .size) _ (a .r) bb (c .before .before .before .before .before .pre) in
+    back-added b (a .len) (now (a .jrn)) (a .used) (a .count) (a .at) (a .size) _ (a .r) bb w (c .before .if1 .taken)
+
+-- src/undoing.rt:313:9
+same-length : tie.Need-same-length
+same-length c = search needs
+
+-- src/undoing.rt:313:9
+returns : tie.Need-returns
+returns c =
+    let a = c .before .before .before .before .before .before .before .before .args in
+    let b = now (a .buf) in
+    let bb : All Byte b = bytes-all b (λ i. omega (arith, c .before .before .before .before .before .before .before .slice-known .given i)) in
+    let w = ready b (a .len) (now (a .jrn)) (a .used) (a .count) (a .at) (a .size) _ (a .r) bb (c .before .before .before .before .before .before .before .before .pre) in
+    c .before .before .remove-bytes .ensures ∙ ap (λ (z : List ℕ). written b (a .len) z) (written-added b (a .len) (now (a .jrn)) (a .used) (a .count) (a .at) (a .size) _ (a .r) bb w (c .before .before .before .before .if1 .taken))
+
+-- src/undoing.rt:316:9
+insert-entry-requires : tie.Need-insert-entry-requires
+insert-entry-requires c κs =
+    let a = c .before .before .before .before .before .before .args in
+    let b = now (a .buf) in
+    let bb : All Byte b = bytes-all b (λ i. omega (arith, c .before .before .before .before .before .slice-known .given i)) in
+    let bj : All Byte (now (a .jrn)) = bytes-all (now (a .jrn)) (λ i. omega (arith, c .before .before .before .before .shared-slice-known .given i)) in
+    let w = ready b (a .len) (now (a .jrn)) (a .used) (a .count) (a .at) (a .size) _ (a .r) bb (c .before .before .before .before .before .before .pre) in
+    back-unlisted b (a .len) (now (a .jrn)) (a .used) (a .count) (a .at) (a .size) _ (a .r) bb w (c .before .if2 .taken) bj
+
+-- src/undoing.rt:317:9
+same-length-2 : tie.Need-same-length-2
+same-length-2 c = search needs
+
+-- src/undoing.rt:317:9
+returns-2 : tie.Need-returns-2
+returns-2 c =
+    let a = c .before .before .before .before .before .before .before .before .before .args in
+    let b = now (a .buf) in
+    let bb : All Byte b = bytes-all b (λ i. omega (arith, c .before .before .before .before .before .before .before .before .slice-known .given i)) in
+    let w = ready b (a .len) (now (a .jrn)) (a .used) (a .count) (a .at) (a .size) _ (a .r) bb (c .before .before .before .before .before .before .before .before .before .pre) in
+    c .before .before .insert-entry .ensures ∙ ap (λ (z : List ℕ). written b (a .len) z) (written-unlisted b (a .len) (now (a .jrn)) (a .used) (a .count) (a .at) (a .size) _ (a .r) bb w (c .before .before .before .before .if2 .taken))
+
+-- src/undoing.rt:319:15
+sub-end : tie.Need-sub-end
+sub-end c =
+    let a = c .before .before .before .before .before .args in
+    let b = now (a .buf) in
+    let bb : All Byte b = bytes-all b (λ i. omega (arith, c .before .before .before .before .slice-known .given i)) in
+    let w = ready b (a .len) (now (a .jrn)) (a .used) (a .count) (a .at) (a .size) _ (a .r) bb (c .before .before .before .before .before .pre) in
+    omega (arith, w .ends .room)
+
+-- src/undoing.rt:320:22
+cast-from : tie.Need-cast-from
+cast-from c = search needs
+
+-- src/undoing.rt:320:16
+sub-from : tie.Need-sub-from
+sub-from c =
+    let a = c .before .before .before .before .before .before .args in
+    let b = now (a .buf) in
+    let bb : All Byte b = bytes-all b (λ i. omega (arith, c .before .before .before .before .before .slice-known .given i)) in
+    let w = ready b (a .len) (now (a .jrn)) (a .used) (a .count) (a .at) (a .size) _ (a .r) bb (c .before .before .before .before .before .before .pre) in
+    omega (arith, w .ends .room)
+
+-- src/undoing.rt:321:13
+sub-d : tie.Need-sub-d
+sub-d c = search needs
+
+-- src/undoing.rt:321:13
+part-d-start : tie.Need-part-d-start
+part-d-start c = search needs
+
+-- src/undoing.rt:321:13
+part-d-end : tie.Need-part-d-end
+part-d-end c =
+    let a = c .before .before .before .before .before .before .args in
+    let b = now (a .buf) in
+    let bb : All Byte b = bytes-all b (λ i. omega (arith, c .before .before .before .before .before .slice-known .given i)) in
+    let w = ready b (a .len) (now (a .jrn)) (a .used) (a .count) (a .at) (a .size) _ (a .r) bb (c .before .before .before .before .before .before .pre) in
+    omega (arith, w .within)
+
+-- src/undoing.rt:323:9
+replace-bytes-requires : tie.Need-replace-bytes-requires
+replace-bytes-requires c κs =
+    let a = c .before .before .before .before .before .before .before .before .before .args in
+    let b = now (a .buf) in
+    let bb : All Byte b = bytes-all b (λ i. omega (arith, c .before .before .before .before .before .before .before .before .slice-known .given i)) in
+    let bj : All Byte (now (a .jrn)) = bytes-all (now (a .jrn)) (λ i. omega (arith, c .before .before .before .before .before .before .before .shared-slice-known .given i)) in
+    let w = ready b (a .len) (now (a .jrn)) (a .used) (a .count) (a .at) (a .size) _ (a .r) bb (c .before .before .before .before .before .before .before .before .before .pre) in
+    back-replaced b (a .len) (now (a .jrn)) (a .used) (a .count) (a .at) (a .size) _ (a .r) bb w bj (c .before .if3 .taken)
+
+-- src/undoing.rt:324:9
+same-length-3 : tie.Need-same-length-3
+same-length-3 c = search needs
+
+-- src/undoing.rt:324:9
+returns-3 : tie.Need-returns-3
+returns-3 c =
+    let a = c .before .before .before .before .before .before .before .before .before .before .before .before .args in
+    let b = now (a .buf) in
+    let bb : All Byte b = bytes-all b (λ i. omega (arith, c .before .before .before .before .before .before .before .before .before .before .before .slice-known .given i)) in
+    let w = ready b (a .len) (now (a .jrn)) (a .used) (a .count) (a .at) (a .size) _ (a .r) bb (c .before .before .before .before .before .before .before .before .before .before .before .before .pre) in
+    c .before .before .replace-bytes .ensures ∙ ap (λ (z : List ℕ). written b (a .len) z) (written-replaced b (a .len) (now (a .jrn)) (a .used) (a .count) (a .at) (a .size) _ (a .r) bb w (c .before .before .before .before .if3 .taken))
+
+-- src/undoing.rt:326:5
+insert-bytes-requires : tie.Need-insert-bytes-requires
+insert-bytes-requires c κs =
+    let a = c .before .before .before .before .before .before .before .before .before .args in
+    let b = now (a .buf) in
+    let bb : All Byte b = bytes-all b (λ i. omega (arith, c .before .before .before .before .before .before .before .before .slice-known .given i)) in
+    let bj : All Byte (now (a .jrn)) = bytes-all (now (a .jrn)) (λ i. omega (arith, c .before .before .before .before .before .before .before .shared-slice-known .given i)) in
+    let w = ready b (a .len) (now (a .jrn)) (a .used) (a .count) (a .at) (a .size) _ (a .r) bb (c .before .before .before .before .before .before .before .before .before .pre) in
+    back-removed b (a .len) (now (a .jrn)) (a .used) (a .count) (a .at) (a .size) _ (a .r) bb w (kind-3-left b (a .len) (now (a .jrn)) (a .used) (a .count) (a .at) (a .size) _ (a .r) bb w (c .before .before .before .before .before .if1 .left) (c .before .before .before .before .if2 .left) (c .before .if3 .left)) bj
+
+-- src/undoing.rt:305:1
+same-length-4 : tie.Need-same-length-4
+same-length-4 c = search needs
+
+-- src/undoing.rt:305:1
+returns-4 : tie.Need-returns-4
+returns-4 c =
+    let a = c .before .before .before .before .before .before .before .before .before .before .before .before .args in
+    let b = now (a .buf) in
+    let bb : All Byte b = bytes-all b (λ i. omega (arith, c .before .before .before .before .before .before .before .before .before .before .before .slice-known .given i)) in
+    let w = ready b (a .len) (now (a .jrn)) (a .used) (a .count) (a .at) (a .size) _ (a .r) bb (c .before .before .before .before .before .before .before .before .before .before .before .before .pre) in
+    c .before .before .insert-bytes .ensures ∙ ap (λ (z : List ℕ). written b (a .len) z) (written-removed b (a .len) (now (a .jrn)) (a .used) (a .count) (a .at) (a .size) _ (a .r) bb w (kind-3-left b (a .len) (now (a .jrn)) (a .used) (a .count) (a .at) (a .size) _ (a .r) bb w (c .before .before .before .before .before .before .before .before .if1 .left) (c .before .before .before .before .before .before .before .if2 .left) (c .before .before .before .before .if3 .left)))
+
+pub write-back-spec : {M : Type 1} → statement M
+write-back-spec =
+    tie.close
+    (tie.spec
+    cast-place
+    remove-bytes-requires
+    same-length
+    returns
+    insert-entry-requires
+    same-length-2
+    returns-2
+    sub-end
+    cast-from
+    sub-from
+    sub-d
+    part-d-start
+    part-d-end
+    replace-bytes-requires
+    same-length-3
+    returns-3
+    insert-bytes-requires
+    same-length-4
+    returns-4)

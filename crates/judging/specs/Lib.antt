@@ -1,0 +1,4 @@
+pub mod Outcomes
+pub mod Told
+pub mod LastRecord
+pub mod UndoPlan

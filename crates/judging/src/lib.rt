@@ -1,0 +1,9 @@
+// What is refused, told from the present file without making the new one.
+pub mod journal;
+pub mod judge;
+pub mod undoing;
+
+pub enum Outcome {
+    Done,
+    Refused { number: u64, place: usize },
+}

@@ -1,0 +1,33 @@
+use mathlib.Core.Path.{ap, _∙_}
+use denote.Ref.{now}
+use Rattle.edits.specs.Run.{noted}
+use Rattle.moves.specs.Moves.{low4}
+use Rattle.moves.proofs.MoveLaws.{low-turned}
+use borrow.Author.Needs.{needs}
+use Rattle.moves.proofs.put32.Statement.{statement}
+use Rattle.moves.proofs.put32.Tie as tie
+use Rattle.moves.proofs.put32.Reads as reads
+use Rattle.moves.proofs.put32.Lts as lts
+use Rattle.moves.proofs.put_low.Reads as put-low-reads
+use Rattle.moves.proofs.turn.Reads as turn-reads
+
+-- src/moves.rt:53:22
+turn-requires : tie.Need-turn-requires
+turn-requires c κs = search needs
+
+-- src/moves.rt:53:5
+put-low-requires : tie.Need-put-low-requires
+put-low-requires c κs = search needs
+
+-- src/moves.rt:49:1
+same-length : tie.Need-same-length
+same-length c = search needs
+
+-- src/moves.rt:49:1
+returns : tie.Need-returns
+returns c =
+    let a = c .before .before .before .before .before .before .args in
+    c .before .before .put-low .ensures ∙ ap (noted (now (a .buf)) (a .at)) (ap low4 (c .before .before .before .turn .ensures) ∙ low-turned (a .v))
+
+pub put32-spec : {M : Type 1} → statement M
+put32-spec = tie.close (tie.spec turn-requires put-low-requires same-length returns)

@@ -1,0 +1,90 @@
+use native.Mathlib.Omega.{arith}
+use Prim.Native.Nat.{suc, _+_}
+use mathlib.Core.Path.{_≡_, _∙_}
+use mathlib.Core.List.{append-assoc}
+use lib.ListN.{length-set, take, drop}
+use lib.Seq.{sets-eq}
+use denote.Ref.{now}
+use Rattle.edits.specs.Run.{noted}
+use Rattle.moves.specs.Moves.{low4}
+use borrow.Author.Needs.{needs}
+use Rattle.moves.proofs.put_low.Statement.{statement}
+use Rattle.moves.proofs.put_low.Tie as tie
+use Rattle.moves.proofs.put_low.Reads as reads
+use Rattle.moves.proofs.put_low.Lts as lts
+
+-- src/moves.rt:35:15
+cast-buf : tie.Need-cast-buf
+cast-buf c = search needs
+
+-- src/moves.rt:35:5
+slice-write-buf : tie.Need-slice-write-buf
+slice-write-buf c = search needs
+
+-- src/moves.rt:36:19
+cast-buf-2 : tie.Need-cast-buf-2
+cast-buf-2 c = search needs
+
+-- src/moves.rt:36:9
+add-buf : tie.Need-add-buf
+add-buf c = search needs
+
+-- src/moves.rt:36:5
+slice-write-buf-2 : tie.Need-slice-write-buf-2
+slice-write-buf-2 c = simp length-set (omega arith)
+
+-- src/moves.rt:37:19
+cast-buf-3 : tie.Need-cast-buf-3
+cast-buf-3 c = search needs
+
+-- src/moves.rt:37:9
+add-buf-2 : tie.Need-add-buf-2
+add-buf-2 c = search needs
+
+-- src/moves.rt:37:5
+slice-write-buf-3 : tie.Need-slice-write-buf-3
+slice-write-buf-3 c = simp length-set (omega arith)
+
+-- src/moves.rt:38:19
+cast-buf-4 : tie.Need-cast-buf-4
+cast-buf-4 c = search needs
+
+-- src/moves.rt:38:9
+add-buf-3 : tie.Need-add-buf-3
+add-buf-3 c = search needs
+
+-- src/moves.rt:38:5
+slice-write-buf-4 : tie.Need-slice-write-buf-4
+slice-write-buf-4 c = simp length-set (omega arith)
+
+-- src/moves.rt:31:1
+same-length : tie.Need-same-length
+same-length c = search needs
+
+-- src/moves.rt:31:1
+returns : tie.Need-returns
+unfolding low4 noted
+returns c =
+    let a = c .args in
+    let p : a .at + 1 ≡ suc (a .at) = omega arith in
+    let q : a .at + 2 ≡ suc (suc (a .at)) = omega arith in
+    let r : a .at + 3 ≡ suc (suc (suc (a .at))) = omega arith in
+    rw (p, q, r) (sets-eq (low4 (a .v)) (now (a .buf)) (a .at) (c .pre) ∙ append-assoc (take (a .at) (now (a .buf))) (low4 (a .v)) (drop (a .at + 4) (now (a .buf))))
+
+pub put-low-spec : {M : Type 1} → statement M
+put-low-spec =
+    tie.close
+    (tie.spec
+    cast-buf
+    slice-write-buf
+    cast-buf-2
+    add-buf
+    slice-write-buf-2
+    cast-buf-3
+    add-buf-2
+    slice-write-buf-3
+    cast-buf-4
+    add-buf-3
+    slice-write-buf-4
+    same-length
+    returns)

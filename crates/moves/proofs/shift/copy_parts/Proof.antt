@@ -1,0 +1,109 @@
+use Prim.Native.Nat.{ℕ, _+_, _-_, _≤_, _<_}
+use mathlib.Core.Path.{_≡_, refl, ap, _∙_}
+use native.Mathlib.Omega.{arith}
+use borrow.Author.Needs.{needs}
+use lib.ListN.{length}
+use lib.Seq.{paste, paste-zero}
+use denote.Ref.{now}
+use Rattle.moves.proofs.ShiftLaws as laws
+use Rattle.moves.proofs.shift.copy_parts.Statement.{statement}
+use Rattle.moves.proofs.shift.copy_parts.Tie as tie
+use Rattle.moves.proofs.shift.copy_parts.Reads as reads
+use Rattle.moves.proofs.shift.copy_parts.Lts as lts
+use Rattle.moves.proofs.shift.copy_part.Reads as copy-part-reads
+use Rattle.moves.proofs.shift.part_of.Reads as part-of-reads
+
+abbrev Inv-loop : tie.InvT-loop
+Inv-loop buf₀ at d i₀ buf i = (i ≤ length d) × (length buf ≡ length buf₀) × (buf ≡ paste buf₀ at d i)
+
+abbrev μ-loop : tie.MeasureT-loop
+μ-loop buf₀ at d i₀ buf i = length d - i
+
+-- src/shift.rt:83:5
+loop-holds : tie.Need-loop-holds Inv-loop μ-loop
+loop-holds c =
+    let a = c .before .before .args in
+    (omega arith, refl, paste-zero (now (a .buf)) (a .at) (now (a .d)))
+
+-- src/shift.rt:84:25
+sub-part-of : tie.Need-sub-part-of Inv-loop μ-loop
+sub-part-of c = search needs
+
+-- src/shift.rt:84:13
+part-of-requires : tie.Need-part-of-requires Inv-loop μ-loop
+part-of-requires c κs = search needs
+
+-- src/shift.rt:85:24
+add-copy-part : tie.Need-add-copy-part Inv-loop μ-loop
+add-copy-part c = search needs
+
+-- src/shift.rt:85:38
+add-copy-part-2 : tie.Need-add-copy-part-2 Inv-loop μ-loop
+add-copy-part-2 c = search needs
+
+-- src/shift.rt:85:32
+sub-copy-part : tie.Need-sub-copy-part Inv-loop μ-loop
+sub-copy-part c = search needs
+
+-- src/shift.rt:85:32
+part-copy-part-start : tie.Need-part-copy-part-start Inv-loop μ-loop
+part-copy-part-start c = search needs
+
+-- src/shift.rt:85:32
+part-copy-part-end : tie.Need-part-copy-part-end Inv-loop μ-loop
+part-copy-part-end c = search needs
+
+-- src/shift.rt:85:9
+copy-part-requires : tie.Need-copy-part-requires Inv-loop μ-loop
+copy-part-requires c κs = search needs
+
+-- src/shift.rt:86:9
+add-i : tie.Need-add-i Inv-loop μ-loop
+add-i c = search needs
+
+-- src/shift.rt:83:5
+loop-less : tie.Need-loop-less Inv-loop μ-loop
+loop-less c =
+    let more : 0 < c .before .before .before .before .before .part-of .result = c .before .before .before .before .before .part-of .ensures .1 .1 (omega arith) in
+    omega arith
+
+-- src/shift.rt:83:5
+loop-again : tie.Need-loop-again Inv-loop μ-loop
+loop-again c =
+    let l = c .before .before .before .before .before .before .before .loop in
+    let a = c .before .before .before .before .before .before .before .before .before .before .args in
+    let n = c .before .before .before .before .before .part-of .result in
+    (omega arith, search needs, laws.copy-part (now (a .buf)) (now (a .d)) (l .buf) (c .before .before .copy-part .last .0) (a .at) (l .i) (l .i + n - l .i) n (c .before .before .copy-part .ensures) (l .inv .2) (omega arith) (c .before .before .before .before .before .before .before .before .before .before .pre) (omega arith))
+
+-- src/shift.rt:78:1
+same-length : tie.Need-same-length Inv-loop μ-loop
+same-length c = search needs
+
+-- src/shift.rt:78:1
+returns : tie.Need-returns Inv-loop μ-loop
+returns c =
+    let l = c .before .loop in
+    let a = c .before .before .before .before .args in
+    let e : l .i ≡ length (now (a .d)) = omega arith in
+    l .inv .2 ∙ ap (λ (j : ℕ). paste (now (a .buf)) (a .at) (now (a .d)) j) e
+
+pub copy-parts-spec : {M : Type 1} → statement M
+copy-parts-spec =
+    tie.close
+    (tie.spec
+    Inv-loop
+    μ-loop
+    loop-holds
+    sub-part-of
+    part-of-requires
+    add-copy-part
+    add-copy-part-2
+    sub-copy-part
+    part-copy-part-start
+    part-copy-part-end
+    copy-part-requires
+    add-i
+    loop-less
+    loop-again
+    same-length
+    returns)
