@@ -63,8 +63,8 @@ enum {
 #define BLORB_EXEC BLORB_TAG('E', 'x', 'e', 'c')
 
 /*
- * Refusals. A file's reasons are looked for in the order of the numbers, but 6 and 7 chunk by chunk, 12 to 16 entry by entry, and 17
- * to 19 chunk by chunk again: the first faulty chunk or entry decides.
+ * Refusals. Those of the file are looked for in the order in which they stand here, but 6, 28, 29 and 7 chunk by
+ * chunk, 12 to 16 entry by entry, and 17 to 19 chunk by chunk again: the first faulty chunk or entry decides.
  */
 enum {
     BLORB_DONE = 0,
@@ -75,7 +75,9 @@ enum {
     BLORB_NO_FORM = 3,          /* no 'FORM'; place 0 */
     BLORB_NO_IFRS = 4,          /* no 'IFRS'; place 8 */
     BLORB_FORM_LENGTH = 5,      /* the FORM length is not the file's length less 8; place 4 */
-    BLORB_CHUNK_CUT = 6,        /* a chunk's header, data or padding runs past the end; place: the chunk */
+    BLORB_CHUNK_CUT = 6,        /* the file ends within a chunk's header of 8 bytes; place: the chunk */
+    BLORB_CHUNK_LENGTH = 28,    /* a chunk's length runs past the end; place: the length field, the chunk's start + 4 */
+    BLORB_NO_PADDING = 29,      /* the file ends where the padding byte of an odd chunk should be; place: the file's end */
     BLORB_PADDING = 7,          /* a padding byte is not zero; place: that byte */
     BLORB_NO_INDEX = 8,         /* no chunk, or the first is not 'RIdx'; place 12 */
     BLORB_SECOND_INDEX = 9,     /* a second 'RIdx'; place: its start */
@@ -121,7 +123,7 @@ typedef struct blorb_read_answer {
     uint64_t count;  /* entries in its index */
 } blorb_read_answer;
 
-/* Is this an accepted file, and how many entries has it? Refusals 1 to 19. */
+/* Is this an accepted file, and how many entries has it? The file's refusals. */
 blorb_read_answer blorb_read(const uint8_t *file, size_t size);
 
 /* Of a refused call: usage, number and start 0. */
@@ -133,7 +135,7 @@ typedef struct blorb_entry_answer {
     uint64_t start;  /* where its chunk begins */
 } blorb_entry_answer;
 
-/* Entry i of the index, counted from 0. Refusals 1 to 19, then 22 where i is not below the count. */
+/* Entry i of the index, counted from 0. The file's refusals, then 22 where i is not below the count. */
 blorb_entry_answer blorb_entry(const uint8_t *file, size_t size, size_t i);
 
 /* Of a refused call: type, start and length 0. */
@@ -145,7 +147,7 @@ typedef struct blorb_lookup_answer {
     uint64_t length; /* the data's bytes, without header and padding */
 } blorb_lookup_answer;
 
-/* The resource with this usage and number. Refusals 1 to 19, then 22 exactly where the index has no such entry. */
+/* The resource with this usage and number. The file's refusals, then 22 exactly where the index has no such entry. */
 blorb_lookup_answer blorb_lookup(const uint8_t *file, size_t size, const char usage[4], uint32_t number);
 
 /*
@@ -170,7 +172,7 @@ blorb_edit_answer blorb_blank(uint8_t *file, size_t size);
 /*
  * Add a resource: an entry at the end of the index, a chunk at the end of the file. It takes 20 bytes and the data, rounded up
  * to even, in the file, and BLORB_RECORD_SIZE in the journal.
- * Refusals: 20, 1 to 19 for the present file, 101, 109, 111, 112, 114, 115, 116, 24, 25.
+ * Refusals: 20, those of the present file, 101, 109, 111, 112, 114, 115, 116, 24, 25.
  */
 blorb_edit_answer blorb_add(uint8_t *file, size_t size, size_t length,
                             uint8_t *journal, size_t journal_size, size_t used,
@@ -180,7 +182,7 @@ blorb_edit_answer blorb_add(uint8_t *file, size_t size, size_t length,
 /*
  * Give a resource another type and other data, in the same position. The old data goes to the journal: BLORB_RECORD_SIZE and
  * the old data's bytes.
- * Refusals: 20, 1 to 19 for the present file, 22, 23, 101, 109, 114, 119, 24, 25.
+ * Refusals: 20, those of the present file, 22, 23, 101, 109, 114, 119, 24, 25.
  */
 blorb_edit_answer blorb_replace(uint8_t *file, size_t size, size_t length,
                                 uint8_t *journal, size_t journal_size, size_t used,
@@ -190,7 +192,7 @@ blorb_edit_answer blorb_replace(uint8_t *file, size_t size, size_t length,
 /*
  * Remove a resource: its entry, and its chunk unless another entry has it too. The journal takes BLORB_RECORD_SIZE and, where the
  * chunk goes, the data's bytes.
- * Refusals: 20, 1 to 19 for the present file, 22, 119, 25.
+ * Refusals: 20, those of the present file, 22, 119, 25.
  */
 blorb_edit_answer blorb_remove(uint8_t *file, size_t size, size_t length,
                                uint8_t *journal, size_t journal_size, size_t used,
@@ -198,7 +200,7 @@ blorb_edit_answer blorb_remove(uint8_t *file, size_t size, size_t length,
 
 /*
  * Take back the edit of the journal's last record. A record that does not fit this file is refused, never applied.
- * Refusals: 20, 1 to 19 for the present file, 26, 21, 24.
+ * Refusals: 20, those of the present file, 26, 21, 24.
  */
 blorb_edit_answer blorb_undo(uint8_t *file, size_t size, size_t length,
                              const uint8_t *journal, size_t journal_size, size_t used);

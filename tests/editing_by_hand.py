@@ -12,8 +12,8 @@ from itertools import permutations, product
 
 from building import be, blorb, chunk, form, put, starts
 from editing_run import Scenario, fill, lent
-from reading_by_hand import (A, ANNO, B, B_BINA, B_LESS, BLANK, BROKEN, DATA, EXEC, JPEG, KINDS, PICT, RECT, RELN, SND,
-                             TEXT, WHOLE, ZCOD, behind, fspc, large)
+from reading_by_hand import (A, ANNO, B, B_BINA, B_LESS, BLANK, BROKEN, BROKEN_OFF, DATA, EXEC, JPEG, KINDS, PICT, RECT,
+                             RELN, SND, TEXT, WHOLE, ZCOD, behind, fspc, large)
 
 Stated = namedtuple("Stated", "number place len used file")
 SCENARIOS = []
@@ -348,6 +348,8 @@ for k, place, spoil in BROKEN:
         (add(DATA, 7, *JPEG), no(k, place)), (replace(DATA, 99, *TEXT), no(k, place)), (remove(DATA, 99), no(k, place)),
         (UNDO, no(k, place)), given(len(WHOLE), 29), (UNDO, no(k, place)),
         (replace(PICT, 2, *JPEG), no(k, place)), (remove(DATA, 7), no(k, place))], room=len(WHOLE), shown=False)
+for name, file, k, place in BROKEN_OFF:
+    scenario(f"broken off: {name}", file, [(call, no(k, place)) for call in CALLS], shown=False)
 scenario("L is not the file's", B, [
     step for L, number, place in ((0, 2, 0), (11, 2, 0), (12, 5, 4), (75, 5, 4), (77, 5, 4), (140, 5, 4))
     for call in CALLS for step in (given(L, 0), (call, no(number, place)))])

@@ -1,4 +1,4 @@
-"""Sample files of reading, each with the verdict that 01 gives it, stated by hand.
+"""Sample files of reading, each with the verdict that 01 and 02 (P1) give it, stated by hand.
 
 SAMPLES holds (name, file, verdict): the verdict is the count of an accepted file, or (number, place) of a refusal.
 The places are those of the table in 01: the index stands at 12, its length at 16, its count at 20, entry i at 24 + 12i,
@@ -59,7 +59,7 @@ sample("A to 11 bytes", A[:11], (2, 0))
 sample("FORM 4 IFRS", form(), (8, 12))
 sample("blank", BLANK, 0)
 sample("A with padding 1", put(A, 47, b"\1"), (7, 47))
-sample("A less its last byte", right_length(A[:-1]), (6, 36))
+sample("A less its last byte", right_length(A[:-1]), (29, 47))
 sample("A with start 37", put32(A, 32, 37), (13, 32))
 sample("A with start 12", put32(A, 32, 12), (13, 32))
 sample("A with count 1073741825", put32(A, 20, 1073741825), (10, 16))
@@ -92,7 +92,7 @@ sample("A and one byte, FORM length 40", A + b"\0", (5, 4))
 sample("A to 47 bytes, FORM length 40", A[:47], (5, 4))
 sample("FORM 3 IFRS", put32(form(), 4, 3), (5, 4))
 
-# ---- 6 and 7: chunks fill the file exactly
+# ---- 6, 28, 29 and 7: chunks fill the file exactly
 
 for n in range(1, 8):
     sample(f"A and {n} bytes", behind(A, bytes(n)), (6, 48))
@@ -101,16 +101,16 @@ for n in range(1, 8):
     sample(f"blank to {12 + n} bytes", right_length(BLANK[:12 + n]), (6, 12))
 sample("TEXT of 4, the padding is data", put32(A, 40, 4), 1)
 for n in (5, 6, 7, 8, 65536):
-    sample(f"TEXT of {n} at the end", put32(A, 40, n), (6, 36))
+    sample(f"TEXT of {n} at the end", put32(A, 40, n), (28, 40))
 sample("index of 27 and padding", put32(A, 16, 27), (10, 16))
 sample("index of 28", put32(A, 16, 28), (10, 16))
 for n in (29, 30):
-    sample(f"index of {n}", put32(A, 16, n), (6, 12))
+    sample(f"index of {n}", put32(A, 16, n), (28, 16))
 for n in (4294967295, 4294967294, 4294967292, 4294967288, 4294967287, 4294967284, 4294967252, 2147483648, 2147483647):
-    sample(f"TEXT of {n}", put32(A, 40, n), (6, 36))
-    sample(f"index of {n}", put32(A, 16, n), (6, 12))
-    sample(f"first of two of {n}", put32(B, 52, n), (6, 48))
-    sample(f"last of two of {n}", put32(B, 64, n), (6, 60))
+    sample(f"TEXT of {n}", put32(A, 40, n), (28, 40))
+    sample(f"index of {n}", put32(A, 16, n), (28, 16))
+    sample(f"first of two of {n}", put32(B, 52, n), (28, 52))
+    sample(f"last of two of {n}", put32(B, 64, n), (28, 64))
 for pad in (2, 32, 128, 255):
     sample(f"padding {pad}", put(A, 47, bytes([pad])), (7, 47))
 sample("padding of a first chunk", put(B, 59, b"\1"), (7, 59))
@@ -118,6 +118,46 @@ sample("padding of an odd index", form(chunk(b"RIdx", bytes(5), pad=1)), (7, 25)
 sample("padding of a chunk passed over", behind(A, chunk(b"ANNO", b"x", pad=9)), (7, 57))
 sample("two paddings", behind(put(A, 47, b"\1"), chunk(b"ANNO", b"x", pad=9)), (7, 47))
 sample("second padding of two", behind(A, chunk(b"ANNO", b"x"), chunk(b"ANNO", b"xyz", pad=9)), (7, 69))
+
+# ---- 6, 28 and 29 (02, P1), of the first, a middle and the last chunk: where it broke off. 6 has the chunk's start, 28 its
+# length field, 29 the file's end. BROKEN_OFF holds (name, file, number, place): the edits are tried on these too.
+
+BROKEN_OFF = []
+
+
+def broken_off(name, file, number, place):
+    sample(name, file, (number, place))
+    BROKEN_OFF.append((name, file, number, place))
+
+
+for n in range(1, 8):
+    broken_off(f"A to {n} bytes of TEXT's header", right_length(A[:36 + n]), 6, 36)
+for n in (0, 1, 2):
+    broken_off(f"A to {n} bytes of TEXT's data", right_length(A[:44 + n]), 28, 40)
+for n in (1, 3, 255, 4095):                                       # behind a blank: chunk at 24, length at 28, data from 32 on
+    whole = behind(BLANK, chunk(b"ANNO", bytes(n)))
+    unpadded = right_length(whole[:-1])
+    sample(f"ANNO of {n}", whole, 0)
+    sample(f"ANNO of {n} without padding", unpadded, (29, 32 + n))
+    sample(f"ANNO of {n} without padding, its length one more", put32(unpadded, 28, n + 1), (28, 28))
+    sample(f"ANNO of {n} without padding, its length two more", put32(unpadded, 28, n + 2), (28, 28))
+    sample(f"ANNO of {n} without padding, its length one less", put32(unpadded, 28, n - 1), (6, 32 + n - 1))
+    sample(f"ANNO of {n} less two bytes", right_length(whole[:-2]), (28, 28))
+    sample(f"ANNO of {n} and a byte behind", behind(whole, b"\0"), (6, 32 + n + 1))
+for n in (0, 2, 256):                                             # an even length ends without padding
+    whole = behind(BLANK, chunk(b"ANNO", bytes(n)))
+    sample(f"ANNO of {n}", whole, 0)
+    sample(f"ANNO of {n}, its length one more", put32(whole, 28, n + 1), (28, 28))
+broken_off("index of 5 without padding", form(chunk(b"RIdx", bytes(5))[:-1]), 29, 25)
+broken_off("index of 6 in 5 bytes", form(chunk(b"RIdx", bytes(5), length=6)[:-1]), 28, 16)
+broken_off("index to the end, odd", right_length(put32(A, 16, 29) + b"\0"), 29, 49)
+broken_off("index past the end by one", right_length(put32(A, 16, 30) + b"\0"), 28, 16)
+broken_off("first of two to the end, odd", right_length(put32(B, 52, 21) + b"\0"), 29, 77)
+broken_off("first of two past the end by one", right_length(put32(B, 52, 22) + b"\0"), 28, 52)
+broken_off("last of two to the end, odd", right_length(put32(B, 64, 9) + b"\0"), 29, 77)
+broken_off("last of two past the end by one", right_length(put32(B, 64, 10) + b"\0"), 28, 64)
+broken_off("last of two of 4294967295, a byte more", right_length(put32(B, 64, 4294967295) + b"\0"), 28, 64)
+sample("first of two to the end, even: its entry's start", put32(B, 52, 20), (13, 44))
 
 # ---- 8 to 11: the index
 
@@ -271,8 +311,10 @@ sample("Fspc in a blank", behind(BLANK, chunk(*fspc(0))), (19, 32))
 # ---- Two rules broken: each neighbouring pair in the order of checking.
 # Pairs that cannot be together:
 #   1 and 2    a file of over 16,777,216 bytes has not under 12;
-#   6 and 7    in one chunk: the padding byte that runs past the end is not there to be other than zero. And what stands
-#              behind a chunk that runs past the end is no chunk: the bytes that would be one are sampled;
+#   6 and 28   in one chunk: a header cut short has no length; what is there of it is sampled;
+#   28 and 29  in one chunk: where the data runs past the end its padding would too: 28, which is sampled;
+#   29 and 7   in one chunk: the padding byte that is missing is not there to be other than zero. And what stands behind a
+#              chunk that runs past the end is no chunk: the bytes that would be one are sampled;
 #   10 and 11  where the index isn't 4 + 12 x count there is no number of entries: a count field over 4,096 is sampled;
 #   13 and 14  a start that is no chunk's has no type, but for the index itself, which is sampled;
 #   15 and 16  in one entry: the earlier one of the same pair is an Exec with that number and is refused with 15.
@@ -283,13 +325,24 @@ sample("3/4", put(put(A, 0, b"f"), 8, b"i"), (3, 0))
 sample("4/5", put(grow(A, 4, 1), 8, b"ifrs"), (4, 8))
 sample("5/6", grow(put32(A, 40, 5), 4, 2), (5, 4))
 sample("5/6 cut", A[:-1], (5, 4))
-sample("6/7 padding, then a chunk past the end", behind(put(A, 47, b"\1"), chunk(b"ANNO", b"", length=9)), (7, 47))
-sample("6/7 padding, then a header cut", behind(put(A, 47, b"\1"), b"ANN"), (7, 47))
-sample("6/7 a chunk past the end over a padding", put32(put(B, 59, b"\1"), 52, 21), (6, 48))
-sample("6/7 odd to the end, then nothing", right_length(put32(A, 40, 5) + b"x"), (6, 36))
+sample("5/28 and 5/29", put32(A, 40, 4294967295)[:-1], (5, 4))
+broken_off("6/28 a header cut in its length", behind(A, b"ANNO\xff\xff\xff"), 6, 48)
+broken_off("6/28 a header cut behind a huge type", behind(A, b"\xff\xff\xff\xff\xff"), 6, 48)
+broken_off("28/29 an odd length past the end", put32(A, 40, 5), 28, 40)
+broken_off("28/6 then a header cut", put32(behind(B, b"ANN"), 52, 30), 28, 52)
+broken_off("28/29 then no padding", put32(behind(B, chunk(b"ANNO", b"odd")[:-1]), 52, 60), 28, 52)
+broken_off("28/7 then a padding", put32(behind(B, chunk(b"ANNO", b"odd", pad=1)), 52, 60), 28, 52)
+broken_off("28/7 over its own padding", put32(put(B, 59, b"\1"), 52, 21), 28, 52)
+broken_off("29/7 odd to the end, then nothing", right_length(put32(A, 40, 5) + b"x"), 29, 49)
+broken_off("7/6 padding, then a header cut", behind(put(A, 47, b"\1"), b"ANN"), 7, 47)
+broken_off("7/28 padding, then a length past the end", behind(put(A, 47, b"\1"), chunk(b"ANNO", b"", length=9)), 7, 47)
+broken_off("7/29 padding, then none", behind(put(A, 47, b"\1"), chunk(b"ANNO", b"odd")[:-1]), 7, 47)
 sample("7/8", put(put(A, 47, b"\1"), 12, b"ANNO"), (7, 47))
 sample("7/8 padding of the first chunk", form(chunk(b"ANNO", b"x", pad=1), index([])), (7, 21))
-sample("6/8 the second chunk cut (A1)", form(chunk(*ANNO), chunk(*TEXT)[:-1]), (6, 24))
+sample("6/8 the second chunk's header cut (A1)", form(chunk(*ANNO), chunk(*TEXT)[:7]), (6, 24))
+sample("28/8 the second chunk cut (A1)", form(chunk(*ANNO), chunk(*TEXT)[:-2]), (28, 28))
+sample("29/8 the second chunk's padding cut (A1)", form(chunk(*ANNO), chunk(*TEXT)[:-1]), (29, 35))
+sample("29/9 a second index without padding", form(index([]), chunk(b"RIdx", bytes(5))[:-1]), (29, 37))
 sample("8/9", form(chunk(*ANNO), index([]), index([])), (8, 12))
 sample("9/10", behind(put32(A, 20, 2), index([])), (9, 48))
 sample("9/10 short index", form(chunk(b"RIdx", b"\0\0"), chunk(b"RIdx")), (9, 22))
@@ -337,8 +390,8 @@ for k, (row, inside) in FAULTY.items():
         sample(f"entry with {k}, then with {other}", file, (k, 36 + inside))
 
 # ---- Every two faults in one file of ten chunks and six entries. The faults change bytes and no length, and stand
-# here in the order in which they decide: 7 is in the first chunk, 6 in the last; the entries' faults are in entries 1 to
-# 5; 18, 19 and 17 are in the order of their chunks.
+# here in the order in which they decide: 7 is in the first chunk, 28 in the last but one, 6 in the last; the entries' faults
+# are in entries 1 to 5; 18, 19 and 17 are in the order of their chunks. 29 is only at an odd file's end: it comes behind.
 
 TEN = [TEXT, RECT, (b"JPEG", b"12345"), (b"BINA", b"ab"), ZCOD, (b"OGGV", b"og"),
        (b"RelN", b"\1\0"), fspc(2), (b"ANNO", b"ab"), ANNO]
@@ -350,7 +403,8 @@ BROKEN = [
     (4, 8, lambda s: put(s, 8, b"i")),
     (5, 4, lambda s: grow(s, 4, 2)),
     (7, AT[0] + 11, lambda s: put(s, AT[0] + 11, b"\1")),
-    (6, AT[9], lambda s: grow(s, AT[9] + 4, 2)),
+    (28, AT[8] + 4, lambda s: put32(s, AT[8] + 4, 2 ** 31 + 2)),
+    (6, AT[9] + 10, lambda s: grow(s, AT[9] + 4, -2)),
     (8, 12, lambda s: put(s, 15, b"y")),
     (9, AT[8], lambda s: put(s, AT[8], b"RIdx")),
     (10, 16, lambda s: grow(s, 20, 1)),
@@ -368,3 +422,9 @@ for i, (k, place, spoil) in enumerate(BROKEN):
     sample(f"ten chunks, {k}", spoil(WHOLE), (k, place))
     for other, _, spoil_more in BROKEN[i + 1:]:
         sample(f"ten chunks, {k} and {other}", spoil_more(spoil(WHOLE)), (k, place))
+UNPADDED = right_length(WHOLE + chunk(b"ANNO", b"odd")[:-1])
+broken_off("ten chunks, 29", UNPADDED, 29, len(UNPADDED))
+for k, place, spoil in BROKEN:
+    if k != 6:                                                    # there is no cut header with a chunk behind it
+        earlier = k in (3, 4, 5, 7, 28)
+        sample(f"ten chunks, {k} and 29", spoil(UNPADDED), (k, place) if earlier else (29, len(UNPADDED)))

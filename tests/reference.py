@@ -1,7 +1,7 @@
-"""The reading half of 01 (description of the build and its rules), in Python.
+"""The reading half of 01 (description of the build and its rules), with 28 and 29 of 02 (P1), in Python.
 
-Written from the paper alone, to be held against the proved library: it shares no code, no definition and no order of
-working with it. Where the paper leaves a choice, the reading taken is named in a comment.
+Written from the papers alone, to be held against the proved library: it shares no code, no definition and no order of
+working with it. Where they leave a choice, the reading taken is named in a comment.
 
     read(s)                    ("accepted", length, count)            or ("refused", number, place)
     entry(s, i)                ("given", usage, number, start)        or ("refused", number, place)
@@ -47,7 +47,7 @@ def be32(s, at):
     return int.from_bytes(s[at:at + 4], "big")
 
 
-# ---- rules 1 and 2: refusals 1 to 7
+# ---- rules 1 and 2: refusals 1 to 7, 28 and 29
 
 def head(s):
     """Refusals 1 to 5, by their numbers: 4 comes before 5 though its place stands behind."""
@@ -59,14 +59,14 @@ def head(s):
 
 
 def chunks_of(s):
-    """Rule 2, refusals 6 and 7: the chunks from offset 12 on, walking forward; the first faulty chunk decides."""
+    """Rule 2, refusals 6, 28, 29 and 7: the chunks from offset 12 on, walking forward; the first faulty chunk decides."""
     chunks, at = [], 12
     while at < len(s):
         refuse_if(at + 8 > len(s), 6, at)                       # header
         end = at + 8 + be32(s, at + 4)
-        refuse_if(end > len(s), 6, at)                          # data
+        refuse_if(end > len(s), 28, at + 4)                     # data
         odd = (end - at) % 2                                    # the header is even, so the data's length decides
-        refuse_if(end + odd > len(s), 6, at)                    # padding
+        refuse_if(end + odd > len(s), 29, len(s))               # padding
         refuse_if(odd and s[end] != 0, 7, end)
         chunks.append(Chunk(at, s[at:at + 4], s[at + 8:end]))
         at = end + odd

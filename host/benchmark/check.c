@@ -347,7 +347,8 @@ static bool measured(struct sample s, bool adds)
 static bool all_seen(void)
 {
     static const uint8_t wanted[] = {0,  1,  2,  3,  4,  5,  6,  7,  8,  9,   10,  11,  12,  13,  14,  15,  16, 17,
-                                     18, 19, 20, 21, 22, 23, 24, 25, 26, 101, 109, 111, 112, 114, 115, 116, 119};
+                                     18, 19, 20, 21, 22, 23, 24, 25, 26, 28,  29,  101, 109, 111, 112, 114, 115, 116,
+                                     119};
     bool all = true;
 
     for (unsigned i = 0; i < sizeof wanted; i++)

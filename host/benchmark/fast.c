@@ -127,7 +127,7 @@ static INLINE bool side_by_side(const uint8_t *file, size_t size, uint64_t pair,
     return passed_over(file, size, &at, size, asked, &f->begins) && at == size;
 }
 
-/* Refusals 6 and 7; notes the starts, and whether a chunk behind the index is an 'RIdx', a 'RelN' or an 'Fspc'. */
+/* Refusals 6, 28, 29 and 7; notes the starts, and whether a chunk behind the index is an 'RIdx', a 'RelN' or an 'Fspc'. */
 static struct verdict walk(const uint8_t *file, size_t size, size_t *chunks, bool *specials)
 {
     size_t at = 12, next, n = 0;
@@ -285,7 +285,7 @@ static bool has_start_twice(const uint8_t *file, const struct facts *f)
     return n > 1;
 }
 
-/* Refusals 6 to 19 of any file. */
+/* Refusals 6 to 19, 28 and 29 of any file. */
 static struct verdict judge(const uint8_t *file, size_t size, uint64_t pair, size_t asked, struct facts *f)
 {
     size_t chunks;

@@ -135,7 +135,7 @@ static inline struct verdict index_shape(const uint8_t *file)
     return (struct verdict){0, 0};
 }
 
-/* Refusals 6 and 7 of the chunk at `at`, which lies before the end; else where the next one begins. */
+/* Refusals 6, 28, 29 and 7 of the chunk at `at`, which lies before the end; else where the next one begins. */
 static inline struct verdict chunk_whole(const uint8_t *file, size_t size, size_t at, size_t *next)
 {
     if (size - at < 8)
@@ -143,7 +143,7 @@ static inline struct verdict chunk_whole(const uint8_t *file, size_t size, size_
     size_t m = get32(file + at + 4);
     *next = at + chunk_size(m);
     if (*next > size)
-        return (struct verdict){BLORB_CHUNK_CUT, at};
+        return at + 8 + m > size ? (struct verdict){BLORB_CHUNK_LENGTH, at + 4} : (struct verdict){BLORB_NO_PADDING, size};
     if (m % 2 == 1 && file[*next - 1] != 0)
         return (struct verdict){BLORB_PADDING, *next - 1};
     return (struct verdict){0, 0};

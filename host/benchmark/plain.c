@@ -38,7 +38,7 @@ static size_t walk_along(const uint8_t *file, size_t size, size_t at, bool *ordi
     return at;
 }
 
-/* Refusals 6 and 7. */
+/* Refusals 6, 28, 29 and 7. */
 static struct verdict walk(const uint8_t *file, size_t size, bool *ordinary)
 {
     size_t at, next;

@@ -64,7 +64,8 @@ def done(*words, **more):
 SAID = {
     1: ("longer than 16,777,216 bytes", "fewer or smaller"), 2: ("fewer than 12 bytes", "cut short"),
     3: ("begin with 'FORM'", "name"), 4: ("form type is not 'IFRS'", "name"), 5: ("FORM length", "put behind it"),
-    6: ("past the end", "Pack"), 7: ("padding", "zero"), 8: ("first chunk", "Pack"), 9: ("second index", "Pack"),
+    6: ("ends within the header", "get it again"), 28: ("length of a chunk runs past the end", "length of the chunk's data"),
+    29: ("without the padding byte", "put a zero byte there"), 7: ("is not zero", "Set it to zero"), 8: ("first chunk", "Pack"), 9: ("second index", "Pack"),
     10: ("length of the index", "Pack"), 11: ("4,096 entries", "fewer resources"), 12: ("usage of an entry", "Pack"),
     13: ("begins where", "Pack"), 14: ("does not suit the usage of its entry", "Rect with 8 bytes"),
     15: ("number other than 0", "Pack"), 16: ("same usage and number", "Pack"), 17: ("second 'RelN' or 'Fspc'", "Pack"),

@@ -7,7 +7,7 @@ import stat
 import subprocess
 import time
 
-from building import Dice, blorb, chunk, form, index, put, put32
+from building import Dice, blorb, chunk, form, grow, index, put, put32, right_length
 from command_kit import (PROGRAM, aiff, be, contents, done, edited, editing_reference, expect, failed, jpeg, listing, mod, ogg,
                          png, reference, refused, run, same)
 
@@ -114,7 +114,8 @@ def wrong_files():
     two = blorb([(b"Data", 7, 0), (b"Pict", 1, 1)], text + [(b"Rect", bytes(8))])
     row = (b"Data", 7, 36)
     return {
-        2: BLANK[:11], 3: b"form" + BLANK[4:], 4: put(BLANK, 8, b"IFR!"), 5: put32(BLANK, 4, 17), 6: put32(SAMPLE_A, 40, 9),
+        2: BLANK[:11], 3: b"form" + BLANK[4:], 4: put(BLANK, 8, b"IFR!"), 5: put32(BLANK, 4, 17),
+        6: right_length(SAMPLE_A[:43]), 28: put32(SAMPLE_A, 40, 5), 29: right_length(SAMPLE_A[:47]),
         7: put(SAMPLE_A, 47, b"\1"), 8: form(chunk(b"ANNO")), 9: form(index([]), index([])), 10: put32(SAMPLE_A, 20, 2),
         11: form(index([(b"Data", i, 49188) for i in range(4097)]), chunk(b"TEXT")), 12: put(SAMPLE_A, 24, b"D\x1b[m"),
         13: put32(SAMPLE_A, 32, 37), 14: put(SAMPLE_A, 36, b"\0\n\xffX"), 15: form(index([(b"Exec", 1, 36)]), chunk(b"ZCOD")),
@@ -141,6 +142,25 @@ def refused_files(work):
         refused(*verdict[1:], "remove", file, "Data", "7")
         refused(*verdict[1:], "undo", file)
         same(contents(work), {"wrong.blb": wrong}, "a refused file is left alone")
+
+
+def broken_off(work):
+    """6, 28 and 29 are mended in three ways. What the advice says of 28 and 29 makes the file good."""
+    file, advice = work / "broken.blb", {}
+    cases = [(6, 36, right_length(SAMPLE_A[:43]), None), (6, 48, right_length(SAMPLE_A + b"TEXT"), None)]
+    for place, length, wrong in ((40, 3, 5), (40, 3, 2 ** 32 - 1), (16, 16, 29), (16, 16, 2 ** 31)):
+        cases.append((28, place, put32(SAMPLE_A, place, wrong), lambda s, p=place, m=length: put32(s, p, m)))
+    for whole in (SAMPLE_A, right_length(BLANK + chunk(b"ANNO", b"x"))):
+        cases.append((29, len(whole) - 1, right_length(whole[:-1]), lambda s: grow(s, 4, 1) + b"\0"))
+    for number, place, broken, mend in cases:
+        file.write_bytes(broken)
+        advice[number] = refused(number, place, "check", file).err.partition("\n")[2]
+        refused(number, place, "add", file, "Data", "8", "TEXT", "-", stdin=b"new")
+        same(contents(work), {"broken.blb": broken}, "a refused file is left alone")
+        if mend:
+            file.write_bytes(mend(broken))
+            expect(done("check", file).startswith(b"accepted"), f"{number} at {place} mended as advised")
+    same(len(set(advice.values())), 3, f"three pieces of advice: {advice}")
 
 
 def refused_edits(work):
@@ -522,6 +542,6 @@ def two_at_once(work):
     same((waiting.wait(), done("get", file, "Data", "1")), (0, b"data"), "and goes on")
 
 
-PARTS = (help_and_misuse, samples_of_01, media, refused_files, refused_edits, cut_and_damaged, chains, at_the_limit,
+PARTS = (help_and_misuse, samples_of_01, media, refused_files, broken_off, refused_edits, cut_and_damaged, chains, at_the_limit,
          new_and_names, no_journal_covered, links_and_permissions, outputs, size_limit, full_disk, permissions, other_groups,
          two_at_once)

@@ -4,7 +4,7 @@ mod faults;
 mod journals;
 
 use crate::reference::{self, Call, Edit, State, Tag, USAGES};
-pub use faults::faulty;
+pub use faults::{faulty, next_in_order, ORDER};
 pub use journals::undo_state;
 
 // ---- Random numbers ------------------------------------------------------------------------------------------------

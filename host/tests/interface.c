@@ -40,7 +40,9 @@ IS(BLORB_TOO_SHORT, 2);        /* fewer than 12 bytes */
 IS(BLORB_NO_FORM, 3);          /* no 'FORM' */
 IS(BLORB_NO_IFRS, 4);          /* no 'IFRS' */
 IS(BLORB_FORM_LENGTH, 5);      /* FORM length differs */
-IS(BLORB_CHUNK_CUT, 6);        /* header, data or padding runs past the end */
+IS(BLORB_CHUNK_CUT, 6);        /* fewer than 8 header bytes (02, P1) */
+IS(BLORB_CHUNK_LENGTH, 28);    /* a length running past the end */
+IS(BLORB_NO_PADDING, 29);      /* a missing padding byte */
 IS(BLORB_PADDING, 7);          /* padding byte not zero */
 IS(BLORB_NO_INDEX, 8);         /* no chunk, or the first isn't 'RIdx' */
 IS(BLORB_SECOND_INDEX, 9);     /* a second 'RIdx' */
@@ -339,8 +341,9 @@ static void refused_files(void)
     reads_changed(0, "FORK", 3, 0, "3");
     reads_changed(8, "IFRT", 4, 8, "4");
     reads_changed(4, "\0\0\0\x29", 5, 4, "5");
-    reads_changed(40, "\0\0\0\5", 6, 36, "6");
-    reads_changed(40, "\xff\xff\xff\xff", 6, 36, "6, a length that wraps");
+    reads_changed(40, "\0\0\0\5", 28, 40, "28");
+    reads_changed(40, "\xff\xff\xff\xff", 28, 40, "28, a length that wraps");
+    reads_changed(16, "\0\0\0\x1d", 28, 16, "28 of the index");
     reads_changed(44, "eel\1", 7, 47, "7");
     reads_changed(12, "RIdy", 8, 12, "8");
     reads_changed(36, "RIdx", 9, 36, "9");
@@ -659,6 +662,31 @@ static void test_undo_damaged(void)
     }
 }
 
+/* One of the four calls that change a file. */
+static blorb_edit_answer any_edit(pair *p, int call)
+{
+    return call == 0   ? add(p, "Data", 8, "TEXT", "", 0)
+           : call == 1 ? replace(p, "Data", 7, "TEXT", "", 0)
+           : call == 2 ? removal(p, "Data", 7)
+                       : undo(p);
+}
+
+/* Sample A cut to each length within its chunk, the FORM length right: 6 in its header, 28 in its data, 29 before its padding. */
+static void test_broken_off(void)
+{
+    for (size_t length = 37; length < 48; length++) {
+        image none = {.length = 0}, f = sample_a();
+        f.length = length;
+        put32(f.at + 4, (uint32_t)length - 8);
+        uint64_t refusal = length < 44 ? 6 : length < 47 ? 28 : 29, place = length < 44 ? 36 : length < 47 ? 40 : 47;
+        reads(&f, refusal, place, 0, "6, 28 or 29");
+        for (int call = 0; call < 4; call++) {
+            pair p = prepared(&f, 90, &none, 40);
+            refused(&p, any_edit(&p, call), refusal, place, "an edit or undo: 6, 28 or 29");
+        }
+    }
+}
+
 /* 20: lengths beyond the buffers, null pointers too. */
 static void test_lengths(void)
 {
@@ -669,11 +697,7 @@ static void test_lengths(void)
             pair p = prepared(&a, 48, &none, 30);
             p.length = wrong[i][0];
             p.used = wrong[i][1];
-            blorb_edit_answer r = call == 0   ? add(&p, "Data", 8, "TEXT", "", 0)
-                                  : call == 1 ? replace(&p, "Data", 7, "TEXT", "", 0)
-                                  : call == 2 ? removal(&p, "Data", 7)
-                                              : undo(&p);
-            refused(&p, r, 20, 0, "20");
+            refused(&p, any_edit(&p, call), 20, 0, "20");
         }
     for (size_t length = 0; length < 2; length++) {
         blorb_edit_answer r = blorb_undo(NULL, 0, length, NULL, 0, 0);
@@ -698,6 +722,7 @@ int main(void)
         test_remove();
         test_undo();
         test_undo_damaged();
+        test_broken_off();
         test_lengths();
     }
     printf("interface: %lu checks\ninterface: ok\n", checks);

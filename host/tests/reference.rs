@@ -58,7 +58,7 @@ pub struct View {
     pub entries: Vec<Entry>,
 }
 
-/// Accepts the file, or refuses it with the first reason of the table 1 to 19.
+/// Accepts the file, or refuses it with the first reason of the table: 1 to 19, 28 and 29.
 pub fn read(file: &[u8]) -> Result<View, Refusal> {
     if file.len() > LIMIT {
         return refuse(1, 0);
@@ -84,21 +84,26 @@ pub fn read(file: &[u8]) -> Result<View, Refusal> {
     Ok(view)
 }
 
-/// All chunks from offset 12 to the end. Refusals 6 and 7.
+/// All chunks from offset 12 to the end. Refusals 6, 28, 29 and 7.
 fn walk(file: &[u8]) -> Result<Vec<Span>, Refusal> {
     let mut spans = Vec::new();
     let mut start = 12;
     while start < file.len() {
-        if file.len() - start < 8 {
+        let left = file.len() - start;
+        if left < 8 {
             return refuse(6, start);
         }
         let length = number_at(file, start + 4) as usize;
-        let end = start + 8 + length;
-        if end + length % 2 > file.len() {
-            return refuse(6, start);
+        if length > left - 8 {
+            return refuse(28, start + 4);
         }
-        if length % 2 == 1 && file[end] != 0 {
-            return refuse(7, end);
+        let end = start + 8 + length;
+        if length % 2 == 1 {
+            match file.get(end) {
+                None => return refuse(29, file.len()),
+                Some(0) => {}
+                Some(_) => return refuse(7, end),
+            }
         }
         spans.push(Span { start, length });
         start = end + length % 2;

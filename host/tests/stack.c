@@ -5,6 +5,7 @@
 #define _DEFAULT_SOURCE
 #include <stdio.h>
 #include <stdlib.h>
+#include <string.h>
 #include <sys/mman.h>
 #include <ucontext.h>
 
@@ -15,11 +16,32 @@ static uint8_t file[ROOM], journal[ROOM], data[DATA];
 static ucontext_t outside, inside;
 static int calls;
 
-static void done(uint64_t refusal)
+static void gives(uint64_t refusal, uint64_t wanted)
 {
-    if (refusal != BLORB_DONE)
+    if (refusal != wanted)
         exit(1);
     calls++;
+}
+
+static void done(uint64_t refusal)
+{
+    gives(refusal, BLORB_DONE);
+}
+
+/* The file of `length` bytes cut short, its FORM length right: every call finds the broken chunk. */
+static void broken(size_t length, size_t cut, size_t used, uint64_t refusal)
+{
+    static uint8_t part[ROOM];
+    memcpy(part, file, length - cut);
+    for (int i = 0; i < 4; i++)
+        part[4 + i] = (uint8_t)((length - cut - 8) >> (24 - 8 * i));
+    gives(blorb_read(part, length - cut).refusal, refusal);
+    gives(blorb_entry(part, length - cut, 1).refusal, refusal);
+    gives(blorb_lookup(part, length - cut, "Data", 2).refusal, refusal);
+    gives(blorb_add(part, ROOM, length - cut, journal, ROOM, used, "Data", 9, "BINA", data, 1).refusal, refusal);
+    gives(blorb_replace(part, ROOM, length - cut, journal, ROOM, used, "Data", 2, "BINA", data, 1).refusal, refusal);
+    gives(blorb_remove(part, ROOM, length - cut, journal, ROOM, used, "Data", 2).refusal, refusal);
+    gives(blorb_undo(part, ROOM, length - cut, journal, ROOM, used).refusal, refusal);
 }
 
 static void every_call(void)
@@ -39,6 +61,9 @@ static void every_call(void)
     done(blorb_read(file, a.length).refusal);
     done(blorb_entry(file, a.length, 1).refusal);
     done(blorb_lookup(file, a.length, "Data", 2).refusal);
+    broken(a.length, 1, a.used, BLORB_NO_PADDING); /* Data 2 is last, with an odd length */
+    broken(a.length, 2, a.used, BLORB_CHUNK_LENGTH);
+    broken(a.length, DATA, a.used, BLORB_CHUNK_CUT);
     while (a.used > 0) {
         a = blorb_undo(file, ROOM, a.length, journal, ROOM, a.used);
         done(a.refusal);

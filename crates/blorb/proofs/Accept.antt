@@ -61,7 +61,7 @@ chunk-back : (at : ℕ) (s : List ℕ) → All Byte s → chunkFault at s ≡ ac
 unfolding chunkFault chunkBytes chunkIn sized
 chunk-back at s h ok =
     let m : ℕ = rd32 (drop 4 s) in
-    let q = then-accept _ _ (then-accept _ _ ok .1) in
+    let q = then-accept _ _ (then-accept _ _ (then-accept _ _ ok .1) .1) in
     let long : 8 + (m + m % 2) ≤ length s = leb-true _ _ (check-accept _ _ _ (q .0)) in
     let zero-pad : (eqb (m % 2) 0 || eqb (getD s (8 + m) 0) 0) ≡ true = check-accept _ _ _ (q .1) in
     let lm : length (take m (drop 8 s)) ≡ m = length-take-le m (drop 8 s) (simp length-drop (omega arith)) in

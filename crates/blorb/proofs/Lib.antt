@@ -6,6 +6,7 @@ pub mod ModelLaws
 pub mod Checks
 pub mod Accept
 pub mod VerdictLaws
+pub mod RunsPast
 pub mod Exactly
 pub mod Parts
 pub mod UsageLaws

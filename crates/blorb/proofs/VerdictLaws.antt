@@ -44,6 +44,10 @@ size-sized : (c : Chunk) → size c ≡ sized (length (c .body))
 unfolding size
 size-sized c = refl
 
+size-header : (c : Chunk) → 8 + length (c .body) ≤ size c
+unfolding size sized
+size-header c = omega arith
+
 chunk-fine : (at : ℕ) (c : Chunk) (s : List ℕ) → length (c .body) < W → chunkFault at (chunkBytes c ++ s) ≡ accept
 unfolding chunkFault check _then_
 chunk-fine at c s h =
@@ -54,6 +58,7 @@ chunk-fine at c s h =
       pad-byte (c .body) s,
       l,
       le-leb 8 (size c + length s) (omega (arith, size-pos c)),
+      le-leb (8 + length (c .body)) (size c + length s) (omega (arith, size-header c)),
       le-leb (sized (length (c .body))) (size c + length s) (omega (arith, size-sized c)),
     )
 

@@ -5,6 +5,7 @@ pub mod Tags
 pub mod Format
 pub mod Layout
 pub mod Verdict
+pub mod RunsPast
 pub mod Rules
 pub mod Model
 pub mod Queries

@@ -32,15 +32,17 @@ headFault f =
     then check (eqb (rd32 (drop 8 f)) IFRS) 4 8
     then check (eqb (8 + rd32 (drop 4 f)) (length f)) 5 4
 
--- The faults of a single chunk, the one that s begins with, at offset at. 6: "header, data or padding runs past the end", at its start;
--- 7: "padding byte not zero", at that byte.
+-- The faults of a single chunk, the one that s begins with, at offset at. 6: "fewer than 8 header bytes", at its start; 28: "a length running
+-- past the end", at the length field; 29: "a missing padding byte", at the file's end (02, P1); 7: "padding byte not zero", at that byte.
 unfoldable pub chunkFault : ℕ → List ℕ → Verdict
 chunkFault at s =
     check (leb 8 (length s)) 6 at
-    then check (leb (sized (rd32 (drop 4 s))) (length s)) 6 at
+    then check (leb (8 + rd32 (drop 4 s)) (length s)) 28 (at + 4)
+    then check (leb (sized (rd32 (drop 4 s))) (length s)) 29 (at + length s)
     then check (eqb (rd32 (drop 4 s) % 2) 0 || eqb (getD s (8 + rd32 (drop 4 s)) 0) 0) 7 (at + (8 + rd32 (drop 4 s)))
 
--- "6 and 7 are found walking forward; the first faulty chunk decides, 6 before 7." k bounds the number of chunks.
+-- "6 and 7 are found walking forward; the first faulty chunk decides, 6 before 7"; "28 and 29 stand with 6, before 7" (02, P1). k bounds the
+-- number of chunks.
 unfoldable pub walkFault : ℕ → ℕ → List ℕ → Verdict
 walkFault zero at s = accept
 walkFault (suc k) at [] = accept
@@ -109,6 +111,6 @@ module _ (R : Rules) where
   layoutFault [] = refuse 8 12
   layoutFault (c ∷ cs) = check (eqb (c .type) RIdx) 8 12 then restFault c cs
 
-  -- the whole table: 1 to 5, then 6 and 7 of all chunks, then 8 to 19
+  -- the whole table: 1 to 5, then 6, 28, 29 and 7 of all chunks, then 8 to 19
   unfoldable pub verdict : List ℕ → Verdict
   verdict f = headFault f then (walkFault (length f) 12 (drop 12 f) then layoutFault (chunksOf f))

@@ -54,7 +54,7 @@ head f = more _ _ _ _ (omega arith) (more _ _ _ _ (omega arith) (more _ _ _ _ (o
 
 chunk : (at : ℕ) (s : List ℕ) → Numbered (chunkFault at s)
 unfolding chunkFault
-chunk at s = more _ _ _ _ (omega arith) (more _ _ _ _ (omega arith) (one _ _ _ (omega arith)))
+chunk at s = more _ _ _ _ (omega arith) (more _ _ _ _ (omega arith) (more _ _ _ _ (omega arith) (one _ _ _ (omega arith))))
 
 walk : (k at : ℕ) (s : List ℕ) → Numbered (walkFault k at s)
 unfolding walkFault

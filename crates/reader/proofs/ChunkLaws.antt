@@ -13,7 +13,7 @@ use Rattle.reader.specs.Ordinary.{ordinaryType, allOrdinary, Along}
 use Rattle.blorb.specs.Tags.{RelN, Fspc, FORM, IFRS, RIdx}
 use Rattle.blorb.specs.Bytes.{rd32}
 use Rattle.blorb.specs.Format.{Chunk, sized, size, chunkIn, chunksIn}
-use Rattle.blorb.specs.Verdict.{Verdict, accept, refuse, _then_, chunkFault, walkFault, secondIndex, headFault}
+use Rattle.blorb.specs.Verdict.{Verdict, accept, refuse, check, _then_, chunkFault, walkFault, secondIndex, headFault}
 use Rattle.reader.specs.Walk.{chunkFrom, nextAt, chunksFrom, walkFrom, skipAt, firstFault}
 use Rattle.blorb.proofs.Checks.{then-accept, check-accept, pass, stop, holds-last, fails-last, accepts, refuses, and-both}
 
@@ -121,7 +121,7 @@ fine f at h w =
     let e : m ≡ rd32 (drop (at + 4) f) = ap rd32 d in
     let p = then-accept _ _ (sym (walk-on f at h) ∙ w) in
     let q = then-accept _ _ (p .0) in
-    let r = then-accept _ _ (q .1) in
+    let r = then-accept _ _ (then-accept _ _ (q .1) .1) in
     let l8 : 8 ≤ length (drop at f) = leb-true _ _ (check-accept _ _ _ (q .0)) in
     let lm : 8 + (m + m % 2) ≤ length (drop at f) = leb-true _ _ (check-accept _ _ _ (r .0)) in
     let ld : length (drop at f) ≡ length f - at = length-drop at f in
@@ -167,7 +167,7 @@ module _ (f : List ℕ) where
           unfolding headFault
           head-good h = sym (pass _ _ _ _ (le-leb _ _ l) ∙ pass _ _ _ _ (le-leb _ _ l2) ∙ pass _ _ _ _ (eq-eqb _ _ l3) ∙ pass _ _ _ _ (eq-eqb _ _ l4) ∙ holds-last _ _ _ (eq-eqb _ _ h))
 
--- 6 and 7 of one chunk, by facts on its numbers
+-- 6, 28, 29 and 7 of one chunk, by facts on its numbers
 module _ (f : List ℕ) (at m : ℕ) (h : at < length f) where
   ld : length (drop at f) ≡ length f - at
   ld = length-drop at f
@@ -183,28 +183,45 @@ module _ (f : List ℕ) (at m : ℕ) (h : at < length f) where
     k8 : 8 ≤ length (drop at f)
     k8 = omega (arith, ld)
 
-    pub chunk-short : length f < at + (8 + m) + m % 2 → refuse 6 at ≡ chunkFault at (drop at f)
-    unfolding chunkFault sized
-    chunk-short l =
-        let k : length (drop at f) < 8 + (m + m % 2) = omega (arith, ld) in
+    pub chunk-long : length f < at + (8 + m) → refuse 28 (at + 4) ≡ chunkFault at (drop at f)
+    unfolding chunkFault
+    chunk-long l =
+        let k : length (drop at f) < 8 + m = omega (arith, ld) in
         rw em (sym (pass _ _ _ _ (le-leb _ _ k8) ∙ stop _ _ _ _ (lt-leb _ _ k)))
 
-    module _ (lm : at + (8 + m) + m % 2 ≤ length f) where
-      km : 8 + (m + m % 2) ≤ length (drop at f)
+    module _ (lm : at + (8 + m) ≤ length f) where
+      km : 8 + m ≤ length (drop at f)
       km = omega (arith, ld)
 
-      pub chunk-even : m % 2 ≡ 0 → accept ≡ chunkFault at (drop at f)
+      -- with all of the chunk there, only the padding byte is asked about
+      padded : 8 + (m + m % 2) ≤ length (drop at f)
+          → chunkFault at (drop at f) ≡ check (eqb (m % 2) 0 || eqb (getD (drop at f) (8 + m) 0) 0) 7 (at + (8 + m))
       unfolding chunkFault sized
-      chunk-even z = rw em (sym (pass _ _ _ _ (le-leb _ _ k8) ∙ pass _ _ _ _ (le-leb _ _ km) ∙ holds-last _ _ _ (rw (eq-eqb (m % 2) 0 z))))
+      padded kp = rw em (pass _ _ _ _ (le-leb _ _ k8) ∙ pass _ _ _ _ (le-leb _ _ km) ∙ pass _ _ _ _ (le-leb _ _ kp))
+
+      pub chunk-even : m % 2 ≡ 0 → accept ≡ chunkFault at (drop at f)
+      chunk-even z = sym (padded (omega (arith, km)) ∙ holds-last _ _ _ (rw (eq-eqb (m % 2) 0 z)))
 
       module _ (z : m % 2 ≡ 0 → ⊥) where
-        pub chunk-odd : getD f (at + (8 + m)) 0 ≡ 0 → accept ≡ chunkFault at (drop at f)
-        unfolding chunkFault sized
-        chunk-odd y = rw em (sym (pass _ _ _ _ (le-leb _ _ k8) ∙ pass _ _ _ _ (le-leb _ _ km) ∙ holds-last _ _ _ (rw (ne-eqb (m % 2) 0 z, getD-drop at f (8 + m) 0, eq-eqb _ _ y))))
+        odd : m % 2 ≡ 1
+        odd = omega arith
 
-        pub chunk-pad : (getD f (at + (8 + m)) 0 ≡ 0 → ⊥) → refuse 7 (at + (8 + m)) ≡ chunkFault at (drop at f)
+        pub chunk-unpadded : length f ≤ at + (8 + m) → refuse 29 (length f) ≡ chunkFault at (drop at f)
         unfolding chunkFault sized
-        chunk-pad y = rw em (sym (pass _ _ _ _ (le-leb _ _ k8) ∙ pass _ _ _ _ (le-leb _ _ km) ∙ fails-last _ _ _ (rw (ne-eqb (m % 2) 0 z, getD-drop at f (8 + m) 0, ne-eqb _ _ y))))
+        chunk-unpadded l =
+            let k : length (drop at f) < 8 + (m + m % 2) = omega (arith, ld, odd) in
+            let e : at + length (drop at f) ≡ length f = omega (arith, ld) in
+            ap (refuse 29) (sym e) ∙ rw em (sym (pass _ _ _ _ (le-leb _ _ k8) ∙ pass _ _ _ _ (le-leb _ _ km) ∙ stop _ _ _ _ (lt-leb _ _ k)))
+
+        module _ (lp : at + (8 + m) < length f) where
+          kp : 8 + (m + m % 2) ≤ length (drop at f)
+          kp = omega (arith, ld)
+
+          pub chunk-odd : getD f (at + (8 + m)) 0 ≡ 0 → accept ≡ chunkFault at (drop at f)
+          chunk-odd y = sym (padded kp ∙ holds-last _ _ _ (rw (ne-eqb (m % 2) 0 z, getD-drop at f (8 + m) 0, eq-eqb _ _ y)))
+
+          pub chunk-pad : (getD f (at + (8 + m)) 0 ≡ 0 → ⊥) → refuse 7 (at + (8 + m)) ≡ chunkFault at (drop at f)
+          chunk-pad y = sym (padded kp ∙ fails-last _ _ _ (rw (ne-eqb (m % 2) 0 z, getD-drop at f (8 + m) 0, ne-eqb _ _ y)))
 
 -- the walk's loop
 pub walk-next : (f : List ℕ) (at : ℕ) → at < length f → chunkFault at (drop at f) ≡ accept → walkFrom f (skipAt f at) ≡ walkFrom f at

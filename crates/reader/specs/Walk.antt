@@ -27,7 +27,7 @@ skipAt f at = at + (8 + (rd32 (drop (at + 4) f) + rd32 (drop (at + 4) f) % 2))
 unfoldable pub chunksFrom : List ℕ → ℕ → List Chunk
 chunksFrom f at = chunksIn (length f) (drop at f)
 
--- 6 and 7 of them
+-- 6, 28, 29 and 7 of them
 unfoldable pub walkFrom : List ℕ → ℕ → Verdict
 walkFrom f at = walkFault (length f) at (drop at f)
 

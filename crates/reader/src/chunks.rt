@@ -51,7 +51,7 @@ pub(crate) fn head(s: &[u8]) -> Check
     Check::Good
 }
 
-// Refusals 6 and 7 of the chunk at `at`.
+// Refusals 6, 28, 29 and 7 of the chunk at `at`.
 fn chunk(s: &[u8], at: usize) -> Check
     requires { ⌜ at < length (now s) ⌝ }
     ensures { λ r. ⌜ verdictOf r ≡ chunkFault at (drop at (now (s .entry))) ⌝ }
@@ -62,16 +62,23 @@ fn chunk(s: &[u8], at: usize) -> Check
             place: at,
         };
     }
-    let m = blorb::be32_at(s, at + 4) as usize;
+    let field = at + 4;
+    let m = blorb::be32_at(s, field) as usize;
     let end = at + (8 + m);
-    if s.len() < end + m % 2 {
+    if s.len() < end {
         return Check::Refused {
-            number: 6,
-            place: at,
+            number: 28,
+            place: field,
         };
     }
     if m % 2 == 0 {
         return Check::Good;
+    }
+    if s.len() <= end {
+        return Check::Refused {
+            number: 29,
+            place: s.len(),
+        };
     }
     if s[end] == 0 {
         return Check::Good;
@@ -134,7 +141,7 @@ fn walk_along(s: &[u8], from: usize) -> usize
     at
 }
 
-// Refusals 6 and 7: the walk over the chunks from `from` on.
+// Refusals 6, 28, 29 and 7: the walk over the chunks from `from` on.
 fn walk_rest(s: &[u8], from: usize) -> Walked
     ensures { λ r. ⌜ (verdictOf (r .check) ≡ walkFrom (now (s .entry)) from) × (r .ordinary ≡ true → allOrdinary (chunksFrom (now (s .entry)) from) ≡ true) ⌝ }
 {
@@ -160,7 +167,7 @@ fn walk_rest(s: &[u8], from: usize) -> Walked
     }
 }
 
-// Refusals 6 and 7: the walk over all chunks.
+// Refusals 6, 28, 29 and 7: the walk over all chunks.
 pub(crate) fn walk(s: &[u8]) -> Walked
     ensures { λ r. ⌜ (verdictOf (r .check) ≡ walkFrom (now (s .entry)) 12) × (r .ordinary ≡ true → allOrdinary (chunksFrom (now (s .entry)) (skipAt (now (s .entry)) 12)) ≡ true) ⌝ }
 {

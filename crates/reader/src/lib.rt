@@ -114,7 +114,7 @@ fn judge_entries(file: &[u8]) -> Judgement
     }
 }
 
-// The whole table, 1 to 19.
+// The whole table: 1 to 19, 28 and 29.
 fn judge_file(file: &[u8]) -> Judgement
     ensures { λ r. ⌜ Judges r (now (file .entry)) ⌝ }
 {

@@ -1,5 +1,5 @@
--- 01's samples, proved in one table under a single statement. The rows marked with a star in 01 are all here; what the code does with
--- these files follows by its contracts, which are equations with the definitions that the rows compute.
+-- The samples of 01, and of 02's requests, proved in one table under a single statement. The rows marked with a star in 01 are all here, one of them as P1
+-- has it; what the code does with these files follows by its contracts, which are equations with the definitions that the rows compute.
 use mathlib.Core.Path.{refl}
 use Prim.Native.Nat.{ℕ}
 use mathlib.Core.List.{List, [], _∷_, _++_}
@@ -30,6 +30,10 @@ computed : ℕ
 unfolding be32 rd32 sized size chunkBytes chunksBytes total fileBytes chunkIn chunksIn chunksOf entryIn entriesIn entryBytes entriesBytes indexChunk entriesOf isStart placeOf refOf _then_ check headFault chunkFault walkFault secondIndex indexFault pairIn refFault entriesFault restFault layoutFault verdict oneOf plainAllows picture typeIn single chunkRule chunkRules optional plainVerdict base startOf entryOf file modelOf model without find uses shared start frontPlace usageOf with-at lower raise entered inserted added replaced removedBoth removedEntry removed givenChunk edited recBody recBytes removal recOf trailer recIn lastBody lastRec zeros wellFormed fits1 fits2 fits3 fits4 fits undo1 undo2 undo3 undo4 undone targetFault editedFile editRecord undoneFile editFault undoFault indexOf readOf askedOf hitIn lookupOf written noted afterEdit afterUndo after fault step run answers blanked blankFile
 computed = 0
 
+-- A less its last byte, FORM length 39
+abbrev noPadding : List ℕ
+noPadding = set (take 47 A) 7 39
+
 unfoldable pub table : List Row
 table =
     -- A: blank, then add Data 7 'TEXT' "eel"
@@ -56,9 +60,27 @@ table =
     reads (take 11 blank) (Refused 2 0) ∷ (
     reads (be32 FORM ++ (be32 4 ++ be32 IFRS)) (Refused 8 12) ∷ (
     reads blank (Accepted 24 0) ∷ (
-    -- A with padding byte 1; A less its last byte, FORM length 39
+    -- A with padding byte 1
     reads (set A 47 1) (Refused 7 47) ∷ (
-    reads (set (take 47 A) 7 39) (Refused 6 36) ∷ (
+    -- where a chunk broke off (02, P1). A less its last byte, FORM length 39
+    reads noPadding (Refused 29 47) ∷ (
+    asks noPadding 0 (NotGiven 29 47) ∷ (
+    looks noPadding Data 7 (NotFound 29 47) [] ∷ (
+    runs (record { buffer = noPadding ++ replicate 50 9; L = 47; journal = replicate 60 7; U = 0 })
+    (edit (add Pict 1 Rect sides) ∷ (edit (replace Data 7 TEXT eel) ∷ (edit (remove Data 7) ∷ (undo ∷ []))))
+    (replicate 4 (record { result = refuse 29 47; L = 47; U = 0 }))
+    (record { buffer = noPadding ++ replicate 50 9; L = 47; journal = replicate 60 7; U = 0 }) ∷ (
+    -- A less two bytes, and with 7 bytes of its chunk's header
+    reads (set (take 46 A) 7 38) (Refused 28 40) ∷ (
+    reads (set (take 43 A) 7 35) (Refused 6 36) ∷ (
+    -- A with length 5, and with 4,294,967,295
+    reads (set A 43 5) (Refused 28 40) ∷ (
+    reads (set (set (set (set A 40 255) 41 255) 42 255) 43 255) (Refused 28 40) ∷ (
+    -- B and a byte: its first chunk's data ends just at the end, with length 21, or a byte behind it, with 22
+    reads (set (set (B ++ (0 ∷ [])) 7 69) 55 21) (Refused 29 77) ∷ (
+    reads (set (set (B ++ (0 ∷ [])) 7 69) 55 22) (Refused 28 52) ∷ (
+    -- B with padding byte 1 in its first chunk and a length too large in its last
+    reads (set (set B 59 1) 67 9) (Refused 7 59) ∷ (
     -- A with start 37, or 12
     reads (set A 35 37) (Refused 13 32) ∷ (
     reads (set A 35 12) (Refused 13 32) ∷ (
@@ -79,9 +101,9 @@ table =
     runs (record { buffer = blank ++ replicate 26 9; L = 24; journal = replicate 60 7; U = 0 })
     (edit (add Data 7 TEXT eel) ∷ (edit (add Pict 1 Rect sides) ∷ (undo ∷ (undo ∷ []))))
     (record { result = accept; L = 48; U = 29 } ∷ (record { result = refuse 24 0; L = 48; U = 29 } ∷ (record { result = accept; L = 24; U = 0 } ∷ (record { result = refuse 26 0; L = 24; U = 0 } ∷ []))))
-    (record { buffer = blank ++ (replicate 24 0 ++ (9 ∷ (9 ∷ []))); L = 24; journal = addedEel ++ replicate 31 7; U = 0 }) ∷ []))))))))))))))))))))))))))))))
+    (record { buffer = blank ++ (replicate 24 0 ++ (9 ∷ (9 ∷ []))); L = 24; journal = addedEel ++ replicate 31 7; U = 0 }) ∷ []))))))))))))))))))))))))))))))))))))))))
 
 pub samples : All RowHolds table
 unfolding computed table
 samples =
-    ((refl, refl, refl), (refl, ((refl, refl, refl), (refl, (refl, (refl, ((refl, refl), ((refl, refl, refl), (refl, (refl, ((refl, refl), ((refl, refl, refl), (refl, (refl, ((refl, refl), (refl, (refl, (refl, (refl, (refl, (refl, (refl, (refl, (refl, (refl, ((refl, refl), ((refl, refl), ((refl, refl), (refl, (refl, ((refl, refl), tt)))))))))))))))))))))))))))))))
+    ((refl, refl, refl), (refl, ((refl, refl, refl), (refl, (refl, (refl, ((refl, refl), ((refl, refl, refl), (refl, (refl, ((refl, refl), ((refl, refl, refl), (refl, (refl, ((refl, refl), (refl, (refl, (refl, (refl, (refl, (refl, ((refl, refl), ((refl, refl), (refl, (refl, (refl, (refl, (refl, (refl, (refl, (refl, (refl, (refl, (refl, (refl, ((refl, refl), ((refl, refl), ((refl, refl), (refl, (refl, ((refl, refl), tt)))))))))))))))))))))))))))))))))))))))))

@@ -3,6 +3,19 @@
 use super::{a_picture, data, unknown_usage, unsuited, Draft, DraftEntry, Layout, Rng, Start, Stated};
 use crate::reference::{Refusal, Tag};
 
+/// The file's refusals in the order in which they are looked for, but 1, which is built elsewhere since it takes a file of 16 MB.
+pub const ORDER: [u64; 20] = [2, 3, 4, 5, 6, 28, 29, 7, 8, 9, 10, 11, 12, 13, 14, 15, 16, 17, 18, 19];
+
+/// A refusal's place in that order.
+fn turn(number: u64) -> usize {
+    ORDER.iter().position(|&other| other == number).unwrap()
+}
+
+/// The refusal looked for next, but for the last.
+pub fn next_in_order(number: u64) -> Option<u64> {
+    ORDER.get(turn(number) + 1).copied()
+}
+
 /// A fault that was put into a draft, and so the refusal it must give unless an earlier reason decides.
 #[derive(Clone, Copy, Debug)]
 enum Mark {
@@ -11,8 +24,12 @@ enum Mark {
         number: u64,
         place: usize,
     },
-    Cut(usize),
+    /// 6: a chunk's header cut, or some bytes behind the last chunk.
+    Header(usize),
     Tail,
+    /// 28, 29 and 7 of a chunk.
+    Length(usize),
+    Unpadded(usize),
     Padding(usize),
     SecondIndex,
     Entry {
@@ -31,17 +48,19 @@ enum Mark {
     },
 }
 
-/// What decides between faults: the stage of checking, the position within it, the number.
-type Order = (u64, usize, u64);
+/// What decides between faults: the stage of checking, the position within it, the number's turn.
+type Order = (u64, usize, usize);
 
 impl Mark {
     fn resolve(self, draft: &Draft, layout: &Layout) -> Option<(Order, Refusal)> {
         let at = |rank: u64, position: usize, number: u64, place: usize| {
-            Some(((rank, position, number), Refusal { number, place: place as u64 }))
+            Some(((rank, position, turn(number)), Refusal { number, place: place as u64 }))
         };
         match self {
             Mark::Fixed { number, place } => at(number, 0, number, place),
-            Mark::Cut(id) => layout.start_of(id).and_then(|start| at(6, start, 6, start)),
+            Mark::Header(id) => layout.start_of(id).and_then(|start| at(6, start, 6, start)),
+            Mark::Length(id) => layout.start_of(id).and_then(|start| at(6, start, 28, start + 4)),
+            Mark::Unpadded(id) => layout.start_of(id).and_then(|start| at(6, start, 29, layout.bytes.len())),
             Mark::Tail => {
                 let start = layout.bytes.len() - draft.tail.len();
                 at(6, start, 6, start)
@@ -85,7 +104,7 @@ pub struct Built {
 /// decides anyway.
 pub fn faulty(rng: &mut Rng, mut draft: Draft, numbers: &[u64]) -> Built {
     let mut numbers = numbers.to_vec();
-    numbers.sort();
+    numbers.sort_by_key(|&number| turn(number));
     let mut marks = Vec::new();
     for number in numbers.into_iter().rev() {
         marks.extend(inject(rng, &mut draft, number));
@@ -96,11 +115,12 @@ pub fn faulty(rng: &mut Rng, mut draft: Draft, numbers: &[u64]) -> Built {
     Built { file: layout.bytes, refusal, faults: resolved.len() }
 }
 
-/// Refusal 1 is built elsewhere, since it takes a file of 16 MB.
 fn inject(rng: &mut Rng, draft: &mut Draft, number: u64) -> Option<Mark> {
     match number {
         2..=5 => Some(inject_head(rng, draft, number)),
-        6 => Some(inject_cut(rng, draft)),
+        6 => inject_cut_header(rng, draft),
+        28 => inject_length(rng, draft),
+        29 => inject_unpadded(rng, draft),
         7 => Some(inject_padding(rng, draft)),
         8..=11 => Some(inject_index(rng, draft, number)),
         12 | 13 | 15 => inject_entry(rng, draft, number),
@@ -127,31 +147,68 @@ fn inject_head(rng: &mut Rng, draft: &mut Draft, number: u64) -> Mark {
     Mark::Fixed { number, place }
 }
 
-fn inject_cut(rng: &mut Rng, draft: &mut Draft) -> Mark {
+/// Whether the last chunk is one of the draft's and nothing was done to the file's end yet.
+fn end_is_free(draft: &Draft) -> bool {
+    !draft.bare && draft.index_at < draft.chunks.len() && draft.tail.is_empty() && draft.cut == 0
+}
+
+/// Bytes of the last chunk, padding included.
+fn last_size(draft: &Draft) -> usize {
+    draft.chunks.last().map_or(0, |last| 8 + last.data.len() + last.data.len() % 2)
+}
+
+/// 6: one to seven bytes behind the last chunk, or no more left of it.
+fn inject_cut_header(rng: &mut Rng, draft: &mut Draft) -> Option<Mark> {
+    if !draft.tail.is_empty() || draft.cut > 0 {
+        return None;
+    }
+    let length = rng.between(1, 7);
+    if end_is_free(draft) && rng.chance(50) {
+        draft.cut = last_size(draft) - length;
+        return Some(Mark::Header(draft.chunks.last()?.id));
+    }
+    draft.tail = if rng.chance(50) { vec![0; length] } else { rng.bytes(length) };
+    Some(Mark::Tail)
+}
+
+/// 28: a length that is too large by one to three or by far, or the last chunk's data cut.
+fn inject_length(rng: &mut Rng, draft: &mut Draft) -> Option<Mark> {
+    if draft.bare {
+        return None;
+    }
     if draft.chunks.is_empty() {
         draft.insert_chunk(0, *b"AUTH", b"Emily".to_vec());
     }
-    let cut_at_end = draft.bare || draft.index_at > 0;
-    match if cut_at_end { 0 } else { rng.below(3) } {
-        0 => {
-            let length = rng.between(1, 7);
-            draft.tail = if rng.chance(50) { vec![0; length] } else { rng.bytes(length) };
-            Mark::Tail
-        }
-        1 => {
-            let last = draft.chunks.last().unwrap();
-            let size = 8 + last.data.len() + last.data.len() % 2;
-            draft.cut = if rng.chance(40) { 1 } else { rng.between(1, size - 1) };
-            Mark::Cut(last.id)
-        }
-        _ => {
-            let i = rng.below(draft.chunks.len());
-            let huge = rng.pick(&[u32::MAX, u32::MAX - 7, u32::MAX - 8, 1 << 31, u32::MAX - 19, 1 << 24]);
-            let past = Stated::PastEnd(rng.between(1, 3));
-            draft.chunks[i].stated = Some(if rng.chance(50) { Stated::Fixed(huge) } else { past });
-            Mark::Cut(draft.chunks[i].id)
-        }
+    let last = draft.chunks.last()?;
+    if end_is_free(draft) && !last.data.is_empty() && rng.chance(40) {
+        let cut = if rng.chance(40) { 1 } else { rng.between(1, last.data.len()) };
+        let id = last.id;
+        draft.cut = last.data.len() % 2 + cut;
+        return Some(Mark::Length(id));
     }
+    let i = rng.below(draft.chunks.len());
+    let huge = rng.pick(&[u32::MAX, u32::MAX - 7, u32::MAX - 8, 1 << 31, u32::MAX - 19, 1 << 24]);
+    let past = Stated::PastEnd(rng.between(1, 3));
+    draft.chunks[i].stated = Some(if rng.chance(50) { Stated::Fixed(huge) } else { past });
+    Some(Mark::Length(draft.chunks[i].id))
+}
+
+/// 29: the last chunk of odd length without its padding, or a chunk whose length is all that an odd file has behind its header.
+fn inject_unpadded(rng: &mut Rng, draft: &mut Draft) -> Option<Mark> {
+    if draft.bare || !draft.tail.is_empty() || draft.cut > 0 {
+        return None;
+    }
+    if !draft.chunks.is_empty() && rng.chance(40) {
+        let i = rng.below(draft.chunks.len());
+        draft.chunks[i].stated = Some(Stated::PastEnd(0));
+        draft.tail = rng.bytes(1);
+        return Some(Mark::Unpadded(draft.chunks[i].id));
+    }
+    if !end_is_free(draft) || last_size(draft) == 8 + draft.chunks.last()?.data.len() {
+        draft.insert_chunk(draft.chunks.len(), *b"ANNO", b"odd".to_vec());
+    }
+    draft.cut = 1;
+    Some(Mark::Unpadded(draft.chunks.last()?.id))
 }
 
 fn inject_padding(rng: &mut Rng, draft: &mut Draft) -> Mark {
