@@ -2,7 +2,8 @@
  * blorb.h: the C interface of the Blorb library.
  *
  * A Blorb file is one IFF file with the pictures, sounds, data and code of a text adventure. These calls read it, look a
- * resource up, edit it in place, and take edits back.
+ * resource up, edit it in place, and take edits back. docs/RULES.md of the library's source says what a file must keep and what each
+ * call makes of it.
  *
  * What is promised of every call, for all bytes, lengths and numbers that can be given to it:
  *
@@ -14,18 +15,22 @@
  *     back are those given.
  *   - No byte outside the lent buffers is read or written.
  *
- * These promises are proved of the library's code. That this header declares that code is not proved but tested (host/test); it is
- * written for 64-bit machines, where size_t has 64 bits. The promises rest on what the caller lends:
+ * These promises are proved of the library's code. That this header declares that code is not proved but tested (host/test). The library
+ * is made for x86-64 only, and the header for machines where size_t has 64 bits. The promises rest on what the caller lends:
  *
  *   - A pointer and the size_t that follows it name one array of that many bytes, which nothing else writes during the call. A
  *     pointer may be null where its size is 0 (this is tested, not proved).
  *   - Buffers that a call may write (no const) overlap no other buffer of the same call.
  *   - `usage` and `type` point at four bytes, such as "Pict" or "TEXT". No closing zero is needed.
  *
- * Every call judges the whole file first, each time: in one pass where the entries stand in the order of their chunks with rising
- * numbers; where they do not, the time grows with the square of their number. To go through an index, call blorb_read once: in an
- * accepted file entry i stands at 24 + BLORB_ENTRY_SIZE * i, as usage, number and start of its chunk, each of four bytes, the first
- * one highest.
+ * Every call but blorb_blank judges the whole file first, each time. It looks at no data, so the time does not depend on the size of the
+ * resources. It is proportional to entries + chunks where the entries stand in the order of their chunks and the numbers of each usage
+ * rise. In another order it can grow to entries * (entries + chunks): tens of milliseconds for 4,096 entries in reverse order over as
+ * many chunks, and 26 seconds over the two million empty chunks that a file has room for. An edit besides moves the bytes behind
+ * what it changes, once.
+ *
+ * To go through an index, call blorb_read once: in an accepted file entry i stands at 24 + BLORB_ENTRY_SIZE * i, as usage, number and
+ * start of its chunk, each of four bytes, the first one highest.
  *
  * Answers come back by value, so there is no result area that could be too small. Each call below lists its refusals in the order
  * in which they are looked for. The archive needs nothing but memmove and memset.

@@ -4,14 +4,20 @@
 
 #include <stdint.h>
 
-/* What the user asked for; what a command does not take stays zero. */
+/* What the user asked for; what a command does not take or was not given stays zero. */
 typedef struct request {
     const char *file;
     char usage[4];
     uint32_t number;
     char type[4];
-    const char *data; /* the path of the data, "-" for standard input */
-    const char *out;  /* where `get` writes; null or "-" for standard output */
+    const char *data;   /* the path of the data, "-" for standard input */
+    uint32_t edits;     /* how many `undo` takes back */
+    const char *out;    /* where `get` writes; null or "-" for standard output */
+    const char *folder; /* where `get --all` writes */
+    int as_is;          /* data that contradicts its type is taken */
+    int no_undo;        /* no journal is kept */
+    int json;
+    int detailed;       /* list --long */
 } request;
 
 int run_list(const request *r);
@@ -22,5 +28,7 @@ int run_add(const request *r);
 int run_replace(const request *r);
 int run_remove(const request *r);
 int run_undo(const request *r);
+int run_history(const request *r);
+int run_forget(const request *r);
 
 #endif

@@ -27,22 +27,47 @@ entry entry_at(const uint8_t *file, size_t i)
     return e;
 }
 
-/* A refusal of an entry names it, and its chunk's type where that is the reason. */
-static int refused_contents(const contents *c, const char *shown)
+const char *type_at(const uint8_t *file, uint32_t start)
 {
-    char about[120] = "", pair[PAIR_SIZE], type[SHOWN_SIZE];
+    return (const char *)file + start;
+}
+
+bytes data_at(const uint8_t *file, uint32_t start)
+{
+    return (bytes){file + start + BLORB_HEADER_SIZE, number_in(file + start + 4)};
+}
+
+/* A refusal of an entry names it, and its chunk's type where that is the reason. */
+enum { ABOUT_SIZE = 120 };
+static void tell_entry(const contents *c, char about[ABOUT_SIZE])
+{
+    char pair[PAIR_SIZE], type[SHOWN_SIZE];
     uint64_t number = c->read.refusal;
+    about[0] = '\0';
     if (number >= BLORB_USAGE && number <= BLORB_REPEATED) {
         size_t i = (size_t)(c->read.place - FIRST_ENTRY) / BLORB_ENTRY_SIZE;
         entry e = entry_at(c->file, i);
         show_pair(e.usage, e.number, pair);
-        int n = snprintf(about, sizeof about, "entry %zu, %s, start %" PRIu32, i, pair, e.start);
+        int n = snprintf(about, ABOUT_SIZE, "entry %zu, %s, start %" PRIu32, i, pair, e.start);
         if (number == BLORB_TYPE) {
-            show_tag((const char *)c->file + e.start, type);
-            snprintf(about + n, sizeof about - (size_t)n, ", chunk %s", type);
+            show_tag(type_at(c->file, e.start), type);
+            snprintf(about + n, ABOUT_SIZE - (size_t)n, ", chunk %s", type);
         }
     }
-    return say_refused(shown, number, c->read.place, about);
+}
+
+int say_refused_contents(const contents *c, const char *shown)
+{
+    char about[ABOUT_SIZE];
+    tell_entry(c, about);
+    return say_refused(shown, c->read.refusal, c->read.place, about, NULL);
+}
+
+int say_reason(const contents *c, const char *shown)
+{
+    char about[ABOUT_SIZE];
+    tell_entry(c, about);
+    return say_meaning(shown, c->read.refusal, about);
 }
 
 int load_contents(contents *c, const char *shown, int fd)
@@ -60,7 +85,13 @@ int load_contents(contents *c, const char *shown, int fd)
     if (status != CARRIED_OUT)
         return status;
     c->read = blorb_read(c->file, c->length);
-    return c->read.refusal == BLORB_DONE ? CARRIED_OUT : refused_contents(c, shown);
+    return c->read.refusal == BLORB_DONE ? CARRIED_OUT : REFUSED;
+}
+
+int load_accepted(contents *c, const char *shown, int fd)
+{
+    int status = load_contents(c, shown, fd);
+    return status == REFUSED ? say_refused_contents(c, shown) : status;
 }
 
 void free_contents(contents *c)
@@ -68,13 +99,7 @@ void free_contents(contents *c)
     free(c->file);
 }
 
-static int is_whole_aiff(const data *d)
-{
-    return d->length >= 12 && memcmp(d->at, "FORM", 4) == 0 && memcmp(d->at + 8, "AIFF", 4) == 0
-        && number_in(d->at + 4) == d->length - BLORB_HEADER_SIZE;
-}
-
-int load_data(data *d, const char *path, const char type[4])
+int load_data(data *d, const char *path)
 {
     /* Longer data makes the file too long, and so does its beginning of this length. */
     size_t limit = BLORB_MAX_SIZE + BLORB_HEADER_SIZE + 1;
@@ -83,14 +108,20 @@ int load_data(data *d, const char *path, const char type[4])
     *d = (data){0};
     if (fd < 0)
         return say_failed(path, "the data cannot be opened");
-    d->at = d->room = malloc(limit);
-    int done = d->room == NULL ? -1 : read_all(fd, d->room, limit, &d->length);
+    d->whole.at = d->room = malloc(limit);
+    int done = d->room == NULL ? -1 : read_all(fd, d->room, limit, &d->whole.length);
     int status = done == 0 ? CARRIED_OUT : say_failed(input ? "standard input" : path, "the data cannot be read");
     if (!input)
         close(fd);
-    if (status == CARRIED_OUT && memcmp(type, "FORM", 4) == 0 && is_whole_aiff(d)) {
-        d->at += BLORB_HEADER_SIZE;
-        d->length -= BLORB_HEADER_SIZE;
-    }
+    d->held = d->whole;
     return status;
+}
+
+void hold_as(data *d, const char type[4])
+{
+    bytes all = d->whole;
+    int is_aiff = all.length >= 12 && memcmp(all.at, "FORM", 4) == 0 && memcmp(all.at + 8, "AIFF", 4) == 0;
+    d->held = all;
+    if (memcmp(type, "FORM", 4) == 0 && is_aiff && number_in(all.at + 4) == all.length - BLORB_HEADER_SIZE)
+        d->held = (bytes){all.at + BLORB_HEADER_SIZE, all.length - BLORB_HEADER_SIZE};
 }

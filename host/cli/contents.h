@@ -7,6 +7,7 @@
 #include <sys/stat.h>
 
 #include "blorb.h"
+#include "files.h"
 
 typedef struct contents {
     uint8_t *file; /* room for every file that the library takes, and one byte more */
@@ -15,8 +16,15 @@ typedef struct contents {
     blorb_read_answer read;
 } contents;
 
-/* Reads an open file and closes it; says what is wrong with it. Gives the exit status. `c` is to be freed in any case. */
+/* Reads an open file, closes it and judges it. What fails is said. Gives the exit status. `c` is to be freed in any case. */
 int load_contents(contents *c, const char *shown, int fd);
+
+/* Says why the library refused the file, with number and place or without. Gives REFUSED. */
+int say_refused_contents(const contents *c, const char *shown);
+int say_reason(const contents *c, const char *shown);
+
+/* Both, for commands that need an accepted file. */
+int load_accepted(contents *c, const char *shown, int fd);
 void free_contents(contents *c);
 
 typedef struct entry {
@@ -31,16 +39,23 @@ entry entry_at(const uint8_t *file, size_t i);
 /* The four bytes as a number. */
 uint32_t number_in(const uint8_t *at);
 
+/* The chunk that begins at `start` in an accepted file: its four bytes of type, and its data. */
+const char *type_at(const uint8_t *file, uint32_t start);
+bytes data_at(const uint8_t *file, uint32_t start);
+
 typedef struct data {
     uint8_t *room; /* to be freed */
-    const uint8_t *at;
-    size_t length;
+    bytes whole;   /* as it was read */
+    bytes held;    /* as the chunk holds it */
 } data;
 
+/* Reads the data of a resource; "-" is standard input. Gives the exit status. */
+int load_data(data *d, const char *path);
+
 /*
- * Reads the data of a resource; "-" is standard input. The file of an AIFF sound is a FORM chunk itself, so its eight bytes of
- * header become the chunk's own. Gives the exit status.
+ * Sets what a chunk of this type holds of the data. The file of an AIFF sound is a FORM chunk itself, so its eight bytes of header
+ * become the chunk's own.
  */
-int load_data(data *d, const char *path, const char type[4]);
+void hold_as(data *d, const char type[4]);
 
 #endif

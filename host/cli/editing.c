@@ -1,4 +1,4 @@
-/* new, add, replace, remove and undo: the commands that write a Blorb file and its journal. */
+/* add, replace, remove and undo: the commands that change a Blorb file and its journal. */
 #define _XOPEN_SOURCE 700
 #include <errno.h>
 #include <fcntl.h>
@@ -13,122 +13,172 @@
 #include "commands.h"
 #include "contents.h"
 #include "files.h"
+#include "journals.h"
+#include "kinds.h"
 #include "undo_file.h"
+#include "undo_store.h"
 #include "words.h"
 
-/* One of the four calls of the library, on these contents and this journal. */
-typedef blorb_edit_answer call(const request *r, contents *c, journal *j, size_t used, const data *d);
+/* One edit of the library on these contents. Its record goes to `room`, which is large enough: no older one is needed there. */
+typedef blorb_edit_answer call(const request *r, contents *c, uint8_t *room, size_t size, bytes held);
 
-static blorb_edit_answer call_add(const request *r, contents *c, journal *j, size_t used, const data *d)
+static blorb_edit_answer call_add(const request *r, contents *c, uint8_t *room, size_t size, bytes held)
 {
-    return blorb_add(c->file, BLORB_MAX_SIZE, c->length, j->records, j->room, used, r->usage, r->number, r->type, d->at,
-                     d->length);
+    return blorb_add(c->file, BLORB_MAX_SIZE, c->length, room, size, 0, r->usage, r->number, r->type, held.at, held.length);
 }
 
-static blorb_edit_answer call_replace(const request *r, contents *c, journal *j, size_t used, const data *d)
+static blorb_edit_answer call_replace(const request *r, contents *c, uint8_t *room, size_t size, bytes held)
 {
-    return blorb_replace(c->file, BLORB_MAX_SIZE, c->length, j->records, j->room, used, r->usage, r->number, r->type, d->at,
-                         d->length);
+    return blorb_replace(c->file, BLORB_MAX_SIZE, c->length, room, size, 0, r->usage, r->number, r->type, held.at, held.length);
 }
 
-static blorb_edit_answer call_remove(const request *r, contents *c, journal *j, size_t used, const data *d)
+static blorb_edit_answer call_remove(const request *r, contents *c, uint8_t *room, size_t size, bytes held)
 {
-    (void)d;
-    return blorb_remove(c->file, BLORB_MAX_SIZE, c->length, j->records, j->room, used, r->usage, r->number);
+    (void)held;
+    return blorb_remove(c->file, BLORB_MAX_SIZE, c->length, room, size, 0, r->usage, r->number);
 }
 
-static blorb_edit_answer call_undo(const request *r, contents *c, journal *j, size_t used, const data *d)
+static int refused_edit(const request *r, const blorb_edit_answer *a, const data *d)
 {
-    (void)r;
-    (void)d;
-    return blorb_undo(c->file, BLORB_MAX_SIZE, c->length, j->records, j->room, used);
-}
-
-static int refused_edit(const request *r, const blorb_edit_answer *a)
-{
-    char about[80] = "", pair[PAIR_SIZE], type[SHOWN_SIZE];
+    char about[80], advice[ADVICE_SIZE], pair[PAIR_SIZE], type[SHOWN_SIZE];
     show_pair(r->usage, r->number, pair);
     show_tag(r->type, type);
-    if (r->data != NULL)
-        snprintf(about, sizeof about, "%s %s", pair, type);
-    else if (r->usage[0] != '\0')
-        snprintf(about, sizeof about, "%s", pair);
-    return say_refused(r->file, a->refusal, a->place, about);
+    snprintf(about, sizeof about, d != NULL ? "%s %s" : "%s", pair, type);
+    int sound = d != NULL && a->refusal == BLORB_RESULT_TYPE && memcmp(r->usage, "Snd ", 4) == 0
+        && memcmp(r->type, "FORM", 4) == 0 && aiff_advice(d->whole, advice);
+    return say_refused(r->file, a->refusal, a->place, about, sound ? advice : NULL);
 }
 
-/* A journal that is not this file's is never overwritten, and never undone. */
-static int unusable_journal(const request *r, const place *p, journal_answer answer, int undoing)
+/* Data that is not what its type stands for is only put in where the user says so. */
+static int refused_data(const request *r, const data *d)
 {
-    char about[PATH_MAX + 128];
-    const char *why = answer == JOURNAL_DAMAGED ? "is damaged, or no journal of this program"
-                                                : "is not this file's, which another program has changed or replaced";
-    if (answer == JOURNAL_FAILED && errno == ELOOP)
-        return say_cannot(p->undo_path, "a symbolic link is in the journal's place",
-                          "Move it away, or put the journal itself there.");
-    if (answer == JOURNAL_FAILED)
-        return say_failed(p->undo_path, "the journal cannot be read");
-    snprintf(about, sizeof about, "the journal %s %s", p->undo_path, why);
-    return undoing ? say_refused(r->file, BLORB_RECORD, 0, about) : say_cannot(r->file, about, OTHER_JOURNAL);
+    char why[WHY_SIZE];
+    if (d == NULL || r->as_is || !contradicts(r->type, d->held, why))
+        return CARRIED_OUT;
+    return say_cannot(strcmp(r->data, "-") == 0 ? "standard input" : r->data, why,
+                      "Check the name and TYPE; TYPE can be left out where the data tells it. --as-is puts the data in as it is.");
 }
 
-static int store(const request *r, const place *p, const contents *c, journal *j, const file_state *before,
-                 const file_state *after)
-{
-    in_place answer = store_pair(p, &c->status, c->file, j, before, after);
-    return say_stored(r->file, answer, "the file is as it was, since the new one cannot be written");
-}
-
-static int edit_contents(const request *r, const place *p, contents *c, call *carry_out, const data *d)
-{
+/* A file that is being edited. */
+typedef struct editing {
+    const request *r;
+    place p;
+    contents c;
     journal j;
-    int status;
-    file_state before = state_of(c->file, c->length, 0);
-    journal_answer found = load_journal(p, &before, &j);
-    if (found != JOURNAL_READY) {
-        status = unusable_journal(r, p, found, carry_out == call_undo);
-    } else {
-        blorb_edit_answer a = carry_out(r, c, &j, (size_t)before.used, d);
-        if (a.refusal != BLORB_DONE) {
-            status = refused_edit(r, &a);
-        } else {
-            file_state after = state_of(c->file, (size_t)a.length, (size_t)a.used);
-            status = store(r, p, c, &j, &before, &after);
-        }
-    }
-    free(j.bytes);
+    journal_answer found; /* READY, or with --no-undo whatever it is */
+} editing;
+
+/* Opened for writing too, so that a file which the user may not change is left alone. */
+static int load_to_edit(editing *e)
+{
+    struct stat status;
+    const char *file = e->r->file;
+    if (fstatat(e->p.folder, e->p.name, &status, 0) == 0 && !S_ISREG(status.st_mode))
+        return say_cannot(file, "this is not a plain file", "Copy what it holds to a plain file and edit that.");
+    int fd = openat(e->p.folder, e->p.name, O_RDWR | O_CLOEXEC);
+    if (fd < 0 && errno == ENOENT)
+        return say_cannot(file, "there is no such file", "Check the name; `blorb new` makes a file with no resources.");
+    return load_accepted(&e->c, file, fd);
+}
+
+/* Gives the exit status where the file cannot be edited. `end` is to be called in any case. */
+static int begin(editing *e, const request *r, int undoing)
+{
+    *e = (editing){.r = r, .p = {.folder = -1}, .j = {.fd = -1}};
+    if (open_place(&e->p, r->file) != 0)
+        return say_failed(r->file, "the file cannot be reached");
+    int status = load_to_edit(e);
+    if (status != CARRIED_OUT)
+        return status;
+    file_id present = id_of(e->c.file, e->c.length);
+    e->found = load_journal(&e->p, &present, &e->j);
+    if (e->found != JOURNAL_READY && !r->no_undo)
+        return say_unusable(r->file, &e->p, e->found, undoing);
+    return CARRIED_OUT;
+}
+
+static int end(editing *e, int status)
+{
+    close_journal(&e->j);
+    free_contents(&e->c);
+    close_place(&e->p);
     return status;
 }
 
-/* Opened for writing too, so that a file which the user may not change is left alone. */
-static int load_to_edit(const request *r, const place *p, contents *c)
+static bytes new_file(const editing *e)
 {
-    struct stat status;
-    if (fstatat(p->folder, p->name, &status, 0) == 0 && !S_ISREG(status.st_mode))
-        return say_cannot(r->file, "this is not a plain file", "Copy what it holds to a plain file and edit that.");
-    int fd = openat(p->folder, p->name, O_RDWR | O_CLOEXEC);
-    if (fd < 0 && errno == ENOENT)
-        return say_cannot(r->file, "there is no such file", "Check the name; `blorb new` makes a file with no resources.");
-    return load_contents(c, r->file, fd);
+    return (bytes){e->c.file, e->c.length};
+}
+
+/* Without a journal. One that knows the present file would not know the new one. */
+static int store_alone(editing *e)
+{
+    if (e->found == JOURNAL_READY && e->j.now.edits > 0)
+        return say_cannot(e->r->file, "after an edit with --no-undo the earlier edits could not be undone any more",
+                          "Leave --no-undo out, or give undoing up first with `blorb forget FILE`.");
+    in_place answer = replace_file(&e->p, new_file(e), &e->c.status);
+    if (answer == NEW_IN_PLACE && e->found == JOURNAL_READY)
+        discard(&e->p, e->p.undo);
+    return say_edited(e->r->file, answer);
+}
+
+static int edit_contents(editing *e, call *carry_out, const data *d, uint8_t *room, size_t size)
+{
+    blorb_edit_answer a = carry_out(e->r, &e->c, room, size, d != NULL ? d->held : (bytes){0});
+    int status = a.refusal != BLORB_DONE ? refused_edit(e->r, &a, d) : refused_data(e->r, d);
+    if (status != CARRIED_OUT)
+        return status;
+    e->c.length = (size_t)a.length;
+    if (e->r->no_undo)
+        return store_alone(e);
+    file_id id = id_of(e->c.file, e->c.length);
+    step s = edit_step(&e->j, room, (size_t)a.used, &id);
+    return say_edited(e->r->file, store_pair(&e->p, &e->c.status, new_file(e), &e->j, &s));
 }
 
 static int edit(const request *r, call *carry_out, const data *d)
 {
-    place p;
-    contents c = {0};
-    int status = open_place(&p, r->file) == 0 ? load_to_edit(r, &p, &c) : say_failed(r->file, "the file cannot be reached");
-    if (status == CARRIED_OUT)
-        status = edit_contents(r, &p, &c, carry_out, d);
-    free_contents(&c);
-    close_place(&p);
-    return status;
+    editing e;
+    int status = begin(&e, r, 0);
+    if (status == CARRIED_OUT) {
+        size_t size = BLORB_RECORD_SIZE + e.c.length;
+        uint8_t *room = malloc(size + STATE_SIZE);
+        status = room == NULL ? say_failed(r->file, "the file cannot be edited") : edit_contents(&e, carry_out, d, room, size);
+        free(room);
+    }
+    return end(&e, status);
 }
 
-static int edit_with_data(const request *r, call *carry_out)
+/* Where TYPE is left out, the data has to tell it. */
+static int settle_type(request *r, const data *d)
+{
+    char why[WHY_SIZE];
+    if (r->type[0] != '\0')
+        return CARRIED_OUT;
+    const char *told = type_told(r->usage, d->whole);
+    const kind *k = kind_of(d->whole);
+    if (told != NULL) {
+        memcpy(r->type, told, sizeof r->type);
+        return CARRIED_OUT;
+    }
+    snprintf(why, sizeof why, "TYPE is left out, and the data does not tell it%s%s", k != NULL ? ": it is " : "",
+             k != NULL ? k->what : "");
+    return say_cannot(strcmp(r->data, "-") == 0 ? "standard input" : r->data, why, "Give TYPE in front of DATAFILE. " TYPES);
+}
+
+static int edit_with_data(const request *asked, call *carry_out)
 {
     data d;
-    int status = load_data(&d, r->data, r->type);
+    request r = *asked;
+    if (r.type[0] == '\0' && strcmp(r.data, "-") != 0 && access(r.data, F_OK) != 0 && errno == ENOENT)
+        return say_cannot(r.data, "there is no such data file", "Check the name. If this is the TYPE, DATAFILE is missing.");
+    int status = load_data(&d, r.data);
     if (status == CARRIED_OUT)
-        status = edit(r, carry_out, &d);
+        status = settle_type(&r, &d);
+    if (status == CARRIED_OUT) {
+        hold_as(&d, r.type);
+        status = edit(&r, carry_out, &d);
+    }
     free(d.room);
     return status;
 }
@@ -148,44 +198,54 @@ int run_remove(const request *r)
     return edit(r, call_remove, NULL);
 }
 
+/* Takes one edit back in memory, and moves on to the state below it. */
+static int undo_one(editing *e, state *at)
+{
+    uint8_t *record = NULL;
+    state below = {0};
+    journal_answer found = JOURNAL_READY;
+    if (at->edits > 0)
+        found = load_record(&e->j, at, &record);
+    if (at->edits > 0 && found == JOURNAL_READY)
+        found = load_below(&e->j, at, &below);
+    int status = found == JOURNAL_READY ? CARRIED_OUT : say_unusable(e->r->file, &e->p, found, 1);
+    if (status == CARRIED_OUT) {
+        size_t length = (size_t)at->record_length;
+        blorb_edit_answer a = blorb_undo(e->c.file, BLORB_MAX_SIZE, e->c.length, record, length, length);
+        if (a.refusal != BLORB_DONE)
+            status = say_refused(e->r->file, a.refusal, a.place, "", NULL);
+        e->c.length = (size_t)a.length;
+        *at = below;
+    }
+    free(record);
+    return status;
+}
+
+/* All of them or none. */
+static int undo_contents(editing *e)
+{
+    char about[80];
+    uint8_t room[STATE_SIZE];
+    state at = e->j.now;
+    int status = CARRIED_OUT;
+    if (at.edits > 0 && at.edits < e->r->edits) {
+        snprintf(about, sizeof about, "only %" PRIu64 " edits are there to be taken back, not %" PRIu32, at.edits, e->r->edits);
+        return say_refused(e->r->file, BLORB_NOTHING_TO_UNDO, 0, about, "`blorb history FILE` lists what can be undone.");
+    }
+    for (uint32_t i = 0; i < e->r->edits && status == CARRIED_OUT; i++)
+        status = undo_one(e, &at);
+    if (status != CARRIED_OUT)
+        return status;
+    file_id id = id_of(e->c.file, e->c.length);
+    if (at.file.length != 0 && !same_file(&at.file, &id))
+        return say_unusable(e->r->file, &e->p, JOURNAL_DAMAGED, 1);
+    step s = undo_step(&e->j, room, &at, &id);
+    return say_edited(e->r->file, store_pair(&e->p, &e->c.status, new_file(e), &e->j, &s));
+}
+
 int run_undo(const request *r)
 {
-    return edit(r, call_undo, NULL);
-}
-
-static int is_there(const place *p, const char *name)
-{
-    struct stat status;
-    return fstatat(p->folder, name, &status, AT_SYMLINK_NOFOLLOW) == 0;
-}
-
-/* A file that no edit could be made to is of no use. Sets errno where not. */
-static int has_room_for_names(const place *p)
-{
-    long longest = fpathconf(p->folder, _PC_NAME_MAX);
-    errno = ENAMETOOLONG;
-    return longest < 0 || strlen(p->undo_temp) <= (size_t)longest;
-}
-
-/* No file is overwritten, and no journal of an older file of this name is taken for the new one's. */
-static int make_new(const request *r, const place *p)
-{
-    const char *advice = "Move it away or delete it first, or give another name.";
-    uint8_t blank[BLORB_BLANK_SIZE];
-    if (is_there(p, p->name))
-        return say_cannot(r->file, "this name is taken", advice);
-    if (is_there(p, p->undo))
-        return say_cannot(p->undo_path, "the journal of an older file of this name is still there", advice);
-    if (!has_room_for_names(p))
-        return say_failed(r->file, "edits would find no name for the journal");
-    blorb_edit_answer a = blorb_blank(blank, sizeof blank);
-    return say_stored(r->file, make_file(p, blank, (size_t)a.length), "the file cannot be written");
-}
-
-int run_new(const request *r)
-{
-    place p;
-    int status = open_place(&p, r->file) == 0 ? make_new(r, &p) : say_failed(r->file, "the file cannot be reached");
-    close_place(&p);
-    return status;
+    editing e;
+    int status = begin(&e, r, 1);
+    return end(&e, status == CARRIED_OUT ? undo_contents(&e) : status);
 }

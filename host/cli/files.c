@@ -7,7 +7,16 @@
 #include <stdlib.h>
 #include <string.h>
 #include <sys/file.h>
+#include <time.h>
 #include <unistd.h>
+
+#include "words.h"
+
+/* The program's own names end so. A new kind of file beside FILE gets its ending here. */
+#define TEMPORARY ".blorb-temp"
+#define JOURNAL ".undo"
+enum { PRIVATE = 0600 }; /* a temporary file's permissions until it gets the file's */
+static const char *const own_endings[] = {TEMPORARY, JOURNAL};
 
 static char *joined(const char *a, const char *b)
 {
@@ -44,11 +53,33 @@ static char *resolved(const char *path)
     return whole;
 }
 
+static int ends_in(const char *path, const char *ending)
+{
+    size_t length = strlen(path), more = strlen(ending);
+    return length >= more && strcmp(path + length - more, ending) == 0;
+}
+
+int is_temporary(const char *path)
+{
+    return ends_in(path, TEMPORARY);
+}
+
+const char *own_ending(const char *path)
+{
+    const char *found = NULL;
+    char *real = resolved(path);
+    for (size_t i = 0; i < sizeof own_endings / sizeof *own_endings; i++)
+        if (ends_in(path, own_endings[i]) || (real != NULL && ends_in(real, own_endings[i])))
+            found = own_endings[i];
+    free(real);
+    return found;
+}
+
 int is_undo_of(const char *path, const char *file)
 {
     char *one = resolved(path);
     char *other = resolved(file);
-    char *undo = other == NULL ? NULL : joined(other, ".undo");
+    char *undo = other == NULL ? NULL : joined(other, JOURNAL);
     int same = one != NULL && undo != NULL && strcmp(one, undo) == 0;
     free(one);
     free(other);
@@ -59,17 +90,30 @@ int is_undo_of(const char *path, const char *file)
 static int set_names(place *p, const char *path)
 {
     const char *name = strrchr(path, '/') + 1;
-    p->undo_path = joined(path, ".undo");
+    p->undo_path = joined(path, JOURNAL);
     p->name = joined(name, "");
-    p->temp = joined(name, ".blorb-temp");
-    p->undo = joined(name, ".undo");
-    p->undo_temp = joined(name, ".undo.blorb-temp");
+    p->temp = joined(name, TEMPORARY);
+    p->undo = joined(name, JOURNAL);
+    p->undo_temp = joined(name, JOURNAL TEMPORARY);
     return p->undo_path != NULL && p->name != NULL && p->temp != NULL && p->undo != NULL && p->undo_temp != NULL ? 0 : -1;
 }
 
 /* One lock for the folder: the file itself is another one after each edit. It ends with the program. */
-static int lock(int folder)
+static int lock(int folder, const char *path)
 {
+    enum { TRIES = 20 };
+    const struct timespec pause = {.tv_nsec = 50 * 1000 * 1000};
+    for (int i = 0; i < TRIES; i++) {
+        if (flock(folder, LOCK_EX | LOCK_NB) == 0)
+            return 0;
+        if (errno != EWOULDBLOCK && errno != EINTR) {
+            errno = ENOLCK;
+            return -1;
+        }
+        nanosleep(&pause, NULL);
+    }
+    /* Whoever has waited for a second wants to know what for. */
+    say_waiting(path);
     int done;
     do
         done = flock(folder, LOCK_EX);
@@ -90,7 +134,7 @@ int open_place(place *p, const char *path)
         char *slash = strrchr(real, '/');
         slash[slash == real ? 1 : 0] = '\0';
         p->folder = open(real, O_RDONLY | O_DIRECTORY | O_CLOEXEC);
-        done = p->folder < 0 ? -1 : lock(p->folder);
+        done = p->folder < 0 ? -1 : lock(p->folder, path);
     }
     free(real);
     return done;
@@ -136,24 +180,40 @@ int write_all(int fd, const uint8_t *from, size_t length)
     return 0;
 }
 
-/* Without its group, the group's permissions are given to no other one. */
+/*
+ * Without its group, the group's permissions are given to no other one. A file system without owners and modes of its own, as a
+ * card's, gives every file the same ones and takes no others: more permissions than the file was made with tell it.
+ */
 static int make_like(int fd, const struct stat *like)
 {
+    struct stat now;
     if (like == NULL)
         return 0;
+    if (fstat(fd, &now) != 0)
+        return -1;
     mode_t mode = like->st_mode & 0777;
-    if (fchown(fd, like->st_uid, like->st_gid) != 0 && fchown(fd, (uid_t)-1, like->st_gid) != 0)
+    int same_owner = now.st_uid == like->st_uid && now.st_gid == like->st_gid;
+    if (!same_owner && fchown(fd, like->st_uid, like->st_gid) != 0 && fchown(fd, (uid_t)-1, like->st_gid) != 0)
         mode &= ~(mode_t)S_IRWXG;
-    return fchmod(fd, mode);
+    int given = (now.st_mode & 0777 & ~(mode_t)PRIVATE) != 0;
+    return (now.st_mode & 0777) == mode || fchmod(fd, mode) == 0 || given ? 0 : -1;
 }
 
-int stage(const place *p, const char *temp, const uint8_t *from, size_t length, const struct stat *like)
+static int write_parts(int fd, const bytes *parts, size_t count)
+{
+    int done = 0;
+    for (size_t i = 0; i < count && done == 0; i++)
+        done = write_all(fd, parts[i].at, parts[i].length);
+    return done;
+}
+
+int stage(const place *p, const char *temp, const bytes *parts, size_t count, const struct stat *like)
 {
     unlinkat(p->folder, temp, 0);
-    int fd = openat(p->folder, temp, O_WRONLY | O_CREAT | O_EXCL | O_CLOEXEC, like == NULL ? 0666 : 0600);
+    int fd = openat(p->folder, temp, O_WRONLY | O_CREAT | O_EXCL | O_CLOEXEC, like == NULL ? 0666 : PRIVATE);
     if (fd < 0)
         return -1;
-    int done = write_all(fd, from, length);
+    int done = write_parts(fd, parts, count);
     if (done == 0)
         done = make_like(fd, like);
     if (done == 0)
@@ -174,10 +234,26 @@ int install(const place *p, const char *temp, const char *name)
     return renameat(p->folder, temp, p->folder, name);
 }
 
+/* Some file systems have no such call for folders and keep the order of renames by themselves. */
+static int sync_folder(int fd)
+{
+    return fsync(fd) == 0 || errno == EINVAL ? 0 : -1;
+}
+
 int confirm(const place *p)
 {
-    /* Some file systems have no such call for folders and keep the order of renames by themselves. */
-    return fsync(p->folder) == 0 || errno == EINVAL ? 0 : -1;
+    return sync_folder(p->folder);
+}
+
+int confirm_folder(const char *path)
+{
+    int fd = open(path, O_RDONLY | O_DIRECTORY | O_CLOEXEC);
+    int done = fd < 0 ? -1 : sync_folder(fd);
+    int error = errno;
+    if (fd >= 0)
+        close(fd);
+    errno = error;
+    return done;
 }
 
 /* As `install`, where no file has the name: one that another program has made meanwhile is not overwritten. */
@@ -188,30 +264,39 @@ static int install_new(const place *p, const char *temp, const char *name)
         return 0;
     }
     /* Some file systems have no hard links. */
-    return errno == EPERM || errno == ENOTSUP ? install(p, temp, name) : -1;
+    return errno == EPERM || errno == ENOTSUP || errno == ENOSYS ? install(p, temp, name) : -1;
 }
 
 typedef int naming(const place *p, const char *temp, const char *name);
 
-static in_place write_file(const place *p, const uint8_t *from, size_t length, const struct stat *like, naming *give_name)
+static in_place write_file(const place *p, bytes new_file, const struct stat *like, naming *give_name)
 {
-    if (stage(p, p->temp, from, length, like) != 0)
+    if (stage(p, p->temp, &new_file, 1, like) != 0)
         return OLD_IN_PLACE;
-    if (give_name(p, p->temp, p->name) != 0) {
-        discard(p, p->temp);
-        return OLD_IN_PLACE;
-    }
-    return confirm(p) == 0 ? NEW_IN_PLACE : NEW_UNCONFIRMED;
+    if (give_name(p, p->temp, p->name) == 0)
+        return NEW_IN_PLACE;
+    discard(p, p->temp);
+    return OLD_IN_PLACE;
 }
 
-in_place make_file(const place *p, const uint8_t *from, size_t length)
+static in_place confirmed(const place *p, in_place answer)
 {
-    return write_file(p, from, length, NULL, install_new);
+    return answer == NEW_IN_PLACE && confirm(p) != 0 ? NEW_UNCONFIRMED : answer;
 }
 
-in_place replace_file(const place *p, const uint8_t *from, size_t length, const struct stat *like)
+in_place make_file(const place *p, bytes new_file)
 {
-    return write_file(p, from, length, like, install);
+    return confirmed(p, write_file(p, new_file, NULL, install_new));
+}
+
+in_place replace_file(const place *p, bytes new_file, const struct stat *like)
+{
+    return confirmed(p, replace_one_of(p, new_file, like));
+}
+
+in_place replace_one_of(const place *p, bytes new_file, const struct stat *like)
+{
+    return write_file(p, new_file, like, install);
 }
 
 void discard(const place *p, const char *name)

@@ -19,6 +19,17 @@ typedef struct place {
     char *undo_path;   /* FILE.undo with its folder, for messages */
 } place;
 
+typedef struct bytes {
+    const uint8_t *at;
+    size_t length;
+} bytes;
+
+/* The ending that makes this path one of the program's own names, by itself or where its links lead; or null. */
+const char *own_ending(const char *path);
+
+/* Whether the path ends in the ending of a temporary file: such a file may go at any time. */
+int is_temporary(const char *path);
+
 /* All of these give 0, or -1 and errno. */
 
 /* Follows symbolic links; where the file is not there, its folder must be. Waits for the lock. */
@@ -34,10 +45,10 @@ int read_all(int fd, uint8_t *to, size_t limit, size_t *length);
 int write_all(int fd, const uint8_t *from, size_t length);
 
 /*
- * Writes a file under its temporary name, with the permissions and where permitted the owner of `like`, or those of a new file
- * where `like` is null. What an interrupted run has left under that name gives way. On failure nothing is left.
+ * Writes a file of these parts under its temporary name, with the permissions and where permitted the owner of `like`, or those
+ * of a new file where `like` is null. What an interrupted run has left under that name gives way. On failure nothing is left.
  */
-int stage(const place *p, const char *temp, const uint8_t *from, size_t length, const struct stat *like);
+int stage(const place *p, const char *temp, const bytes *parts, size_t count, const struct stat *like);
 
 /* Gives a staged file its name. The disk has confirmed it only after `confirm`. */
 int install(const place *p, const char *temp, const char *name);
@@ -46,11 +57,16 @@ int confirm(const place *p);
 /* Which file is in place after writing. The last two set errno: no new one; the new one, but the disk has not confirmed it. */
 typedef enum in_place { NEW_IN_PLACE, OLD_IN_PLACE, NEW_UNCONFIRMED } in_place;
 
-/* All three for one file by itself; `make_file` overwrites none (EEXIST). */
-in_place make_file(const place *p, const uint8_t *from, size_t length);
-in_place replace_file(const place *p, const uint8_t *from, size_t length, const struct stat *like);
+/*
+ * All three for one file by itself. `make_file` overwrites none (EEXIST). `replace_one_of` is for many files in one folder: the disk has
+ * confirmed their names only after `confirm_folder`.
+ */
+in_place make_file(const place *p, bytes new_file);
+in_place replace_file(const place *p, bytes new_file, const struct stat *like);
+in_place replace_one_of(const place *p, bytes new_file, const struct stat *like);
+int confirm_folder(const char *path);
 
-/* Removes a name, if it is there. */
+/* Removes a name, if it is there. Keeps errno. */
 void discard(const place *p, const char *name);
 
 #endif

@@ -8,40 +8,79 @@
 #include <unistd.h>
 
 #include "commands.h"
+#include "files.h"
 #include "words.h"
+
+#ifndef BLORB_VERSION
+#define BLORB_VERSION "1.0"
+#endif
 
 typedef struct command {
     const char *name;
-    const char *operands; /* in order: f FILE, u USAGE, n NUMBER, t TYPE, d DATAFILE; then o where -o OUT is taken */
+    const char *operands; /* in order, by the letters of `operands` below; one in capitals may be left out */
+    const char *options;  /* by the letters of `options` below */
     const char *usage;
     const char *help;
     int (*run)(const request *r);
 } command;
 
 static const command commands[] = {
-    {"list", "f", "list FILE", "print the file's length and its resources, in the order of the index", run_list},
-    {"check", "f", "check FILE", "say whether the file keeps every rule, or which one it breaks and where", run_check},
-    {"get", "funo", "get FILE USAGE NUMBER [-o OUT]", "write a resource's data to OUT; without it, or with -, to standard output",
-     run_get},
-    {"new", "f", "new FILE", "make a file with no resources", run_new},
-    {"add", "funtd", "add FILE USAGE NUMBER TYPE DATAFILE", "add a resource with the data of DATAFILE; - is standard input",
-     run_add},
-    {"replace", "funtd", "replace FILE USAGE NUMBER TYPE DATAFILE", "give a resource another type and other data", run_replace},
-    {"remove", "fun", "remove FILE USAGE NUMBER", "remove a resource", run_remove},
-    {"undo", "f", "undo FILE", "take back the last add, replace or remove that is not taken back yet", run_undo},
+    {"list", "f", "jl", "list FILE [--long | --json]",
+     "print the file's length and its resources, in the order of the index; --long and --json print all that is known", run_list},
+    {"check", "f", "", "check FILE",
+     "say whether the file keeps every rule, or which one it breaks and where; warn of what is likely to be wrong", run_check},
+    {"get", "fun", "oa", "get FILE USAGE NUMBER [-o OUT], or get FILE --all FOLDER",
+     "write a resource's data to OUT; without it, or with -, to standard output; --all writes every resource to FOLDER", run_get},
+    {"new", "f", "", "new FILE", "make a file with no resources", run_new},
+    {"add", "funTd", "sn", "add FILE USAGE NUMBER [TYPE] DATAFILE [--as-is] [--no-undo]",
+     "add a resource with the data of DATAFILE; - is standard input", run_add},
+    {"replace", "funTd", "sn", "replace FILE USAGE NUMBER [TYPE] DATAFILE [--as-is] [--no-undo]",
+     "give a resource another type and other data", run_replace},
+    {"remove", "fun", "n", "remove FILE USAGE NUMBER [--no-undo]", "remove a resource", run_remove},
+    {"undo", "fE", "", "undo FILE [N]", "take back the last edit, or the last N, that are not taken back yet", run_undo},
+    {"history", "f", "", "history FILE", "list the edits that undo can take back, the last one first", run_history},
+    {"forget", "f", "", "forget FILE", "drop the journal FILE.undo, and with it all undoing up to here", run_forget},
 };
 
 enum { COMMANDS = sizeof commands / sizeof *commands };
+
+/* What stands behind a command, by a letter. */
+typedef struct operand {
+    char letter;
+    const char *name;
+} operand;
+
+static const operand operands[] = {{'f', "FILE"}, {'u', "USAGE"}, {'n', "NUMBER"}, {'t', "TYPE"}, {'d', "DATAFILE"}, {'e', "N"}};
+
+typedef struct option {
+    char letter;
+    const char *name;
+    int takes_name;
+} option;
+
+static const option options[] = {
+    {'o', "-o", 1}, {'a', "--all", 1}, {'s', "--as-is", 0}, {'n', "--no-undo", 0}, {'j', "--json", 0}, {'l', "--long", 0},
+};
 
 static void print_help(void)
 {
     puts("blorb: look into Blorb files, and change them with undo\n");
     for (int i = 0; i < COMMANDS; i++)
         printf("  blorb %s\n      %s\n", commands[i].usage, commands[i].help);
-    puts("\nUSAGE is Pict, Snd, Data or Exec; NUMBER is 0 to 4294967295; TYPE is four letters. Spaces at the end of a usage\n"
-         "or type can be left out: Snd, PNG, MOD.\n  " TYPES "\n"
-         "What undo needs is kept beside the file, in FILE.undo. Delete it to give up undoing.\n"
-         "Exit status: 0 done; 1 the library refused, with its number, place and reason; 2 wrong use, or the system failed.");
+    puts("  blorb help [COMMAND], blorb --version\n\n"
+         "USAGE is Pict, Snd, Data or Exec; NUMBER is 0 to 4294967295; TYPE is four letters. Spaces at the end of a usage\n"
+         "or type can be left out: Snd, PNG, MOD. So can TYPE, where the first bytes of the data tell it.\n  " TYPES "\n"
+         "  --as-is    put the data in although its first bytes contradict TYPE\n"
+         "  --no-undo  keep nothing for undo\n"
+         "  --         what follows are names, also where they begin with -\n"
+         "What undo needs is kept beside the file, in FILE.undo. Names that end in .undo or .blorb-temp are the program's own.\n"
+         "Exit status: 0 done; 1 the library refused, with its number, place and reason; 2 wrong use, data that contradicts TYPE,\n"
+         "or the system failed.");
+}
+
+static void print_help_of(const command *c)
+{
+    printf("usage: blorb %s\n  %s\n", c->usage, c->help);
 }
 
 static int misused(const command *c, const char *why, const char *what)
@@ -81,9 +120,9 @@ static int read_number(const char *text, uint32_t *number)
 }
 
 /* One operand; gives what it should have been where it is wrong. */
-static const char *read_operand(char kind, const char *text, request *r)
+static const char *read_operand(char letter, const char *text, request *r)
 {
-    switch (kind) {
+    switch (letter) {
     case 'f':
         r->file = text;
         return NULL;
@@ -93,55 +132,195 @@ static const char *read_operand(char kind, const char *text, request *r)
         return read_number(text, &r->number) == 0 ? NULL : "a number is 0 to 4294967295, in digits";
     case 't':
         return read_tag(text, r->type) == 0 ? NULL : "a type has one to four letters";
+    case 'e':
+        return read_number(text, &r->edits) == 0 && r->edits > 0 ? NULL : "N is how many edits to take back, from 1, in digits";
     default:
         r->data = text;
         return NULL;
     }
 }
 
-static int run_command(const command *c, int count, char **words)
+/* Gives 0, or -1 where the option has been given its name before. */
+static int set_option(char letter, const char *name, request *r)
 {
-    request r = {0};
-    const char *next = c->operands;
-    for (int i = 0; i < count; i++) {
-        if (strcmp(words[i], "--help") == 0) {
-            printf("usage: blorb %s\n  %s\n", c->usage, c->help);
-            return CARRIED_OUT;
-        }
-        if (strcmp(words[i], "-o") == 0 && strchr(c->operands, 'o') != NULL) {
-            if (i + 1 == count || r.out != NULL)
-                return misused(c, "-o takes one name", "");
-            r.out = words[++i];
-            continue;
-        }
-        if (*next == '\0' || *next == 'o')
-            return misused(c, "too much", words[i]);
-        const char *wrong = read_operand(*next++, words[i], &r);
-        if (wrong != NULL)
-            return misused(c, wrong, words[i]);
+    int given_before = (letter == 'o' && r->out != NULL) || (letter == 'a' && r->folder != NULL);
+    switch (letter) {
+    case 'o':
+        r->out = name;
+        break;
+    case 'a':
+        r->folder = name;
+        break;
+    case 's':
+        r->as_is = 1;
+        break;
+    case 'n':
+        r->no_undo = 1;
+        break;
+    case 'j':
+        r->json = 1;
+        break;
+    default:
+        r->detailed = 1;
     }
-    if (*next != '\0' && *next != 'o')
-        return misused(c, "something is missing", "");
-    return c->run(&r);
+    return given_before ? -1 : 0;
 }
 
-static int run(int count, char **words)
+static const option *find_option(const command *c, const char *word)
+{
+    for (size_t i = 0; i < sizeof options / sizeof *options; i++)
+        if (strchr(c->options, options[i].letter) != NULL && strcmp(options[i].name, word) == 0)
+            return &options[i];
+    return NULL;
+}
+
+/* The words behind a command without its options. */
+enum { MOST = 6 };
+typedef struct words {
+    const char *at[MOST];
+    size_t count;
+} words;
+
+/* Takes the options out. A word that looks like one and is none may be a slip: behind -- it is a name. */
+static int take_options(const command *c, int count, char **given, request *r, words *left)
+{
+    int names_only = 0;
+    for (int i = 0; i < count; i++) {
+        const option *o = names_only ? NULL : find_option(c, given[i]);
+        if (o != NULL) {
+            const char *name = o->takes_name && i + 1 < count ? given[++i] : NULL;
+            if ((o->takes_name && name == NULL) || set_option(o->letter, name, r) != 0)
+                return misused(c, "this option takes one name, once", o->name);
+        } else if (!names_only && strcmp(given[i], "--") == 0) {
+            names_only = 1;
+        } else if (!names_only && strncmp(given[i], "--", 2) == 0 && strcmp(given[i], "--help") != 0) {
+            return misused(c, "there is no such option; put -- in front of a name that begins so", given[i]);
+        } else if (left->count == MOST) {
+            return misused(c, "too much", given[i]);
+        } else {
+            left->at[left->count++] = given[i];
+        }
+    }
+    return CARRIED_OUT;
+}
+
+static const char *name_of_operand(char letter)
+{
+    for (size_t i = 0; i < sizeof operands / sizeof *operands; i++)
+        if (operands[i].letter == letter)
+            return operands[i].name;
+    return "";
+}
+
+static int may_be_left_out(char letter)
+{
+    return letter >= 'A' && letter <= 'Z';
+}
+
+/* What a command needs from here on, by name. */
+static int say_missing(const command *c, const char *wanted)
+{
+    char names[80] = "";
+    size_t length = 0, count = 0;
+    for (const char *l = wanted; *l != '\0'; l++)
+        if (!may_be_left_out(*l)) {
+            length += (size_t)snprintf(names + length, sizeof names - length, "%s%s", count > 0 ? ", " : "", name_of_operand(*l));
+            count++;
+        }
+    return misused(c, "missing", names);
+}
+
+/* Hands the words to the operands in order. Where there are too few, TYPE and N are left out. */
+static int read_operands(const command *c, const char *wanted, const words *left, request *r)
+{
+    size_t spare = left->count, next = 0;
+    for (const char *l = wanted; *l != '\0'; l++)
+        spare -= !may_be_left_out(*l) && spare > 0;
+    for (const char *l = wanted; *l != '\0'; l++) {
+        int optional = may_be_left_out(*l);
+        if (optional && spare == 0)
+            continue;
+        if (next == left->count)
+            return say_missing(c, l);
+        const char *wrong = read_operand(optional ? (char)(*l - 'A' + 'a') : *l, left->at[next], r);
+        if (wrong != NULL)
+            return misused(c, wrong, left->at[next]);
+        spare -= (size_t)optional;
+        next++;
+    }
+    return next == left->count ? CARRIED_OUT : misused(c, "too much", left->at[next]);
+}
+
+/* A file of such a name is the program's own: edits of the file beside it write, add to and delete it. */
+static int refuse_own_names(const request *r)
+{
+    if (own_ending(r->file) != NULL)
+        return say_cannot(r->file, "names that end in .undo or .blorb-temp are this program's own, for the journal of a file and for"
+                          " what is being written", "Give the name of the Blorb file itself; if this is one, rename it.");
+    if (r->data != NULL && is_temporary(r->data))
+        return say_cannot(r->data, "names that end in .blorb-temp are this program's own, and the next edit may delete such a file",
+                          "Rename it first.");
+    return CARRIED_OUT;
+}
+
+static int is_help(const char *word)
+{
+    return strcmp(word, "--help") == 0 || strcmp(word, "-h") == 0;
+}
+
+static int run_command(const command *c, int count, char **given)
+{
+    request r = {.edits = 1};
+    words left = {.count = 0};
+    if (count > 0 && is_help(given[0])) {
+        print_help_of(c);
+        return CARRIED_OUT;
+    }
+    int status = take_options(c, count, given, &r, &left);
+    if (status == CARRIED_OUT && r.json && r.detailed)
+        status = misused(c, "either --long or --json", "");
+    if (status == CARRIED_OUT && r.folder != NULL && r.out != NULL)
+        status = misused(c, "either -o OUT or --all FOLDER", "");
+    if (status == CARRIED_OUT)
+        status = read_operands(c, r.folder != NULL ? "f" : c->operands, &left, &r);
+    if (status == CARRIED_OUT)
+        status = refuse_own_names(&r);
+    return status == CARRIED_OUT ? c->run(&r) : status;
+}
+
+static const command *find_command(const char *name)
+{
+    for (int i = 0; i < COMMANDS; i++)
+        if (strcmp(name, commands[i].name) == 0)
+            return &commands[i];
+    fputs("blorb: there is no command ", stderr);
+    say_safely(name);
+    fputs(". `blorb --help` lists them.\n", stderr);
+    return NULL;
+}
+
+static int run(int count, char **given)
 {
     if (count == 0) {
         fputs("blorb: no command given. `blorb --help` lists them.\n", stderr);
         return FAILED;
     }
-    if (strcmp(words[0], "--help") == 0 || strcmp(words[0], "help") == 0) {
+    int helping = is_help(given[0]) || strcmp(given[0], "help") == 0;
+    if (strcmp(given[0], "--version") == 0) {
+        puts("blorb " BLORB_VERSION ", for Blorb 2.0.4");
+        return CARRIED_OUT;
+    }
+    if (helping && count == 1) {
         print_help();
         return CARRIED_OUT;
     }
-    for (int i = 0; i < COMMANDS; i++)
-        if (strcmp(words[0], commands[i].name) == 0)
-            return run_command(&commands[i], count - 1, words + 1);
-    fputs("blorb: there is no command ", stderr);
-    say_safely(words[0]);
-    fputs(". `blorb --help` lists them.\n", stderr);
-    return FAILED;
+    const command *c = find_command(given[helping ? 1 : 0]);
+    if (c == NULL)
+        return FAILED;
+    if (!helping)
+        return run_command(c, count - 1, given + 1);
+    print_help_of(c);
+    return CARRIED_OUT;
 }
 
 /* A standard stream that is closed stays unusable, and no file of the program's takes its place. */
@@ -163,12 +342,12 @@ static int close_output(void)
     return lost != 0 ? -1 : 0;
 }
 
-int main(int count, char **words)
+int main(int count, char **given)
 {
     hold_streams();
     /* A limit on file sizes is then a failed write like any other, and cleaned up after. */
     signal(SIGXFSZ, SIG_IGN);
-    int status = run(count > 0 ? count - 1 : 0, words + 1);
+    int status = run(count > 0 ? count - 1 : 0, given + 1);
     if (close_output() != 0)
         return say_output_failed("the text cannot be written");
     return status;

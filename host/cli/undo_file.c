@@ -8,83 +8,235 @@
 #include <unistd.h>
 
 #include "blorb.h"
+#include "contents.h"
 
-enum { NAME_SIZE = 8, STATE_SIZE = 16 + SHA256_SIZE, HEAD_SIZE = NAME_SIZE + 2 * STATE_SIZE };
+/* The head: a name, the version, the profile of the file's types (only 0 is known), and four bytes for later. */
+enum { NAME_SIZE = 7, VERSION_AT = 7, VERSION_1 = '1', VERSION_2 = '2' };
 
-static const char format_name[] = "BLORBUN1";
+static const uint8_t plain_head[JOURNAL_HEAD_SIZE] = "BLORBUN2";
 
-file_state state_of(const uint8_t *file, size_t length, size_t used)
+/* A state begins so; a record begins with its kind. */
+static const uint8_t state_name[8] = "STATE";
+enum { SEAL_AT = STATE_SIZE - SHA256_SIZE, RECORD_FIRST = 25, LENGTH_AT = 21, LAST_KIND = 31 };
+
+file_id id_of(const uint8_t *file, size_t length)
 {
-    file_state s = {.used = used, .length = length};
-    sha256(file, length, s.hash);
-    return s;
+    file_id id = {.length = length};
+    sha256(file, length, id.hash);
+    return id;
 }
 
-static void put_number(uint8_t *to, uint64_t n)
-{
-    for (int i = 0; i < 8; i++)
-        to[i] = (uint8_t)(n >> (56 - 8 * i));
-}
-
-static uint64_t number_at(const uint8_t *from)
-{
-    uint64_t n = 0;
-    for (int i = 0; i < 8; i++)
-        n = n << 8 | from[i];
-    return n;
-}
-
-static void put_state(uint8_t *to, const file_state *s)
-{
-    put_number(to, s->used);
-    put_number(to + 8, s->length);
-    memcpy(to + 16, s->hash, SHA256_SIZE);
-}
-
-static file_state state_at(const uint8_t *from)
-{
-    file_state s = {.used = number_at(from), .length = number_at(from + 8)};
-    memcpy(s.hash, from + 16, SHA256_SIZE);
-    return s;
-}
-
-static int same_file(const file_state *a, const file_state *b)
+int same_file(const file_id *a, const file_id *b)
 {
     return a->length == b->length && memcmp(a->hash, b->hash, SHA256_SIZE) == 0;
 }
 
-/* Room for a FILE.undo of `size` bytes and one more record: its old data is no longer than the file. */
-static int make_room(journal *j, size_t size, uint64_t file_length)
+uint64_t long_number_in(const uint8_t *from)
 {
-    size_t more = BLORB_RECORD_SIZE + (size_t)file_length;
-    j->bytes = malloc(HEAD_SIZE + size + more + SHA256_SIZE);
-    if (j->bytes == NULL)
-        return -1;
-    j->records = j->bytes + HEAD_SIZE;
-    j->room = size + more;
-    return 0;
+    return (uint64_t)number_in(from) << 32 | number_in(from + 4);
 }
 
-/* Is this a whole FILE.undo, and which of its two files is the present one? */
-static journal_answer judge(const uint8_t *bytes, size_t size, file_state *present)
+static uint8_t *put_number(uint8_t *to, uint64_t n)
+{
+    for (int i = 0; i < 8; i++)
+        to[i] = (uint8_t)(n >> (56 - 8 * i));
+    return to + 8;
+}
+
+static uint8_t *put_bytes(uint8_t *to, const uint8_t *from, size_t length)
+{
+    memcpy(to, from, length);
+    return to + length;
+}
+
+/* The head is sealed with every state: a journal under another head is another one. */
+static void make_seal(const journal *j, const uint8_t *state_bytes, uint8_t seal[SHA256_SIZE])
+{
+    uint8_t sealed[JOURNAL_HEAD_SIZE + SEAL_AT];
+    put_bytes(put_bytes(sealed, j->head, JOURNAL_HEAD_SIZE), state_bytes, SEAL_AT);
+    sha256(sealed, sizeof sealed, seal);
+}
+
+void put_state(const journal *j, const state *s, uint8_t to[STATE_SIZE])
+{
+    uint8_t *at = put_bytes(to, state_name, sizeof state_name);
+    at = put_number(at, s->at);
+    at = put_number(at, s->before);
+    at = put_number(at, s->below);
+    at = put_number(at, s->edits);
+    at = put_number(at, s->record_at);
+    at = put_number(at, s->record_length);
+    at = put_bytes(at, s->record_hash, SHA256_SIZE);
+    at = put_number(at, s->file.length);
+    at = put_bytes(at, s->file.hash, SHA256_SIZE);
+    make_seal(j, to, at);
+}
+
+static state state_in(const uint8_t *from)
+{
+    state s = {.at = long_number_in(from + 8), .before = long_number_in(from + 16), .below = long_number_in(from + 24),
+               .edits = long_number_in(from + 32), .record_at = long_number_in(from + 40),
+               .record_length = long_number_in(from + 48), .file = {.length = long_number_in(from + 88)}};
+    memcpy(s.record_hash, from + 56, SHA256_SIZE);
+    memcpy(s.file.hash, from + 96, SHA256_SIZE);
+    return s;
+}
+
+/* Bytes of the journal; JOURNAL_DAMAGED where it ends before them. */
+static journal_answer fetch(const journal *j, uint64_t at, uint8_t *to, size_t length)
+{
+    size_t got = 0;
+    if (at > j->size || length > j->size - at)
+        return JOURNAL_DAMAGED;
+    if (j->whole != NULL) {
+        memcpy(to, j->whole + at, length);
+        return JOURNAL_READY;
+    }
+    if (lseek(j->fd, (off_t)at, SEEK_SET) < 0 || read_all(j->fd, to, length, &got) != 0)
+        return JOURNAL_FAILED;
+    return got == length ? JOURNAL_READY : JOURNAL_DAMAGED;
+}
+
+/* What a sealed state says of itself is true, or it was not written by this program. */
+static int makes_sense(const state *s, uint64_t at)
+{
+    if (s->at != at || s->before >= at)
+        return 0;
+    if (s->edits == 0)
+        return s->below == 0 && s->record_length == 0;
+    return s->below >= JOURNAL_HEAD_SIZE && s->below < at && s->record_at < at && s->record_length >= BLORB_RECORD_SIZE
+        && s->record_length <= BLORB_RECORD_SIZE + BLORB_MAX_SIZE;
+}
+
+static journal_answer load_state(const journal *j, uint64_t at, state *s)
+{
+    uint8_t held[STATE_SIZE], seal[SHA256_SIZE];
+    journal_answer answer = fetch(j, at, held, sizeof held);
+    if (answer != JOURNAL_READY)
+        return answer;
+    make_seal(j, held, seal);
+    *s = state_in(held);
+    int right = memcmp(held, state_name, sizeof state_name) == 0 && memcmp(held + SEAL_AT, seal, sizeof seal) == 0;
+    return right && makes_sense(s, at) ? JOURNAL_READY : JOURNAL_DAMAGED;
+}
+
+uint64_t record_length_in(const uint8_t *first)
+{
+    return first[0] >= 1 && first[0] <= LAST_KIND ? BLORB_RECORD_SIZE + (uint64_t)number_in(first + LENGTH_AT) : 0;
+}
+
+/* The last whole state, from the first one on: where the end of the journal is none, since the program was ended adding to it. */
+static journal_answer walk_to_last(const journal *j, state *last)
+{
+    journal_answer found = JOURNAL_DAMAGED;
+    uint64_t at = JOURNAL_HEAD_SIZE;
+    for (;;) {
+        state next;
+        uint8_t first[RECORD_FIRST];
+        journal_answer answer = fetch(j, at, first, sizeof first);
+        if (answer == JOURNAL_READY)
+            answer = load_state(j, at + record_length_in(first), &next);
+        if (answer == JOURNAL_FAILED)
+            return answer;
+        if (answer != JOURNAL_READY)
+            return found;
+        *last = next;
+        found = JOURNAL_READY;
+        at = next.at + STATE_SIZE;
+    }
+}
+
+static journal_answer load_last(const journal *j, state *last)
+{
+    journal_answer answer = JOURNAL_DAMAGED;
+    if (j->size >= JOURNAL_HEAD_SIZE + STATE_SIZE)
+        answer = load_state(j, j->size - STATE_SIZE, last);
+    return answer == JOURNAL_DAMAGED ? walk_to_last(j, last) : answer;
+}
+
+/*
+ * The state of the present file: the last one or the one before it. Where both name it, the last call put the same bytes in
+ * again; after a power loss its state may be there without its record, and then that call was not carried out.
+ */
+static journal_answer find_present(journal *j, const file_id *present)
+{
+    state last, before;
+    uint8_t *record = NULL;
+    journal_answer answer = load_last(j, &last);
+    if (answer != JOURNAL_READY)
+        return answer;
+    int torn = last.at + STATE_SIZE != j->size;
+    int is_last = same_file(&last.file, present);
+    int is_before = last.before != 0 && load_state(j, last.before, &before) == JOURNAL_READY && same_file(&before.file, present);
+    if (is_last && is_before) {
+        is_last = load_record(j, &last, &record) == JOURNAL_READY;
+        free(record);
+    }
+    if (!is_last && !is_before)
+        return torn ? JOURNAL_DAMAGED : JOURNAL_NOT_ITS;
+    j->now = is_last ? last : before;
+    j->end = j->now.at + STATE_SIZE;
+    return JOURNAL_READY;
+}
+
+journal_answer load_record(const journal *j, const state *s, uint8_t **record)
 {
     uint8_t hash[SHA256_SIZE];
-    if (size < HEAD_SIZE + SHA256_SIZE || memcmp(bytes, format_name, NAME_SIZE) != 0)
-        return JOURNAL_DAMAGED;
-    sha256(bytes, size - SHA256_SIZE, hash);
-    if (memcmp(hash, bytes + size - SHA256_SIZE, SHA256_SIZE) != 0)
-        return JOURNAL_DAMAGED;
-    file_state before = state_at(bytes + NAME_SIZE);
-    file_state after = state_at(bytes + NAME_SIZE + STATE_SIZE);
-    size_t records = size - HEAD_SIZE - SHA256_SIZE;
-    if (before.used > records || after.used > records)
-        return JOURNAL_DAMAGED;
-    if (same_file(present, &after))
-        present->used = after.used;
-    else if (same_file(present, &before))
-        present->used = before.used;
-    else
-        return JOURNAL_NOT_ITS;
+    size_t length = (size_t)s->record_length;
+    *record = malloc(length + 1);
+    if (*record == NULL)
+        return JOURNAL_FAILED;
+    journal_answer answer = fetch(j, s->record_at, *record, length);
+    if (answer == JOURNAL_READY && length > 0) {
+        sha256(*record, length, hash);
+        answer = memcmp(hash, s->record_hash, sizeof hash) == 0 ? JOURNAL_READY : JOURNAL_DAMAGED;
+    }
+    return answer;
+}
+
+journal_answer load_below(const journal *j, const state *s, state *below)
+{
+    journal_answer answer = load_state(j, s->below, below);
+    return answer == JOURNAL_READY && below->edits + 1 != s->edits ? JOURNAL_DAMAGED : answer;
+}
+
+/* Room for the head, a first state and each record with its state. */
+static journal_answer make_room(journal *j, const uint8_t *records, size_t used)
+{
+    uint64_t size = JOURNAL_HEAD_SIZE + STATE_SIZE;
+    for (size_t at = 0; at < used;) {
+        uint64_t length = used - at < BLORB_RECORD_SIZE ? 0 : record_length_in(records + at);
+        if (length == 0 || length > used - at)
+            return JOURNAL_DAMAGED;
+        size += length + STATE_SIZE;
+        at += (size_t)length;
+    }
+    j->size = j->end = size;
+    j->whole = malloc((size_t)size);
+    return j->whole != NULL ? JOURNAL_READY : JOURNAL_FAILED;
+}
+
+journal_answer begin_journal(journal *j, const file_id *present, const uint8_t *records, size_t used)
+{
+    journal_answer answer = make_room(j, records, used);
+    if (answer != JOURNAL_READY)
+        return answer;
+    memcpy(j->head, plain_head, JOURNAL_HEAD_SIZE);
+    memcpy(j->whole, plain_head, JOURNAL_HEAD_SIZE);
+    state s = {.at = JOURNAL_HEAD_SIZE};
+    for (size_t at = 0; at < used; at += (size_t)s.record_length) {
+        put_state(j, &s, j->whole + s.at);
+        s.before = s.below = s.at;
+        s.edits++;
+        s.record_at = s.at + STATE_SIZE;
+        s.record_length = record_length_in(records + at);
+        memcpy(j->whole + s.record_at, records + at, (size_t)s.record_length);
+        sha256(records + at, (size_t)s.record_length, s.record_hash);
+        s.at = s.record_at + s.record_length;
+    }
+    s.file = *present;
+    put_state(j, &s, j->whole + s.at);
+    j->now = s;
     return JOURNAL_READY;
 }
 
@@ -94,79 +246,53 @@ int is_journal(int fd)
     uint8_t name[NAME_SIZE];
     size_t length;
     return fstat(fd, &status) == 0 && S_ISREG(status.st_mode) && read_all(fd, name, NAME_SIZE, &length) == 0
-        && length == NAME_SIZE && memcmp(name, format_name, NAME_SIZE) == 0;
+        && length == NAME_SIZE && memcmp(name, plain_head, NAME_SIZE) == 0;
 }
 
-static journal_answer load_open(int fd, file_state *present, journal *j)
+/* The first bytes decide what is read of the rest, and how. */
+static journal_answer load_open(const file_id *present, journal *j)
+{
+    size_t length;
+    memset(j->head, 0, sizeof j->head);
+    if (read_all(j->fd, j->head, sizeof j->head, &length) != 0)
+        return JOURNAL_FAILED;
+    if (length < NAME_SIZE || memcmp(j->head, plain_head, NAME_SIZE) != 0)
+        return JOURNAL_OTHER;
+    if (j->head[VERSION_AT] == VERSION_1)
+        return load_version_1(j->fd, (size_t)j->size, present, j);
+    if (length < sizeof j->head)
+        return JOURNAL_DAMAGED;
+    if (memcmp(j->head, plain_head, sizeof j->head) != 0)
+        return JOURNAL_NEWER;
+    return find_present(j, present);
+}
+
+journal_answer load_journal(const place *p, const file_id *present, journal *j)
 {
     struct stat status;
-    size_t size;
-    if (fstat(fd, &status) != 0)
-        return JOURNAL_FAILED;
+    *j = (journal){.fd = -1};
+    if (fstatat(p->folder, p->undo, &status, AT_SYMLINK_NOFOLLOW) != 0)
+        return errno == ENOENT ? begin_journal(j, present, NULL, 0) : JOURNAL_FAILED;
+    if (S_ISLNK(status.st_mode))
+        return JOURNAL_LINK;
     if (!S_ISREG(status.st_mode))
-        return JOURNAL_DAMAGED;
-    if ((uintmax_t)status.st_size > SIZE_MAX / 2) {
-        errno = EFBIG;
+        return JOURNAL_OTHER;
+    /* A pipe that another program puts there meanwhile does not hold this one up. */
+    j->fd = openat(p->folder, p->undo, O_RDWR | O_NOFOLLOW | O_NONBLOCK | O_CLOEXEC);
+    j->writable = j->fd >= 0;
+    if (j->fd < 0)
+        j->fd = openat(p->folder, p->undo, O_RDONLY | O_NOFOLLOW | O_NONBLOCK | O_CLOEXEC);
+    if (j->fd < 0)
         return JOURNAL_FAILED;
-    }
-    if (make_room(j, (size_t)status.st_size, present->length) != 0
-        || read_all(fd, j->bytes, (size_t)status.st_size, &size) != 0)
-        return JOURNAL_FAILED;
-    return judge(j->bytes, size, present);
+    j->size = (uint64_t)status.st_size;
+    return load_open(present, j);
 }
 
-journal_answer load_journal(const place *p, file_state *present, journal *j)
+void close_journal(journal *j)
 {
-    *j = (journal){0};
-    present->used = 0;
-    /* A pipe of this name does not hold the program up. */
-    int fd = openat(p->folder, p->undo, O_RDONLY | O_NOFOLLOW | O_NONBLOCK | O_CLOEXEC);
-    if (fd < 0 && errno == ENOENT)
-        return make_room(j, 0, present->length) == 0 ? JOURNAL_READY : JOURNAL_FAILED;
-    if (fd < 0)
-        return JOURNAL_FAILED;
-    journal_answer answer = load_open(fd, present, j);
     int error = errno;
-    close(fd);
+    if (j->fd >= 0)
+        close(j->fd);
+    free(j->whole);
     errno = error;
-    return answer;
-}
-
-/* Completes the bytes of FILE.undo and gives their length. */
-static size_t sealed(journal *j, const file_state *before, const file_state *after)
-{
-    memcpy(j->bytes, format_name, NAME_SIZE);
-    put_state(j->bytes + NAME_SIZE, before);
-    put_state(j->bytes + NAME_SIZE + STATE_SIZE, after);
-    size_t end = HEAD_SIZE + (size_t)(before->used > after->used ? before->used : after->used);
-    sha256(j->bytes, end, j->bytes + end);
-    return end + SHA256_SIZE;
-}
-
-in_place store_pair(const place *p, const struct stat *like, const uint8_t *new_file, journal *j, const file_state *before,
-                    const file_state *after)
-{
-    size_t size = sealed(j, before, after);
-    /* Both are on the disk before either takes its place, so a full disk leaves the old pair as it was. */
-    int done = stage(p, p->undo_temp, j->bytes, size, like);
-    if (done == 0)
-        done = stage(p, p->temp, new_file, (size_t)after->length, like);
-    /* The journal, which knows both files, must be there before the new file is, also after a power loss. */
-    int known = done == 0 && install(p, p->undo_temp, p->undo) == 0;
-    done = known ? confirm(p) : -1;
-    if (done == 0)
-        done = install(p, p->temp, p->name);
-    /* With nothing to undo, no journal says the same and does not go stale. */
-    if (done != 0) {
-        discard(p, p->temp);
-        discard(p, p->undo_temp);
-        if (known && before->used == 0)
-            discard(p, p->undo);
-        return OLD_IN_PLACE;
-    }
-    if (confirm(p) != 0)
-        return NEW_UNCONFIRMED;
-    if (after->used == 0)
-        discard(p, p->undo);
-    return NEW_IN_PLACE;
 }

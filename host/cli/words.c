@@ -104,18 +104,51 @@ static void say_advice(const char *advice)
         fprintf(stderr, "  %s\n", advice);
 }
 
-int say_refused(const char *file, uint64_t number, uint64_t place, const char *about)
+static meaning meaning_of(uint64_t number)
 {
-    meaning known = {number, "the file breaks a rule of Blorb", NULL};
     for (size_t i = 0; i < sizeof meanings / sizeof *meanings; i++)
         if (meanings[i].number == number)
-            known = meanings[i];
-    say_file(file);
-    fprintf(stderr, ": refused %" PRIu64 " at %" PRIu64 ": %s%s", number, place, known.sentence, about[0] != '\0' ? ": " : "");
+            return meanings[i];
+    return (meaning){number, "the file breaks a rule of Blorb", NULL};
+}
+
+static int say_sentence(const meaning *known, const char *about, const char *advice)
+{
+    fprintf(stderr, "%s%s", known->sentence, about[0] != '\0' ? ": " : "");
     say_safely(about);
     fputs(".\n", stderr);
-    say_advice(known.advice);
+    say_advice(advice != NULL ? advice : known->advice);
     return REFUSED;
+}
+
+int say_refused(const char *file, uint64_t number, uint64_t place, const char *about, const char *advice)
+{
+    meaning known = meaning_of(number);
+    say_file(file);
+    fprintf(stderr, ": refused %" PRIu64 " at %" PRIu64 ": ", number, place);
+    return say_sentence(&known, about, advice);
+}
+
+int say_meaning(const char *file, uint64_t number, const char *about)
+{
+    meaning known = meaning_of(number);
+    say_file(file);
+    fputs(": ", stderr);
+    return say_sentence(&known, about, NULL);
+}
+
+void say_warning(const char *file, const char *about, const char *sentence)
+{
+    say_file(file);
+    fprintf(stderr, ": warning: %s%s", about, about[0] != '\0' ? ": " : "");
+    say_safely(sentence);
+    fputs(".\n", stderr);
+}
+
+void say_waiting(const char *file)
+{
+    say_file(file);
+    fputs(": waiting for another blorb that works in this folder.\n", stderr);
 }
 
 static const char *advice_for(int error)
@@ -125,8 +158,10 @@ static const char *advice_for(int error)
         return "Check the name.";
     case ENAMETOOLONG:
         return "Use a shorter name: 16 more bytes are needed for the names of the journal and of what is being written.";
-    case ENOSPC: case EDQUOT: case EFBIG:
-        return "Make room on the disk, or raise the limit on file sizes, and try again.";
+    case ENOSPC: case EDQUOT:
+        return "Make room on the disk and try again.";
+    case EFBIG:
+        return "Raise the limit on the size of files (ulimit -f), or use a disk that takes longer ones, and try again.";
     case EACCES: case EPERM: case EROFS:
         return "Change the permissions of the file and its folder, or work on a copy in a folder of your own.";
     case ENOLCK:
@@ -165,6 +200,16 @@ int say_stored(const char *file, in_place answer, const char *old)
     if (answer == NEW_IN_PLACE)
         return CARRIED_OUT;
     return say_failed(file, answer == OLD_IN_PLACE ? old : "the new file is in place, but the disk has not confirmed it");
+}
+
+int say_edited(const char *file, in_place answer)
+{
+    const char *old = "the file is as it was, since the new one cannot be written";
+    int error = errno;
+    if (answer == OLD_IN_PLACE && (error == ENOSPC || error == EDQUOT))
+        return say_error(file, old, error, "Make room on the disk: an edit needs as much as the new file takes, and for undo as much as"
+                         " the old data.\n  `blorb forget FILE` gives back what FILE.undo takes; --no-undo keeps nothing.");
+    return say_stored(file, answer, old);
 }
 
 int say_cannot(const char *file, const char *why, const char *advice)

@@ -11,7 +11,8 @@ enum { CARRIED_OUT = 0, REFUSED = 1, FAILED = 2 };
 
 /* What to do about a journal that cannot be used. */
 #define OTHER_JOURNAL \
-    "Put back the file that the journal belongs to, or the journal from a copy; or move the journal away to begin a new one."
+    "Put back the file that the journal belongs to, or the journal from a copy. Or give undoing up: `blorb forget FILE` drops\n" \
+    "  the journal, and --no-undo edits without one."
 
 /* Rule 5 of 01 for those who add and replace. */
 #define TYPES \
@@ -30,8 +31,17 @@ void show_pair(const char usage[4], uint32_t number, char shown[PAIR_SIZE]);
 /* Prints text from outside to standard error, control characters as '?'. */
 void say_safely(const char *text);
 
-/* A refusal of the library; `about` (or "") says what it is about. Gives REFUSED. */
-int say_refused(const char *file, uint64_t number, uint64_t place, const char *about);
+/* A refusal of the library; `about` (or "") says what it is about, `advice` (or null for the usual one) what to do. Gives REFUSED. */
+int say_refused(const char *file, uint64_t number, uint64_t place, const char *about, const char *advice);
+
+/* The same without number and place, where these are on standard output. */
+int say_meaning(const char *file, uint64_t number, const char *about);
+
+/* Something about a resource (or, where `about` is "", about the file) that no rule forbids. */
+void say_warning(const char *file, const char *about, const char *sentence);
+
+/* That another run of this program is being waited for. */
+void say_waiting(const char *file);
 
 /* A failure that errno describes. Gives FAILED. */
 int say_failed(const char *file, const char *what);
@@ -41,6 +51,9 @@ int say_output_failed(const char *what);
 
 /* What came of writing a file; `old` says it where no new one is in place. Gives CARRIED_OUT or FAILED. */
 int say_stored(const char *file, in_place answer, const char *old);
+
+/* The same of an edited file. */
+int say_edited(const char *file, in_place answer);
 
 /* Any other failure, in a whole sentence, and what to do. Gives FAILED. */
 int say_cannot(const char *file, const char *why, const char *advice);

@@ -1,21 +1,27 @@
-"""The file and its journal as a pair: ended and failing at every step, after a power loss, and with another journal."""
+"""The file and its journal as a pair: ended and failing at every step, and after a power loss."""
 import errno
-import hashlib
 import itertools
+import os
 
-from building import Dice, blorb, put
-from command_kit import ENDED_BY_SHIM, contents, done, editing_reference, expect, failed, jpeg, refused, restore, run, same
+from building import blorb
+from command_kit import (EACH, ENDED_BY_SHIM, contents, done, editing_reference, expect, failed, jpeg, live_records, restore, run, same,
+                         tried, version_1)
 
 FILE, UNDO = "game.blb", "game.blb.undo"
 TEMPS = {FILE + ".blorb-temp", UNDO + ".blorb-temp"}
 START = blorb([(b"Pict", 1, 0), (b"Pict", 2, 0), (b"Data", 3, 1)], [(b"JPEG", jpeg()), (b"TEXT", b"odd"), (b"ANNO", b"x")])
-ADD = ("add", "Data", "9", "BINA", "-"), b"nine nines"
+ADD = ("add", "Data", "9", "BINA", "-"), b"nine nines" * 30
 REPLACE = ("replace", "Data", "3", "BINA", "-"), b"another text"
 SAME = ("replace", "Data", "3", "TEXT", "-"), b"odd"
 REMOVE = ("remove", "Data", "3"), b""
 REMOVE_SHARED = ("remove", "Pict", "1"), b""
 ANOTHER = ("add", "Data", "77", "TEXT", "-"), b"seventy-seven"
-UNDO_ONE = ("undo",), b""
+UNDO_ONE, UNDO_TWO = (("undo",), b""), (("undo", "2"), b"")
+UNDONE = {UNDO_ONE: 1, UNDO_TWO: 2}
+
+# Not calls: an edit with a long record is ended before the file takes its name, or in the middle of what it adds to the journal; the
+# journal becomes one of version 1; the journal gets a second name, so that it has to be copied.
+ENDED, TORN, OLD_VERSION, SECOND_NAME = "ended", "torn", "version 1", "second name"
 
 # What was done before, and the call under test.
 CASES = (
@@ -23,6 +29,10 @@ CASES = (
     ([REPLACE, ADD], REMOVE), ([ADD], REMOVE_SHARED),
     ([ADD], UNDO_ONE), ([ADD, REPLACE], UNDO_ONE), ([ADD, REMOVE], UNDO_ONE), ([ADD, SAME], UNDO_ONE),
     ([ADD, REPLACE, UNDO_ONE], REMOVE), ([ADD, REPLACE, REMOVE, UNDO_ONE], UNDO_ONE),
+    ([ADD, REPLACE, REMOVE], UNDO_TWO), ([ADD, REPLACE], UNDO_TWO),
+    ([ADD, ENDED], REMOVE), ([ADD, ENDED], SAME), ([ADD, REPLACE, ENDED], UNDO_ONE), ([ADD, TORN], REPLACE), ([ADD, REPLACE, TORN], UNDO_ONE),
+    ([ADD, REPLACE, OLD_VERSION], REMOVE), ([ADD, REPLACE, OLD_VERSION], UNDO_ONE), ([ADD, REMOVE, OLD_VERSION, UNDO_ONE], UNDO_ONE),
+    ([ADD, OLD_VERSION], SAME), ([ADD, REPLACE, SECOND_NAME], REMOVE), ([ADD, REPLACE, SECOND_NAME], UNDO_ONE),
 )
 
 
@@ -31,26 +41,57 @@ def call(folder, step, **more):
     return run(words[0], folder / FILE, *words[1:], stdin=data, **more)
 
 
+def prepare(folder, what):
+    """One of the four that are no calls."""
+    file, undo = folder / FILE, folder / UNDO
+    if what == OLD_VERSION:
+        undo.write_bytes(version_1(live_records(undo.read_bytes()), file.read_bytes()))
+    elif what == SECOND_NAME:
+        (folder.parent / "second").unlink(missing_ok=True)
+        os.link(undo, folder.parent / "second")
+    else:
+        held = contents(folder)
+        steps = steps_of(folder, "remove", file, "Data", "9")
+        restore(folder, held)
+        ending = ("rename", FILE + ".blorb-temp", FILE) if what == ENDED else ("write", UNDO)
+        at = 1 + max(n for n, step in enumerate(steps) if step[:len(ending)] == ending)
+        shim = {"CRASH_AT": str(at), "CRASH_HALF": "1"}
+        same(run("remove", file, "Data", "9", shim=shim).status, ENDED_BY_SHIM, f"{what} in preparation")
+
+
+def changed(history, step, file):
+    """The files from the first one on, after a call that made this file."""
+    return history[:-UNDONE[step]] if step in UNDONE else history + [file]
+
+
 class Case:
     """The pair before the call, the pair after it, the files that each goes back to by undo (the latest first), and the steps."""
 
     def __init__(self, work, earlier, step):
-        self.folder, self.step = work / "pair", step
+        self.folder, self.step, self.second_name = work / "pair", step, SECOND_NAME in earlier
         self.folder.mkdir(exist_ok=True)
         restore(self.folder, {FILE: START})
         history = [START]
         for each in earlier:
+            if isinstance(each, str):
+                prepare(self.folder, each)
+                continue
             same(call(self.folder, each).status, 0, f"{each[0]} in preparation")
-            history = history[:-1] if each is UNDO_ONE else history + [self.file()]
+            history = changed(history, each, self.file())
         self.before, self.old = contents(self.folder), history[::-1]
         words, data = step
         self.steps = steps_of(self.folder, words[0], self.folder / FILE, *words[1:], stdin=data)
         self.after = contents(self.folder)
-        self.new = (history[:-1] if step is UNDO_ONE else history + [self.file()])[::-1]
+        self.new = changed(history, step, self.file())[::-1]
         same(self.file(), self.new[0], "the new file")
 
     def file(self):
         return (self.folder / FILE).read_bytes()
+
+    def restore(self, files):
+        restore(self.folder, files)
+        if self.second_name:
+            prepare(self.folder, SECOND_NAME)
 
     def readable(self, what):
         """The pair in the folder is the old or the new one: by the file, and by every undo from here. Gives which."""
@@ -67,7 +108,7 @@ class Case:
 
     def goes_on(self, left, what):
         """From what was left, the call can be made again where it was not carried out; nothing stays of the interrupted one."""
-        restore(self.folder, left)
+        self.restore(left)
         if left[FILE] == self.old[0] != self.new[0]:
             same(call(self.folder, self.step).status, 0, f"{what}: the call made again")
             same(self.file(), self.new[0], f"{what}: the call made again")
@@ -81,14 +122,14 @@ def ended_at_every_step(work):
         case, kinds = Case(work, earlier, step), set()
         ends = [(n, {}) for n in range(1, len(case.steps) + 1)]
         ends += [(n, {"CRASH_HALF": "1"}) for n, _ in ends if case.steps[n - 1][0] == "write"]
-        for n, half in ends:
-            restore(case.folder, case.before)
+        for n, half in tried(ends):
+            case.restore(case.before)
             what = f"{step[0]} ended at step {n}{' in its middle' if half else ''}"
             same(call(case.folder, step, shim={"CRASH_AT": str(n), **half}).status, ENDED_BY_SHIM, what)
             left = contents(case.folder)
             kinds.add(case.readable(what))
             case.goes_on(left, what)
-        same(kinds, {"old", "new"}, f"{step[0]}: both pairs were met")
+        expect(EACH > 1 or kinds == {"old", "new"}, f"{step[0]}: both pairs were met")
 
 
 def single_calls(work):
@@ -148,6 +189,30 @@ def single_files_failing(work):
         same(said, {(0, False), (2, False), (2, True)}, f"{words}: all three were met")
 
 
+def all_files(work):
+    """get --all, ended and failing at every step: each file is missing, the old one or the whole new one."""
+    file, folder = work / FILE, work / "all"
+    wanted = {"Pict-1.JPEG": jpeg(), "Pict-2.JPEG": jpeg(), "Data-3.TEXT": b"odd"}
+    file.write_bytes(START)
+    folder.mkdir()
+    (folder / "Data-3.TEXT").write_bytes(b"old")
+    words = "get", file, "--all", folder
+    steps, said = steps_of(work, *words), set()
+    for n, shim in itertools.product(range(1, len(steps) + 1), ({}, {"CRASH_FAIL": str(errno.ENOSPC)})):
+        restore(folder, {"Data-3.TEXT": b"old"})
+        result = run(*words, shim={"CRASH_AT": str(n), **shim})
+        what = f"{words} at step {n}, {steps[n - 1]}, {shim}: {result}"
+        for name, held in contents(folder).items():
+            expect(name.endswith(".blorb-temp") or held in (wanted[name], b"old"), f"{name}: {what}")
+        if result.status == 0 or "has not confirmed" in result.err:
+            same({n: h for n, h in contents(folder).items() if n in wanted}, wanted, what)
+        said.add((result.status, "has not confirmed" in result.err))
+        restore(folder, {})
+        same(done(*words), b"", f"{words} once more")
+        same(contents(folder), wanted, f"{words} once more")
+    same(said, {(0, False), (2, False), (2, True), (ENDED_BY_SHIM, False)}, f"{words}: all were met")
+
+
 def new_beside_others(work):
     """A file that another program makes in the last moment is not overwritten by new. Without hard links new works too."""
     file = work / "n.blb"
@@ -165,145 +230,100 @@ def failing_at_every_step(work):
     """Each step fails instead: the old pair stays, or the new one is in place and only unconfirmed; nothing else is left."""
     for earlier, step in CASES:
         case = Case(work, earlier, step)
-        for n in range(1, len(case.steps) + 1):
-            restore(case.folder, case.before)
+        for n in tried(range(1, len(case.steps) + 1)):
+            case.restore(case.before)
             result = call(case.folder, step, shim={"CRASH_AT": str(n), "CRASH_FAIL": str(errno.ENOSPC)})
             left, what = contents(case.folder), f"{step[0]} failing at step {n}"
             expect(result.status in (0, 2), f"{what}: {result}")
             if result.status == 2:
                 sure = "not confirmed" not in result.err
                 same(left[FILE], case.old[0] if sure else case.new[0], f"{what}: what is said is so: {result.err}")
-                expect("Make room" in result.err or "locked" in result.err, f"{what}: advice: {result.err}")
-            expect(not TEMPS & set(left), f"{what}: no temporary file is left")
+                expect(any(word in result.err for word in ("Make room", "locked", "Move away what")), f"{what}: advice: {result.err}")
+            expect(not TEMPS & set(left) - set(case.before), f"{what}: no temporary file is left")
             kind = case.readable(what)
             expect(result.status == 2 or kind == "new", f"{what}: success means the new pair")
 
 
-def after_power_loss(folder, steps, before):
-    """Every pair of names that a power loss can leave, as (file, journal), each by whose bytes it holds.
+class Disk:
+    """What a power loss can leave, by the steps that the shim wrote down and the folder's files after each of them.
 
-    What a folder's fsync confirmed stays; of later renames, new names and removals any may be lost. Bytes that no fsync of their
-    file confirmed may be lost: such a file counts as torn.
+    What a folder's fsync confirmed stays; of later new names, renames and removals any may be lost. What was written to a file
+    since its last fsync may be there in part.
     """
-    names, pending, written, states = {n: "before " + n for n in before}, [], {}, set()
-    for what, name, other in steps:
+
+    def __init__(self, folder, before):
+        self.folder = folder
+        self.names = {n: "before " + n for n in before}    # as the disk has confirmed them
+        self.live = dict(self.names)                       # as programs see them
+        self.pending = []
+        self.versions = {"before " + n: [held] for n, held in before.items()}
+
+    def carry_out(self, number, step, after):
+        what, name, other = step
         if what in ("create", "rename", "unlink"):
-            pending.append((what, name, other))
-        if what in ("create", "write"):
-            written[name] = False
-        if what == "fsync" and name in written:
-            written[name] = True
-        if what == "fsync" and name == folder.name:
-            names, pending = applied(names, pending, written), []
-        for kept in itertools.chain.from_iterable(itertools.combinations(pending, k) for k in range(len(pending) + 1)):
-            left = applied(names, kept, written)
-            states.add((left.get(FILE), left.get(UNDO)))
-    return states
+            made = f"{name} of step {number}"
+            if what == "create":
+                self.versions[made] = [b""]
+            self.pending.append((what, name, made if what == "create" else other))
+            self.live = applied(self.live, self.pending[-1:])
+        elif what in ("write", "truncate") and name in self.live:
+            self.versions[self.live[name]].append(after[name])
+        elif what == "fsync" and name == self.folder.name:
+            self.names, self.pending = applied(self.names, self.pending), []
+        elif what == "fsync" and name in self.live:
+            del self.versions[self.live[name]][:-1]
+
+    def left(self):
+        """Each pair of a file and a journal that can be found now; None where there is no file of that name."""
+        for kept in itertools.chain.from_iterable(itertools.combinations(self.pending, k) for k in range(len(self.pending) + 1)):
+            names = applied(self.names, kept)
+            yield from itertools.product(*(self.contents(names.get(name)) for name in (FILE, UNDO)))
+
+    def contents(self, held):
+        return [None] if held is None else torn(self.versions[held])
 
 
-def applied(names, operations, written):
+def applied(names, operations):
     names = dict(names)
     for what, name, other in operations:
         if what == "create":
-            names[name] = "new " + name
+            names[name] = other
         elif what == "unlink":
             names.pop(name, None)
         elif name in names:
-            held = names.pop(name)
-            names[other] = held if written.get(name, True) else "torn"
+            names[other] = names.pop(name)
     return names
 
 
+def torn(versions):
+    """What can be found of a file with these contents, one after the other, the first of which the disk has confirmed."""
+    found = list(versions)
+    for old, new in zip(versions, versions[1:]):
+        tail = new[len(old):]
+        if new[:len(old)] == old:
+            found += [old + tail[:n] for n in range(1, len(tail), 7)] + [old + bytes(len(tail))]
+            found += [old + bytes(n) + tail[n:] for n in range(16, len(tail), 16)]
+            found += [old + tail[:n] + bytes(len(tail) - n) for n in range(16, len(tail), 40)]
+    return found
+
+
 def power_loss(work):
-    """Every pair that a power loss can leave, by the steps that the shim wrote down."""
+    """Every pair that a power loss can leave, before, between and after the steps."""
     for earlier, step in CASES:
         case = Case(work, earlier, step)
-        # The new journal, also where it is removed at the end: as it is just before the file takes its name.
-        restore(case.folder, case.before)
-        last = max(i for i, s in enumerate(case.steps) if s[0] == "rename")
-        same(call(case.folder, step, shim={"CRASH_AT": str(last + 1)}).status, ENDED_BY_SHIM, f"{step[0]} before its last rename")
-        held = {"before " + FILE: case.before[FILE], "before " + UNDO: case.before.get(UNDO), None: None,
-                "new " + FILE + ".blorb-temp": case.after[FILE], "new " + UNDO + ".blorb-temp": contents(case.folder)[UNDO]}
-        states = after_power_loss(case.folder, case.steps, case.before)
-        expect(3 <= len(states) <= 4, f"{step[0]}: the pairs met: {states}")
-        for state in states:
-            expect(all(name in held for name in state), f"{step[0]}: no name is missing or torn: {state}")
-            restore(case.folder, {n: held[s] for n, s in zip((FILE, UNDO), state) if held[s] is not None})
-            case.readable(f"{step[0]} after a power loss that left {state}")
+        disk, kinds, seen = Disk(case.folder, case.before), set(), set()
+        for n, each in enumerate(case.steps, 1):
+            case.restore(case.before)
+            at = {"CRASH_AT": str(n + 1)}
+            expect(call(case.folder, step, shim=at).status in (0, ENDED_BY_SHIM), f"{step[0]} before step {n + 1}")
+            disk.carry_out(n, each, contents(case.folder))
+            pairs = set(disk.left()) - seen
+            seen |= pairs
+            for pair in tried(sorted(pairs, key=repr)):
+                restore(case.folder, {name: held for name, held in zip((FILE, UNDO), pair) if held is not None})
+                kinds.add(case.readable(f"{step[0]}, power lost after step {n}, {each}"))
+        expect(EACH > 1 or kinds == {"old", "new"}, f"{step[0]}: both pairs were met")
+        expect(len(seen) >= 2, f"{step[0]}: {len(seen)} pairs were met")
 
 
-def untouched(work, held, *step):
-    """Undo is refused with 21, an edit ends with 2, and no byte changes."""
-    refused(21, 0, "undo", work / FILE)
-    failed("remove", work / FILE, "Data", "3", saying=f"the journal {work.resolve() / UNDO} is ")
-    failed("add", work / FILE, "Data", "10", "TEXT", "-", saying="Put back")
-    same(contents(work), held, f"a journal that is not this file's, {step}: nothing changes")
-
-
-def other_journals(work):
-    case = Case(work, [ADD, REPLACE], REMOVE)
-    older = Case(work, [ADD], REPLACE).after[UNDO]
-    work, pair, earlier = case.folder, case.after, case.before
-    # Another accepted file, also one of the same length, and one before the last two edits.
-    for other in (START, put(pair[FILE], len(pair[FILE]) - 3, b"?"), case.new[2]):
-        restore(work, {**pair, FILE: other})
-        same(done("check", work / FILE)[:8], b"accepted", "another file")
-        untouched(work, {**pair, FILE: other}, "another file")
-    restore(work, pair)
-    same(case.readable("the file put back"), "new", "the file put back")
-    # The file before the last edit is known to the journal: undo goes on from there.
-    restore(work, {**pair, FILE: earlier[FILE]})
-    same(case.readable("the file before the last edit"), "old", "the file before the last edit")
-    # An older journal does not know the new file; without a journal there is nothing to undo.
-    restore(work, {FILE: pair[FILE], UNDO: older})
-    untouched(work, contents(work), "an older journal")
-    restore(work, {FILE: pair[FILE]})
-    refused(26, 0, "undo", work / FILE)
-    same(contents(work), {FILE: pair[FILE]}, "without a journal")
-    same(call(work, ADD if b"nine" not in pair[FILE] else REMOVE_SHARED).status, 0, "a new journal begins")
-    done("undo", work / FILE)
-    same(contents(work), {FILE: pair[FILE]}, "and ends")
-
-
-def damaged_journals(work):
-    """Each byte changed, each beginning, more at the end: refused, and nothing changes."""
-    dice = Dice(15)
-    case = Case(work, [ADD], REPLACE)
-    work, pair, journal = case.folder, case.after, case.after[UNDO]
-    wrong = [put(journal, at, bytes([journal[at] ^ 1 << dice.below(8)])) for at in range(len(journal))]
-    wrong += [journal[:n] for n in range(len(journal))] + [journal + b"\0", journal + journal, bytes(len(journal))]
-    for each in wrong:
-        held = {FILE: pair[FILE], UNDO: each}
-        restore(work, held)
-        refused(21, 0, "undo", work / FILE)
-        same(contents(work), held, "undo with a damaged journal")
-    untouched(work, held, "zeros")
-    restore(work, {FILE: pair[FILE]})
-    (work / UNDO).mkdir()
-    refused(21, 0, "undo", work / FILE)
-    failed("remove", work / FILE, "Data", "3")
-    (work / UNDO).rmdir()
-    (work / UNDO).symlink_to("elsewhere")
-    failed("remove", work / FILE, "Data", "3", saying=f"{work.resolve() / UNDO}: a symbolic link")
-    expect((work / UNDO).is_symlink(), "a link in the journal's place stays")
-
-
-def journal_format(work):
-    """FILE.undo by its description, with hashlib's SHA-256: old data of 0 to 129 bytes gives journals of every length modulo 64."""
-    def state(file):
-        return len(file).to_bytes(8, "big") + hashlib.sha256(file).digest()
-
-    file, undo, lengths = work / FILE, work / UNDO, set()
-    for n in range(130):
-        old = blorb([(b"Data", 3, 0)], [(b"TEXT", bytes(n))])
-        restore(work, {FILE: old})
-        done("replace", file, "Data", "3", "BINA", "-", stdin=b"new")
-        held, used = undo.read_bytes(), (len(undo.read_bytes()) - 136).to_bytes(8, "big")
-        same(held[:104], b"BLORBUN1" + bytes(8) + state(old) + used + state(file.read_bytes()), f"the head, {n} bytes of old data")
-        same(held[-32:], hashlib.sha256(held[:-32]).digest(), f"the end, {n} bytes of old data")
-        lengths.add(len(held) % 64)
-    same(len(lengths), 64, "lengths modulo 64")
-
-
-PARTS = (ended_at_every_step, single_files, single_files_failing, new_beside_others, failing_at_every_step, power_loss,
-         other_journals, journal_format, damaged_journals)
+PARTS = (ended_at_every_step, single_files, single_files_failing, all_files, new_beside_others, failing_at_every_step, power_loss)

@@ -1,4 +1,5 @@
 """For the tests of the command line program: running it, counting checks, folders to work in, and data of each kind."""
+import hashlib
 import os
 import re
 import subprocess
@@ -17,6 +18,8 @@ from building import be     # noqa: E402
 PROGRAM = Path(sys.argv[1]).resolve()
 SHIM = Path(sys.argv[2]).resolve()
 ENDED_BY_SHIM = 77
+# Of long lists of ends and damages only each so many is tried: for builds that are slow.
+EACH = int(os.environ.get("BLORB_TEST_EACH", "1"))
 Result = namedtuple("Result", "status out err")
 checks = 0
 
@@ -37,6 +40,11 @@ def same(got, wanted, what):
 def shortened(value):
     text = repr(value)
     return text if len(text) < 600 else f"{text[:300]} .. {text[-100:]}"
+
+
+def tried(things):
+    """All of them, or each so many, not always the same ones."""
+    return [thing for n, thing in enumerate(things) if (n + checks) % EACH == 0]
 
 
 def run(*words, stdin=b"", shim=None, program=PROGRAM, **more):
@@ -78,15 +86,26 @@ SAID = {
 }
 
 
-def refused(number, place, *words, **more):
+def refused(number, place, *words, advice=None, **more):
     """Runs it where the library must refuse: standard error says in one line which rule is broken and where, then what to do."""
     result = run(*words, **more)
+    return refused_saying(number, rf"blorb: .*: refused {number} at {place}: [a-z].+\.", advice, words, result)
+
+
+def refused_list(number, place, *words, **more):
+    """The same of list: number and place are on standard output, as 01's lister prints them, and the reason on standard error."""
+    result = run("list", *words, **more)
+    same(result.out, b"refused %d at %d\n" % (number, place), f"list {words}: the lister's line")
+    expect(": refused " not in result.err, f"list {words}: said once: {result.err}")
+    return refused_saying(number, r"blorb: .*: [a-z].+\.", None, words, result)
+
+
+def refused_saying(number, pattern, advice, words, result):
     same(result.status, 1, f"{words} must be refused with {number}: {result}")
-    line, _, advice = result.err.partition("\n")
-    expect(re.fullmatch(rf"blorb: .*: refused {number} at {place}: [a-z].+\.", line),
-           f"{words}: wanted refused {number} at {place}, got {result.err}")
+    line, _, rest = result.err.partition("\n")
+    expect(re.fullmatch(pattern, line), f"{words}: wanted {pattern}, got {result.err}")
     about, what_to_do = SAID[number]
-    expect(about in line and advice.startswith("  ") and what_to_do in advice, f"{words}: what is said of {number}: {result.err}")
+    expect(about in line and rest.startswith("  ") and (advice or what_to_do) in rest, f"{words}: what is said of {number}: {result.err}")
     return result
 
 
@@ -131,6 +150,44 @@ def listing(file):
     return b"".join(lines)
 
 
+# ---- FILE.undo, by its description in docs/COMMAND.md
+
+JOURNAL_HEAD = b"BLORBUN2" + bytes(8)
+State = namedtuple("State", "at before below edits record_at record_length record_hash length hash")
+
+
+def number8(held, at):
+    return int.from_bytes(held[at:at + 8], "big")
+
+
+def state_at(journal, at):
+    """The state that stands there; its seal is right."""
+    held = journal[at:at + 160]
+    same((held[:8], number8(held, 8)), (b"STATE\0\0\0", at), "a state's name and place")
+    same(held[128:], hashlib.sha256(journal[:16] + held[:128]).digest(), f"the seal of the state at {at}")
+    return State(*(number8(held, n) for n in range(8, 56, 8)), held[56:88], number8(held, 88), held[96:128])
+
+
+def live_records(journal):
+    """The records that undo can take back from the last state, the oldest first."""
+    state, records = state_at(journal, len(journal) - 160), []
+    while state.edits > 0:
+        record = journal[state.record_at:state.record_at + state.record_length]
+        same(hashlib.sha256(record).digest(), state.record_hash, f"the hash of the record at {state.record_at}")
+        records.insert(0, record)
+        state = state_at(journal, state.below)
+    return records
+
+
+def version_1(records, file, before=None):
+    """A journal of version 1 for this file, the last call having added the last record to the file before."""
+    def state(used, held):
+        return used.to_bytes(8, "big") + len(held).to_bytes(8, "big") + hashlib.sha256(held).digest()
+    body, last = b"".join(records), len(records[-1]) if records else 0
+    held = b"BLORBUN1" + state(len(body) - last, b"?" if before is None else before) + state(len(body), file) + body
+    return held + hashlib.sha256(held).digest()
+
+
 # ---- data of each kind
 
 def png():
@@ -167,3 +224,12 @@ def aiff(samples=b"\0\x40\0\xc0"):
     comm = b"\0\1" + be(len(samples)) + b"\0\x08" + rate
     body = b"AIFF" + part(b"COMM", comm) + part(b"SSND", bytes(8) + samples)
     return b"FORM" + be(len(body)) + body
+
+
+def story(version=5, length=1024):
+    """The head of a story file of the Z-machine whose addresses lie in the file, and zeros."""
+    return bytes([version, 0, 0, 1]) + (64).to_bytes(2, "big") * 6 + bytes(2) + b"261116" + bytes(length - 24)
+
+
+def glulx():
+    return b"Glul\0\3\1\2" + bytes(248)

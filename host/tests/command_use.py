@@ -9,25 +9,38 @@ import time
 
 from building import Dice, blorb, chunk, form, grow, index, put, put32, right_length
 from command_kit import (PROGRAM, aiff, be, contents, done, edited, editing_reference, expect, failed, jpeg, listing, mod, ogg,
-                         png, reference, refused, run, same)
+                         png, reference, refused, refused_list, run, same, tried)
 
 BLANK = bytes.fromhex("464f524d000000104946525352496478 0000000400000000")
 SAMPLE_A = bytes.fromhex("464f524d00000028 49465253 5249647800000010 00000001 446174610000000700000024 5445585400000003 65656c00")
 LIMIT = 16_777_216
-NAMES = ("list", "check", "get", "new", "add", "replace", "remove", "undo")
+NAMES = ("list", "check", "get", "new", "add", "replace", "remove", "undo", "history", "forget")
 NOBODY = 65534
 
 
 def help_and_misuse(work):
-    for words in (["--help"], ["help"]):
+    for words in (["--help"], ["-h"], ["help"]):
         text = done(*words).decode()
         expect(all(f"blorb {name} FILE" in text for name in NAMES), "help names every command")
     for name in NAMES:
-        expect(done(name, "--help").startswith(b"usage: blorb %s FILE" % name.encode()), f"{name} --help")
-        failed(name, saying=f"usage: blorb {name} FILE")
+        for words in ([name, "--help"], [name, "-h"], ["help", name], ["--help", name], [name, "--help", "more"]):
+            expect(done(*words).startswith(b"usage: blorb %s FILE" % name.encode()), f"{words}")
+        expect("missing: FILE" in failed(name, saying=f"usage: blorb {name} FILE").err, f"{name}: what is missing is named")
         failed(name, *["x"] * 9, saying="usage: blorb")
+        failed(name, "--unknown", saying="put -- in front")
+    expect(done("--version").startswith(b"blorb "), "the version")
     failed(saying="--help")
     failed("lists", "x", saying="--help")
+    failed("help", "lists", saying="no command lists")
+    for words, missing in ((["add", "x"], "USAGE, NUMBER, DATAFILE"), (["add", "x", "Pict", "1"], "DATAFILE"),
+                           (["get", "x", "Pict"], "NUMBER"), (["remove", "x"], "USAGE, NUMBER")):
+        failed(*words, saying=f"missing: {missing}\n")
+    failed("add", work / "x", "Pict", "1", "PNG", saying="DATAFILE is missing")
+    for number in ("0", "-1", "x", "4294967296"):
+        failed("undo", work / "x", number, saying="from 1")
+    failed("list", "x", "--long", "--json", saying="either")
+    failed("get", "x", "--all", "y", "-o", "z", saying="either")
+    failed("get", "x", "Pict", "1", "--all", "y", saying="too much")
     expect("\x1b" not in failed("\x1b[2J").err + failed("list", "x", "\x1b[2J").err, "words are shown safely")
     file = work / "misuse.blb"
     done("new", file)
@@ -37,9 +50,23 @@ def help_and_misuse(work):
     for tag in ("", "Datas", "\u20ac\u20ac"):
         failed("remove", file, tag, "1", saying="usage: blorb remove")
         failed("replace", file, "Data", "1", tag, "-", saying="usage: blorb replace")
-    failed("get", file, "Data", "1", "-o", saying="-o takes one name")
-    failed("get", file, "Data", "1", "-o", "a", "-o", "b", saying="-o takes one name")
+    failed("get", file, "Data", "1", "-o", saying="takes one name, once: -o")
+    failed("get", file, "Data", "1", "-o", "a", "-o", "b", saying="takes one name, once: -o")
+    failed("get", file, "--all", saying="takes one name, once: --all")
     same(contents(work), {"misuse.blb": BLANK}, "misuse changes nothing")
+
+
+def names_with_dashes(work):
+    """--help is a data file's name where it does not stand right behind the command; -- ends the options."""
+    done("new", "--", "--json", cwd=work)
+    (work / "--help").write_bytes(b"help")
+    done("add", "--", "--json", "Data", "1", "TEXT", "--help", cwd=work)
+    done("new", "plain", cwd=work)
+    done("add", "plain", "Data", "1", "TEXT", "--help", cwd=work)
+    same(done("get", "plain", "Data", "1", cwd=work), b"help", "the data of a file called --help")
+    same(done("list", "--", "--json", cwd=work), listing((work / "--json").read_bytes()), "a file called --json")
+    done("get", "plain", "Data", "1", "-o", "--help-too", cwd=work)
+    same((work / "--help-too").read_bytes(), b"help", "OUT may begin with dashes")
 
 
 def samples_of_01(work):
@@ -69,8 +96,7 @@ def samples_of_01(work):
     refused(26, 0, "undo", file)
     same(sorted(contents(work)), ["eel", "eel.blb"], "with nothing to undo there is no journal, and nothing else is left")
     file.write_bytes(put(SAMPLE_A, 47, b"\1"))
-    result = refused(7, 47, "list", file)
-    same(result.out, b"refused 7 at 47\n", "the lister's text of a refused file")
+    refused_list(7, 47, file)
     same(refused(7, 47, "check", file).out, b"", "check refuses on standard error")
 
 
@@ -100,8 +126,9 @@ def media(work):
     expect(aiff() in wanted and aiff(b"odd") in wanted, "a whole AIFF file stands in the Blorb file")
     done("replace", file, "Snd", "4", "FORM", "-", stdin=aiff()[8:])
     same(file.read_bytes(), wanted, "an AIFF file's data without its header")
-    for wrong in (aiff()[:-1], aiff() + b"\0", b"FORM" + be(4) + b"AIFC", b"FORM", b""):
-        refused(114, 24 + 12 * 3, "replace", file, "Snd", "4", "FORM", "-", stdin=wrong)
+    for wrong, advice in ((aiff()[:-1], "has 58 bytes, but there are only 57"), (aiff() + b"\0", "ends after 58 bytes, but the file has 59"),
+                          (b"FORM" + be(4) + b"AIFC", "AIFF-C"), (b"FORM", None), (b"", None)):
+        refused(114, 24 + 12 * 3, "replace", file, "Snd", "4", "FORM", "-", stdin=wrong, advice=advice)
     same(file.read_bytes(), wanted, "a refused replacement changes nothing")
     # The header is only taken off where the type is FORM.
     done("add", file, "Data", "9", "BINA", "-", stdin=aiff())
@@ -130,7 +157,8 @@ def refused_files(work):
         verdict = reference.read(wrong)
         same(verdict[:2], ("refused", number), "the reference's refusal")
         file.write_bytes(wrong)
-        same(refused(*verdict[1:], "list", file).out, listing(wrong), "list of a refused file")
+        refused_list(*verdict[1:], file)
+        same(run("list", file, "--json").out, b'{"refused": %d, "place": %d}\n' % verdict[1:], "list --json of a refused file")
         text = refused(*verdict[1:], "check", file).err
         expect(all(c == "\n" or " " <= c <= "~" for c in text), f"only printable text: {text!r}")
         if 12 <= number <= 16:
@@ -141,6 +169,7 @@ def refused_files(work):
         refused(*verdict[1:], "replace", file, "Data", "7", "TEXT", "-", stdin=b"new")
         refused(*verdict[1:], "remove", file, "Data", "7")
         refused(*verdict[1:], "undo", file)
+        refused(*verdict[1:], "history", file)
         same(contents(work), {"wrong.blb": wrong}, "a refused file is left alone")
 
 
@@ -203,14 +232,13 @@ def cut_and_damaged(work):
             word = dice.one_of([be(dice.below(64)), b"RIdx", b"Fspc", dice.bytes(4)])
             spoiled = put(spoiled, 4 * dice.below(len(whole) // 4), word)
         bad.append(spoiled)
-    for spoiled in bad:
+    for spoiled in tried(bad):
         file.write_bytes(spoiled)
         result = run("list", file)
         same(result.out, listing(spoiled), f"list of {spoiled.hex()}")
         bad_file = result.out.startswith(b"refused")
         same(result.status, 1 if bad_file else 0, f"status for {spoiled.hex()}")
-        text = f"{file}: {result.out.decode().strip()}: " if bad_file else ""
-        expect(text in result.err and bool(text) == bool(result.err), f"{spoiled.hex()}: {result}")
+        expect(bad_file == bool(result.err) and ": refused " not in result.err, f"{spoiled.hex()}: {result}")
         expect(all(c == "\n" or " " <= c <= "~" for c in result.err), f"only printable text: {result.err!r}")
 
 
@@ -228,7 +256,7 @@ def a_call(dice, file):
     words = [{"added": "add", "replaced": "replace", "removed": "remove"}[what], file, usage, str(number)]
     if what != "removed":
         tags += [kind.ljust(4).encode(), data]
-        words += [kind, "-"]
+        words += [kind, "-", "--as-is"]
     return words, data, lambda old: edited(getattr(editing_reference, what), old, *tags)
 
 
@@ -280,7 +308,7 @@ def at_the_limit(work):
         done("undo", file)
     expect(file.read_bytes() == exact, "undo of the largest edits")
     file.write_bytes(exact + b"\0")
-    same(refused(1, 0, "list", file).out, b"refused 1 at 0\n", "a byte over the limit")
+    refused_list(1, 0, file)
     with open(file, "r+b") as f:
         f.truncate(40 << 30)    # a hole: reading it whole would take minutes
     refused(1, 0, "check", file)
@@ -437,7 +465,7 @@ def size_limit(work):
         result = run("remove", file, "Data", "7", preexec_fn=lower)
         if result.status == 0:
             break
-        expect(result.status == 2 and "Make room" in result.err, f"under a limit of {limit} bytes: {result}")
+        expect(result.status == 2 and "Raise the limit" in result.err, f"under a limit of {limit} bytes: {result}")
         same(contents(work), held, f"under a limit of {limit} bytes nothing changes")
         limit += 7
     expect(limit > 150, "the limit was met")
@@ -456,8 +484,8 @@ def full_disk(work):
         done("new", file)
         done("add", file, "Data", "1", "BINA", "-", stdin=bytes(10000))
         held = contents(small)
-        intact(small, held, "add", file, "Data", "2", "BINA", "-", stdin=bytes(9000), saying="Make room")
-        intact(small, held, "remove", file, "Data", "1", saying="Make room")
+        intact(small, held, "add", file, "Data", "2", "BINA", "-", stdin=bytes(9000), saying="blorb forget FILE")
+        intact(small, held, "replace", file, "Data", "1", "BINA", "-", stdin=bytes(9000), saying="Make room")
         intact(small, held, "get", file, "Data", "1", "-o", small / "out", saying="Make room")
         done("undo", file)
         same(contents(small), {"game.blb": BLANK}, "undo needs little room")
@@ -535,13 +563,17 @@ def two_at_once(work):
     # While another holds the folder's lock, an edit waits; reading does not.
     folder = os.open(work, os.O_RDONLY)
     fcntl.flock(folder, fcntl.LOCK_EX)
-    waiting = subprocess.Popen([PROGRAM, "add", file, "Data", "1", "TEXT", work / "data"])
+    waiting = subprocess.Popen([PROGRAM, "add", file, "Data", "1", "TEXT", work / "data"], stderr=subprocess.PIPE)
     time.sleep(0.3)
     same((waiting.poll(), done("check", file)), (None, b"accepted 24 bytes 0 resources\n"), "an edit waits")
+    time.sleep(1.5)
+    same(waiting.poll(), None, "an edit waits for more than a second")
     os.close(folder)
-    same((waiting.wait(), done("get", file, "Data", "1")), (0, b"data"), "and goes on")
+    said = waiting.communicate()[1].decode()
+    same((waiting.returncode, done("get", file, "Data", "1")), (0, b"data"), "and goes on")
+    expect("waiting for another blorb" in said and said.count("\n") == 1, f"after a second it says so, once: {said!r}")
 
 
-PARTS = (help_and_misuse, samples_of_01, media, refused_files, broken_off, refused_edits, cut_and_damaged, chains, at_the_limit,
-         new_and_names, no_journal_covered, links_and_permissions, outputs, size_limit, full_disk, permissions, other_groups,
-         two_at_once)
+PARTS = (help_and_misuse, names_with_dashes, samples_of_01, media, refused_files, broken_off, refused_edits, cut_and_damaged, chains,
+         at_the_limit, new_and_names, no_journal_covered, links_and_permissions, outputs, size_limit, full_disk, permissions,
+         other_groups, two_at_once)

@@ -14,9 +14,11 @@ use generate::{Rng, PART};
 use reference::{Answer, Call, Edit, Ledger, Refusal, Span, State, Tag};
 use std::collections::BTreeMap;
 use std::fmt::Debug;
+use std::io::{stderr, IsTerminal};
 use std::panic;
 use std::process::exit;
 use std::sync::atomic::Ordering;
+use std::time::{Duration, Instant};
 
 const DEFAULT_SEED: u64 = 20_040_204;
 const DEFAULT_COUNT: u64 = 400_000;
@@ -48,6 +50,7 @@ impl Tally {
     }
 
     pub fn fail(&self, call: &str, complaint: &str) -> ! {
+        eprintln!();
         println!("compare: DIFFERENCE in case {:#x}", self.case);
         println!("{call}");
         println!("{complaint}");
@@ -602,6 +605,35 @@ fn run_case(tally: &mut Tally, case: u64) {
     }
 }
 
+/// How far the run is, on standard error: in one line of a terminal twice a second, elsewhere in a line for each tenth.
+struct Progress {
+    total: u64,
+    begun: Instant,
+    next: Duration,
+    terminal: bool,
+}
+
+impl Progress {
+    fn new(total: u64) -> Progress {
+        Progress { total, begun: Instant::now(), next: Duration::ZERO, terminal: stderr().is_terminal() }
+    }
+
+    fn show(&mut self, inputs: u64, calls: u64) {
+        let (total, passed) = (self.total, self.begun.elapsed());
+        let text = || format!("compare: {inputs} of {total} inputs, {calls} calls, {} s", passed.as_secs());
+        if !self.terminal {
+            if inputs * 10 / total > (inputs - 1) * 10 / total {
+                eprintln!("{}", text());
+            }
+        } else if inputs == total {
+            eprint!("\r\x1b[K");
+        } else if passed >= self.next {
+            eprint!("\r{}\x1b[K", text());
+            self.next = passed + Duration::from_millis(500);
+        }
+    }
+}
+
 struct Options {
     seed: u64,
     count: u64,
@@ -648,8 +680,10 @@ fn main() {
     }
     println!("compare: seed {} count {}", options.seed, options.count);
     let mut rng = Rng::new(options.seed);
+    let mut progress = Progress::new(options.count);
     for i in 0..options.count {
         run_case(&mut tally, rng.next() & !0xFF | family_of(i));
+        progress.show(i + 1, tally.calls);
     }
     for family in large::FAMILIES {
         run_case(&mut tally, rng.next() & !0xFF | family as u64);

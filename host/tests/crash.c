@@ -6,6 +6,9 @@
  *   CRASH_FAIL  if set, the step fails with this errno instead of ending the program
  *   CRASH_MAKE  if set, an empty file of this name is made just before the step, as another program might; the step is carried out
  *   CRASH_LOG   the file to which a line is appended for each step carried out
+ *   CRASH_READS if set, a line for each read is appended too; a read is no step
+ *   CRASH_CARD  if set, files are as on a FAT card that root mounted: all of them root's with every permission, no other owners or
+ *               permissions taken, and no hard links
  *
  * A step is a call that can change what lies on the disk or when. Exit status 77 says that the program was ended here.
  */
@@ -96,11 +99,58 @@ int openat(int folder, const char *path, int flags, ...)
 
 ssize_t write(int fd, const void *from, size_t size)
 {
+    char length[32];
     if (steps + 1 == setting("CRASH_AT") && getenv("CRASH_HALF") != NULL)
         syscall(SYS_write, fd, from, size / 2);
-    if (step("write", name_of(fd), ""))
+    snprintf(length, sizeof length, "%zu", size);
+    if (step("write", name_of(fd), length))
         return -1;
     return syscall(SYS_write, fd, from, size);
+}
+
+ssize_t read(int fd, void *to, size_t size)
+{
+    char length[32];
+    ssize_t n = syscall(SYS_read, fd, to, size);
+    snprintf(length, sizeof length, "%zd", n);
+    if (getenv("CRASH_READS") != NULL)
+        note("read", name_of(fd), length);
+    return n;
+}
+
+/* Gives 1 on a card, where a call about owners, permissions and links is not permitted. */
+static int not_on_card(void)
+{
+    if (getenv("CRASH_CARD") == NULL)
+        return 0;
+    errno = EPERM;
+    return 1;
+}
+
+/* There even the permissions that are shown can depend on the name. */
+static int as_on_card(int done, struct stat *status, const char *name)
+{
+    const char *temporary = strstr(name, ".blorb-temp");
+    if (done == 0 && getenv("CRASH_CARD") != NULL) {
+        status->st_mode |= temporary != NULL ? 0666 : 0777;
+        status->st_uid = status->st_gid = 0;
+    }
+    return done;
+}
+
+int fstatat(int folder, const char *path, struct stat *status, int flags)
+{
+    return as_on_card((int)syscall(SYS_newfstatat, folder, path, status, flags), status, path);
+}
+
+int fstat(int fd, struct stat *status)
+{
+    return as_on_card((int)syscall(SYS_fstat, fd, status), status, name_of(fd));
+}
+
+int stat(const char *path, struct stat *status)
+{
+    return fstatat(AT_FDCWD, path, status, 0);
 }
 
 int fsync(int fd)
@@ -119,17 +169,24 @@ int close(int fd)
 
 int fchmod(int fd, mode_t mode)
 {
-    return step("fchmod", name_of(fd), "") ? -1 : (int)syscall(SYS_fchmod, fd, mode);
+    return step("fchmod", name_of(fd), "") || not_on_card() ? -1 : (int)syscall(SYS_fchmod, fd, mode);
 }
 
 int fchown(int fd, uid_t owner, gid_t group)
 {
-    return step("fchown", name_of(fd), "") ? -1 : (int)syscall(SYS_fchown, fd, owner, group);
+    return step("fchown", name_of(fd), "") || not_on_card() ? -1 : (int)syscall(SYS_fchown, fd, owner, group);
 }
 
 int flock(int fd, int how)
 {
     return step("flock", name_of(fd), "") ? -1 : (int)syscall(SYS_flock, fd, how);
+}
+
+int ftruncate(int fd, off_t size)
+{
+    char length[32];
+    snprintf(length, sizeof length, "%lld", (long long)size);
+    return step("truncate", name_of(fd), length) ? -1 : (int)syscall(SYS_ftruncate, fd, size);
 }
 
 int renameat(int from, const char *old, int to, const char *new)
@@ -139,7 +196,7 @@ int renameat(int from, const char *old, int to, const char *new)
 
 int linkat(int from, const char *old, int to, const char *new, int flags)
 {
-    return step("link", old, new) ? -1 : (int)syscall(SYS_linkat, from, old, to, new, flags);
+    return step("link", old, new) || not_on_card() ? -1 : (int)syscall(SYS_linkat, from, old, to, new, flags);
 }
 
 int unlinkat(int folder, const char *name, int flags)

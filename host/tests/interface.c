@@ -15,9 +15,9 @@
 
 #include "blorb.h"
 
-/* ---- the header's numbers, by document 01 */
+/* ---- the header's numbers, by docs/RULES.md */
 
-#define IS(name, number) _Static_assert((name) == (number), "01 has " #number " for " #name)
+#define IS(name, number) _Static_assert((name) == (number), "docs/RULES.md has " #number " for " #name)
 
 /* Sizes. Before a chunk's data stand type and length (rule 2); a record has 25 bytes before its data and a trailer behind. */
 IS(BLORB_MAX_SIZE, 16777216);
@@ -196,7 +196,7 @@ static image record(uint8_t kind, const char *usage, uint32_t number, uint32_t p
     return r;
 }
 
-/* Document 01's samples A and B. */
+/* The first two examples of docs/RULES.md. */
 static image sample_a(void)
 {
     image f = blank();

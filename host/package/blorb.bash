@@ -1,0 +1,71 @@
+# shellcheck shell=bash
+# Completion for blorb in bash. Commands, operands and options come from the program's own help.
+
+# The usage lines of a command: what stands behind it.
+_blorb_usage() { # program, command
+    "$1" --help 2> /dev/null | sed -n "s/^  blorb $2 //p"
+}
+
+# What is to be typed behind this option, if anything: OUT, FOLDER ..
+_blorb_argument() { # option, usage lines
+    sed -n "s/.*$1 \([A-Z][A-Z]*\).*/\1/p" <<< "$2" | head -n 1
+}
+
+# What stands where the word under way is: FILE, USAGE, NUMBER ..
+_blorb_operand() { # usage lines
+    local i word place=0 operands
+    if [[ ${COMP_WORDS[COMP_CWORD - 1]} == -?* ]]; then
+        word=$(_blorb_argument "${COMP_WORDS[COMP_CWORD - 1]}" "$1")
+        [ -z "$word" ] || { echo "$word"; return; }
+    fi
+    for ((i = 2; i < COMP_CWORD; i++)); do
+        word=${COMP_WORDS[i]}
+        if [[ $word != -?* ]]; then place=$((place + 1))
+        elif [ -n "$(_blorb_argument "$word" "$1")" ]; then i=$((i + 1)); fi
+    done
+    read -r -a operands < <(head -n 1 <<< "$1" | sed -e 's/\[-[^]]*\]//g' -e 's/,.*//' -e 's/[][]//g')
+    echo "${operands[place]:-}"
+}
+
+# The types that a usage allows.
+_blorb_types() {
+    case $1 in
+        Pict) echo 'PNG JPEG Rect' ;;
+        Snd) echo 'OGGV MOD SONG FORM' ;;
+        Data) echo 'TEXT BINA' ;;
+        *) echo 'ZCOD GLUL TAD2 TAD3 HUGO ALAN ADRI LEVE AGT MAGS ADVS EXEC' ;;
+    esac
+}
+
+# The numbers that the file has for a usage.
+_blorb_numbers() { # program, file, usage
+    "$1" list "$2" 2> /dev/null | sed -n "s/^$3 *\([0-9][0-9]*\) at .*/\1/p"
+}
+
+_blorb_commands() { # program
+    "$1" --help 2> /dev/null | sed -n 's/^  blorb \([a-z][a-z-]*\).*/\1/p'
+}
+
+_blorb() {
+    local program=$1 now=$2 usage words
+    if [ "$COMP_CWORD" -eq 1 ]; then
+        mapfile -t COMPREPLY < <(compgen -W "$(_blorb_commands "$program") --help" -- "$now")
+        return
+    fi
+    usage=$(_blorb_usage "$program" "${COMP_WORDS[1]}")
+    if [[ $now == -* ]]; then
+        words=$(grep -o -e '-[a-z-]*[a-z]' <<< "$usage")
+        mapfile -t COMPREPLY < <(compgen -W "$words --help" -- "$now")
+        return
+    fi
+    case $(_blorb_operand "$usage") in
+        USAGE) mapfile -t COMPREPLY < <(compgen -W 'Pict Snd Data Exec' -- "$now") ;;
+        TYPE) mapfile -t COMPREPLY < <(compgen -W "$(_blorb_types "${COMP_WORDS[3]}")" -- "$now"; compgen -f -- "$now") ;;
+        NUMBER) mapfile -t COMPREPLY < <(compgen -W "$(_blorb_numbers "$program" "${COMP_WORDS[2]}" "${COMP_WORDS[3]}")" -- "$now") ;;
+        COMMAND) mapfile -t COMPREPLY < <(compgen -W "$(_blorb_commands "$program")" -- "$now") ;;
+        FOLDER) mapfile -t COMPREPLY < <(compgen -d -- "$now") ;;
+        *) mapfile -t COMPREPLY < <(compgen -f -- "$now") ;;
+    esac
+}
+
+complete -o filenames -F _blorb blorb
