@@ -24,13 +24,13 @@
  *   - `usage` and `type` point at four bytes, such as "Pict" or "TEXT". No closing zero is needed.
  *
  * Every call but blorb_blank judges the whole file first, each time. It looks at no data, so the time does not depend on the size of the
- * resources. It is proportional to entries + chunks where the entries stand in the order of their chunks and the numbers of each usage
- * rise. In another order it can grow to entries * (entries + chunks): tens of milliseconds for 4,096 entries in reverse order over as
- * many chunks, and 26 seconds over the two million empty chunks that a file has room for. An edit besides moves the bytes behind
- * what it changes, once.
+ * resources. It is proportional to entries + chunks where the numbers of each usage rise from entry to entry. Where they do not, earlier
+ * pairs are looked through as well, and the time can grow to chunks + entries * entries. This holds for refused files too. An edit besides
+ * moves the bytes behind what it changes, once.
  *
  * To go through an index, call blorb_read once: in an accepted file entry i stands at 24 + BLORB_ENTRY_SIZE * i, as usage, number and
- * start of its chunk, each of four bytes, the first one highest.
+ * start of its chunk, each of four bytes, the first one highest. Starts never fall from entry to entry, so a file can be played from front
+ * to back.
  *
  * Answers come back by value, so there is no result area that could be too small. Each call below lists its refusals in the order
  * in which they are looked for. The archive needs nothing but memmove and memset.
@@ -69,7 +69,7 @@ enum {
 
 /*
  * Refusals. Those of the file are looked for in the order in which they stand here, but 6, 28, 29 and 7 chunk by
- * chunk, 12 to 16 entry by entry, and 17 to 19 chunk by chunk again: the first faulty chunk or entry decides.
+ * chunk, 12 to 16 and 27 entry by entry, and 17 to 19 chunk by chunk again: the first faulty chunk or entry decides.
  */
 enum {
     BLORB_DONE = 0,
@@ -93,6 +93,7 @@ enum {
     BLORB_TYPE = 14,            /* the chunk's type does not suit the usage; place: entry */
     BLORB_EXEC_NUMBER = 15,     /* an Exec with a number other than 0; place: entry + 4 */
     BLORB_REPEATED = 16,        /* an earlier entry has this usage and number; place: entry */
+    BLORB_ORDER = 27,           /* the start is lower than that of the entry before it; place: entry + 8 */
     BLORB_SECOND_OPTIONAL = 17, /* a second 'RelN' or 'Fspc'; place: its start */
     BLORB_OPTIONAL_LENGTH = 18, /* the length of 'RelN' is not 2, or that of 'Fspc' not 4; place: its start + 4 */
     BLORB_FRONTISPIECE = 19,    /* the frontispiece's picture is not in the index, or a 'Rect'; place: its start + 8 */

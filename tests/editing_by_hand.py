@@ -12,8 +12,8 @@ from itertools import permutations, product
 
 from building import be, blorb, chunk, form, put, starts
 from editing_run import Scenario, fill, lent
-from reading_by_hand import (A, ANNO, B, B_BINA, B_LESS, BLANK, BROKEN, BROKEN_OFF, DATA, EXEC, JPEG, KINDS, PICT, RECT,
-                             RELN, SND, TEXT, WHOLE, ZCOD, behind, fspc, large)
+from reading_by_hand import (A, ANNO, B, B_BINA, B_LESS, B_TURNED, BLANK, BROKEN, BROKEN_OFF, DATA, EXEC, JPEG, KINDS, PICT,
+                             RECT, RELN, SND, TEXT, WHOLE, ZCOD, behind, fspc, large)
 
 Stated = namedtuple("Stated", "number place len used file")
 SCENARIOS = []
@@ -95,12 +95,12 @@ assert len(record(1, PICT, 1, 1)) == 29 and record(1, PICT, 1, 1)[-4:] == be(25)
 
 for at, (old, new) in product(range(3), product(range(4), range(4))):
     mid = [(b"BINA", b"bina"[:old]) if k == at else TEXT for k in range(3)]
-    file = blorb([(DATA, k, 2 * k) for k in (2, 0, 1)], [mid[0], ANNO, mid[1], (b"ANNO", b"x"), mid[2]])
+    file = blorb([(DATA, 2 - k, 2 * k) for k in range(3)], [mid[0], ANNO, mid[1], (b"ANNO", b"x"), mid[2]])
     mid[at] = (b"TEXT", b"text"[:new])
-    after = blorb([(DATA, k, 2 * k) for k in (2, 0, 1)], [mid[0], ANNO, mid[1], (b"ANNO", b"x"), mid[2]])
+    after = blorb([(DATA, 2 - k, 2 * k) for k in range(3)], [mid[0], ANNO, mid[1], (b"ANNO", b"x"), mid[2]])
     L = len(file) - size(bytes(old)) + size(bytes(new))
     scenario(f"chunk {at} from {old} to {new}", file, [
-        (replace(DATA, at, *mid[at]), done(L, 29 + old, after)), (UNDO, done(len(file), 0, file))],
+        (replace(DATA, 2 - at, *mid[at]), done(L, 29 + old, after)), (UNDO, done(len(file), 0, file))],
         room=max(L, len(file)) + 3, shown=at == 1)
 for n in range(6):
     scenario(f"add of {n} bytes", B, [
@@ -112,7 +112,7 @@ scenario("only the type", B, [(replace(DATA, 7, b"BINA", b"eel"), done(76, 32)),
 # ---- chunks without an entry before, between and behind
 
 BETWEEN = [ANNO, TEXT, (b"ANNO", b"odd"), JPEG, RELN, (b"TEXT", b"no entry")]
-PAIRS = [(PICT, 1, 3), (DATA, 7, 1)]
+PAIRS = [(DATA, 7, 1), (PICT, 1, 3)]
 MIXED = blorb(PAIRS, BETWEEN)
 scenario("between: add", MIXED, [
     (add(SND, 2, b"SONG", b"s"), done(file=blorb(PAIRS + [(SND, 2, 6)], BETWEEN + [(b"SONG", b"s")]))),
@@ -132,9 +132,9 @@ scenario("blank with chunks behind", behind(BLANK, chunk(*ANNO)), [
     (DATA_7, done(60, 29)), (remove(DATA, 7), done(36, 61)), (UNDO, done(60)), (UNDO, done(36, 0))])
 scenario("removed to nothing", A, [(remove(DATA, 7), done(24, 32, BLANK)), (UNDO, done(48, 0, A))], room=48)
 
-# ---- shared chunks, and entries against the chunks' order
+# ---- shared chunks, and each of four entries
 
-SHARED = blorb([(PICT, 1, 1), (DATA, 7, 0), (PICT, 2, 1), (EXEC, 0, 2)], [TEXT, JPEG, ZCOD])
+SHARED = blorb([(DATA, 7, 0), (PICT, 1, 1), (PICT, 2, 1), (EXEC, 0, 2)], [TEXT, JPEG, ZCOD])
 ONE_LESS = blorb([(DATA, 7, 0), (PICT, 2, 1), (EXEC, 0, 2)], [TEXT, JPEG, ZCOD])
 TWO_LESS = blorb([(DATA, 7, 0), (EXEC, 0, 1)], [TEXT, ZCOD])
 scenario("shared: replace", SHARED, [
@@ -153,30 +153,31 @@ THREE = blorb([(PICT, n, 0) for n in (9, 5, 7)], [JPEG])
 scenario("three names of one chunk", THREE, [
     (remove(PICT, 5), done(58, 29)), (remove(PICT, 9), done(46, 58)), (remove(PICT, 7), done(24, 89, BLANK)),
     (UNDO, done(46)), (UNDO, done(58)), (UNDO, done(70, 0, THREE))], journal=89)
-TURNED = blorb([(EXEC, 0, 3), (SND, 3, 2), (PICT, 1, 1), (DATA, 7, 0)], [TEXT, JPEG, (b"OGGV", b"o"), ZCOD])
-for usage, number in ((EXEC, 0), (SND, 3), (PICT, 1), (DATA, 7)):
+FOUR = blorb([(DATA, 7, 0), (PICT, 1, 1), (SND, 3, 2), (EXEC, 0, 3)], [TEXT, JPEG, (b"OGGV", b"o"), ZCOD])
+for usage, number in ((DATA, 7), (PICT, 1), (SND, 3), (EXEC, 0)):
     kind = KINDS[usage][0]
-    scenario(f"against the order: {usage.decode()}", TURNED, [
+    scenario(f"one of four: {usage.decode()}", FOUR, [
         (replace(usage, number, kind, b"1"), done()), (remove(usage, number), done()),
-        (add(usage, number, kind, b"12"), done()), (UNDO, done()), (UNDO, done()), (UNDO, done(file=TURNED))], journal=128)
+        (add(usage, number, kind, b"12"), done()), (UNDO, done()), (UNDO, done()), (UNDO, done(file=FOUR))], journal=128)
 
 # ---- the frontispiece's picture: 119 with its place in the resulting file
 
 PIECES = {"F": fspc(1), "P": JPEG, "T": TEXT}
 for order in permutations("FPT"):
     word = "".join(order)
-    names = [(PICT, 1, word.index("P")), (DATA, 7, word.index("T"))]
+    names = sorted([(PICT, 1, word.index("P")), (DATA, 7, word.index("T"))], key=lambda e: e[2])
     chunks = [PIECES[c] for c in order]
+    entry = 24 + 12 * (names[0][0] == DATA)    # of the picture
     file, F = blorb(names, chunks), word.index("F")
     wide = [RECT if c == "P" else PIECES[c] for c in order]
     less = [PIECES[c] for c in order if c != "P"]
     scenario(f"frontispiece {word}", file, [
         (replace(PICT, 1, *RECT), no(119, starts(2, wide)[F] + 8)),
         (remove(PICT, 1), no(119, starts(1, less)[word.replace("P", "").index("F")] + 8)),
-        (replace(PICT, 1, b"Rect", b"1234567"), no(114, 24)), (replace(PICT, 1, b"PNG ", b"123"), done()),
+        (replace(PICT, 1, b"Rect", b"1234567"), no(114, entry)), (replace(PICT, 1, b"PNG ", b"123"), done()),
         (remove(DATA, 7), done()), (add(PICT, 2, *RECT), done()), (UNDO, done()), (UNDO, done()), (UNDO, done(file=file))],
         journal=128)
-    shared = blorb([(PICT, 4, word.index("P"))] + names, chunks)
+    shared = blorb(sorted([(PICT, 4, word.index("P"))] + names, key=lambda e: e[2]), chunks)
     scenario(f"frontispiece shared {word}", shared, [
         (replace(PICT, 1, *RECT), no(23)), (replace(PICT, 4, *RECT), no(23)),
         (remove(PICT, 1), no(119, starts(2, chunks)[F] + 8)),
@@ -317,7 +318,7 @@ for beyond, spoiled, target, wrong, full, short in product(BEYOND, (False, True)
     L = len(SHARED)
     matrix(f"replace {target}" + " 114" * wrong + " 24" * full + " 25" * short, SHARED,
            replace(*TARGETS[target], b"EXEC" if wrong else b"BINA" if target != "23" else b"JPEG", b"12345"),
-           first((target == "22", 22, 0), (target == "23", 23, 0), (wrong, 114, 36), (full, 24, 0), (short, 25, 0)),
+           first((target == "22", 22, 0), (target == "23", 23, 0), (wrong, 114, 24), (full, 24, 0), (short, 25, 0)),
            L + 1 if full else L + 4, 41 if short else 42, beyond, spoiled)
 FRONT = blorb([(PICT, 1, 0), (PICT, 2, 1), (PICT, 3, 1), (DATA, 7, 2)], [JPEG, JPEG, TEXT, fspc(1)])
 TARGETS = {"": (DATA, 7), "entry": (PICT, 2), "22": (DATA, 8), "119": (PICT, 1)}
@@ -344,7 +345,7 @@ scenario("all of both buffers", B, [(add(DATA, 8, *TEXT), no(24)), (remove(DATA,
 # ---- the reader's numbers for the present file, each before all else that is wrong with the call
 
 for k, place, spoil in BROKEN:
-    scenario(f"ten chunks with {k}", spoil(WHOLE), [
+    scenario(f"eleven chunks with {k}", spoil(WHOLE), [
         (add(DATA, 7, *JPEG), no(k, place)), (replace(DATA, 99, *TEXT), no(k, place)), (remove(DATA, 99), no(k, place)),
         (UNDO, no(k, place)), given(len(WHOLE), 29), (UNDO, no(k, place)),
         (replace(PICT, 2, *JPEG), no(k, place)), (remove(DATA, 7), no(k, place))], room=len(WHOLE), shown=False)
@@ -353,6 +354,7 @@ for name, file, k, place in BROKEN_OFF:
 scenario("L is not the file's", B, [
     step for L, number, place in ((0, 2, 0), (11, 2, 0), (12, 5, 4), (75, 5, 4), (77, 5, 4), (140, 5, 4))
     for call in CALLS for step in (given(L, 0), (call, no(number, place)))])
+scenario("B with its two entries turned", B_TURNED, [(call, no(27, 44)) for call in CALLS])
 scenario("no index", form(chunk(*ANNO)), [(call, no(8, 12)) for call in CALLS])
 scenario("only the head", form(), [(call, no(8, 12)) for call in CALLS])
 scenario("4097 entries", large(4097), [(call, no(11, 20)) for call in CALLS], shown=False)

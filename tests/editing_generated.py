@@ -6,14 +6,14 @@ the file as it is then, so that many calls succeed; the answers are not chosen h
 import editing_reference
 import reference
 from building import Dice, be, blorb, grow, put, put32
-from editing_by_hand import FIRST, FRONT, LAST, MIXED, SAME, SHARED, THREE, TURNED
+from editing_by_hand import FIRST, FOUR, FRONT, LAST, MIXED, SAME, SHARED, THREE
 from editing_run import Scenario, lent
 from reading_by_hand import B, BLANK, JPEG, PICT, WHOLE
 from reading_generated import RESOURCES, USAGES, body_for, right_file, spoil
 from undo_by_hand import HELD
 
 KINDS = {usage: [kind for u, kind in RESOURCES if u == usage] for usage in USAGES}
-FILES = [BLANK, B, MIXED, SHARED, TURNED, WHOLE, FIRST, LAST, FRONT, HELD, SAME, THREE]
+FILES = [BLANK, B, MIXED, SHARED, FOUR, WHOLE, FIRST, LAST, FRONT, HELD, SAME, THREE]
 WRONG = [b"RIdx", b"RelN", b"Fspc", b"ANNO", b"TEXT", b"Rect", bytes(4)]
 MOODS = [("add", "add", "add", "replace"), ("replace", "replace", "remove"), ("remove", "remove", "undo"), ("undo",),
          ("undo",), ("add", "replace", "remove", "undo"), ("add", "undo"), ("add", "replace", "replace", "remove")]
@@ -166,6 +166,9 @@ def a_record(d, chunks, entries, L):
     usage = d.one_of(USAGES)
     start = d.one_of([c.start for c in chunks[1:]] + [L]) + 12
     was = bytes(4) if kind == 4 else d.one_of(KINDS[usage])
+    if d.below(4):    # a place that keeps the order of the chunks
+        low, same = sum(e.start < start - 12 for e in entries), sum(e.start == start - 12 for e in entries)
+        place = low + d.below(same + 1 if kind == 4 else 1)
     return bytes([kind]) + usage + be(d.below(6)) + be(place) + be(start) + was + bytes(4)
 
 

@@ -45,13 +45,13 @@ def with_length(size, entries, chunks, fill):
 a, a_listing = blorb([(b"Data", 7, 0)], [(b"TEXT", b"eel")])
 assert len(a) == 48
 
-# All usages, types with a trailing space, odd, even and no data, two entries on one chunk, entries out of chunk order,
-# the largest number, chunks without an entry; as long as the limit allows.
+# All usages, types with a trailing space, odd, even and no data, two entries on one chunk, usages mixed, the largest
+# number, chunks without an entry; as long as the limit allows.
 mixed, mixed_listing = with_length(
     65536,
     [
-        (b"Snd ", 3, 2), (b"Pict", 2, 0), (b"Exec", 0, 3), (b"Data", 4294967295, 10), (b"Pict", 1, 0), (b"Data", 0, 1),
-        (b"Pict", 10, 5), (b"Snd ", 4000000000, 6), (b"Pict", 9, 4), (b"Snd ", 1, 8),
+        (b"Pict", 2, 0), (b"Pict", 1, 0), (b"Data", 0, 1), (b"Snd ", 3, 2), (b"Exec", 0, 3), (b"Pict", 9, 4),
+        (b"Pict", 10, 5), (b"Snd ", 4000000000, 6), (b"Snd ", 1, 8), (b"Data", 4294967295, 10),
     ],
     [
         (b"PNG ", b"\x89PNG\r"), (b"TEXT", b""), (b"MOD ", b"tune"), (b"ZCOD", b"\5code!\0"), (b"JPEG", b"\xff\xd8\xff\xe0\0\x10"),

@@ -235,7 +235,7 @@ sample("pair twice, one chunk", rows([(DATA, 7, 48), (DATA, 7, 48)], TEXT), (16,
 sample("pair twice, two chunks", rows([(DATA, 7, 48), (DATA, 7, 60)], TEXT, TEXT), (16, 36))
 sample("first again in the fourth", blorb([(DATA, 9, 0), (DATA, 8, 0), (DATA, 7, 0), (DATA, 9, 0)], [TEXT]), (16, 60))
 sample("third again in the fourth",
-       blorb([(DATA, 1, 0), (PICT, 2, 1), (DATA, 3, 0), (DATA, 3, 0)], [TEXT, JPEG]), (16, 60))
+       blorb([(DATA, 1, 0), (PICT, 2, 1), (PICT, 3, 1), (PICT, 3, 1)], [TEXT, JPEG]), (16, 60))
 sample("two repeats, the later pair first",
        blorb([(DATA, 1, 0), (DATA, 2, 0), (DATA, 2, 0), (DATA, 1, 0)], [TEXT]), (16, 48))
 sample("two repeats, the earlier pair first",
@@ -245,21 +245,47 @@ sample("number again under another usage",
        blorb([(DATA, 7, 0), (PICT, 7, 1), (SND, 7, 2)], [TEXT, JPEG, (b"MOD ", b"m")]), 3)
 sample("numbers that differ in the first byte", blorb([(DATA, 7, 0), (DATA, 0x01000007, 0)], [TEXT]), 2)
 
+# ---- 27: a start lower than that of the entry before it (02, P5)
+
+B_TURNED = blorb([(PICT, 1, 1), (DATA, 7, 0)], [TEXT, RECT])
+sample("B with its two entries turned", B_TURNED, (27, 44))
+sample("entries against the chunks' order",
+       blorb([(EXEC, 0, 3), (SND, 3, 2), (PICT, 1, 1), (DATA, 7, 0)], [TEXT, JPEG, (b"OGGV", b"o"), ZCOD]), (27, 44))
+sample("two entries on one start", rows([(DATA, 7, 48), (DATA, 8, 48)], TEXT), 2)
+sample("two entries on one start, the last chunk", blorb([(PICT, 1, 1), (PICT, 2, 1)], [TEXT, JPEG]), 2)
+sample("an entry back on the start before the last", blorb([(DATA, 1, 0), (DATA, 2, 1), (DATA, 3, 0)], [TEXT, TEXT]), (27, 56))
+sample("numbers falling and starts rising", blorb([(DATA, 3, 0), (DATA, 2, 1), (DATA, 1, 2)], [TEXT] * 3), 3)
+sample("numbers falling and starts falling", blorb([(DATA, 3, 2), (DATA, 2, 1), (DATA, 1, 0)], [TEXT] * 3), (27, 44))
+sample("numbers rising and starts falling", blorb([(DATA, 1, 2), (DATA, 2, 1), (DATA, 3, 0)], [TEXT] * 3), (27, 44))
+for last in range(4):
+    verdict = 4 if last >= 2 else (27, 68)
+    sample(f"the last of four on chunk {last}", blorb([(DATA, n, c) for n, c in enumerate((0, 1, 2, last))], [TEXT] * 4), verdict)
+for first in range(4):
+    verdict = 4 if first <= 1 else (27, 44)
+    sample(f"the first of four on chunk {first}", blorb([(DATA, n, c) for n, c in enumerate((first, 1, 2, 3))], [TEXT] * 4), verdict)
+sample("empty chunks, eight bytes lower", blorb([(DATA, 1, 1), (DATA, 2, 0)], [(b"TEXT", b"")] * 2), (27, 44))
+sample("lower than the entry before, not than the first",
+       blorb([(DATA, 1, 0), (DATA, 2, 2), (DATA, 3, 1)], [TEXT] * 3), (27, 56))
+sample("two that are lower", blorb([(DATA, 1, 2), (DATA, 2, 1), (DATA, 3, 0), (DATA, 4, 2)], [TEXT] * 3), (27, 44))
+ORDERLY = blorb([(PICT, i, i // 1024) for i in range(4096)], [JPEG] * 4)
+sample("4096 entries of four chunks", ORDERLY, 4096)
+sample("4096, the last on the first chunk", put32(ORDERLY, 24 + 12 * 4095 + 8, 24 + 12 * 4096), (27, 24 + 12 * 4095 + 8))
+
 # ---- good files
 
 sample("three names of one chunk", blorb([(PICT, 1, 0), (PICT, 2, 0), (PICT, 3, 0)], [JPEG]), 3)
-sample("shared and single", blorb([(PICT, 1, 1), (DATA, 7, 0), (PICT, 2, 1)], [TEXT, JPEG]), 3)
-sample("entries against the chunks' order",
-       blorb([(EXEC, 0, 3), (SND, 3, 2), (PICT, 1, 1), (DATA, 7, 0)], [TEXT, JPEG, (b"OGGV", b"o"), ZCOD]), 4)
+sample("shared and single", blorb([(DATA, 7, 0), (PICT, 1, 1), (PICT, 2, 1)], [TEXT, JPEG]), 3)
+sample("single and shared", blorb([(DATA, 7, 0), (DATA, 8, 0), (PICT, 1, 1), (DATA, 9, 2)], [TEXT, JPEG, TEXT]), 4)
 sample("numbers falling",
        blorb([(PICT, 9, 0), (PICT, 5, 0), (PICT, 1, 0), (DATA, 3, 1), (DATA, 2, 1)], [JPEG, TEXT]), 5)
 sample("numbers up and down",
        blorb([(PICT, 5, 0), (PICT, 9, 0), (PICT, 7, 0), (PICT, 6, 0), (PICT, 8, 0)], [JPEG]), 5)
 sample("usages mixed",
-       blorb([(SND, 1, 1), (PICT, 1, 0), (EXEC, 0, 2), (PICT, 0, 0), (SND, 0, 1)], [JPEG, (b"SONG", b""), ZCOD]), 5)
+       blorb([(SND, 1, 0), (PICT, 1, 1), (EXEC, 0, 2), (PICT, 0, 3), (SND, 0, 4)],
+             [(b"SONG", b""), JPEG, ZCOD, JPEG, (b"SONG", b"")]), 5)
 sample("least and greatest number", blorb([(DATA, 0, 0), (DATA, 4294967295, 0), (DATA, 2147483648, 0)], [TEXT]), 3)
 for n in range(6):
-    sample(f"data of {n}", blorb([(DATA, 7, 1), (SND, 1, 0)], [(b"MOD ", b"abcde"[:n]), (b"BINA", b"vwxyz"[:n])]), 2)
+    sample(f"data of {n}", blorb([(SND, 1, 0), (DATA, 7, 1)], [(b"MOD ", b"abcde"[:n]), (b"BINA", b"vwxyz"[:n])]), 2)
 sample("empty data at the end", blorb([(DATA, 1, 0), (DATA, 2, 1)], [TEXT, (b"TEXT", b"")]), 2)
 sample("empty data in a row", blorb([(DATA, 1, 0), (DATA, 2, 1), (DATA, 3, 2)], [(b"TEXT", b"")] * 3), 3)
 sample("a long chunk",
@@ -357,6 +383,18 @@ sample("13/16", rows([(DATA, 7, 48), (DATA, 7, 49)], TEXT), (13, 44))
 sample("14/15", rows([(EXEC, 1, 36)], TEXT), (14, 24))
 sample("14/16", blorb([(DATA, 7, 0), (DATA, 7, 1)], [TEXT, ZCOD]), (14, 36))
 sample("15/16 Exec 1 twice", rows([(EXEC, 1, 48), (EXEC, 1, 48)], ZCOD), (15, 28))
+sample("12/27", rows([(DATA, 7, 60), (b"data", 8, 48)], TEXT, TEXT), (12, 36))
+sample("13/27", rows([(DATA, 7, 60), (DATA, 8, 49)], TEXT, TEXT), (13, 44))
+sample("13/27 start 12", rows([(DATA, 7, 60), (DATA, 8, 12)], TEXT, TEXT), (13, 44))
+sample("14/27", blorb([(PICT, 1, 1), (PICT, 2, 0)], [TEXT, RECT]), (14, 36))
+sample("15/27", blorb([(PICT, 1, 1), (EXEC, 1, 0)], [ZCOD, RECT]), (15, 40))
+sample("16/27 in one entry", rows([(DATA, 7, 60), (DATA, 7, 48)], TEXT, TEXT), (16, 36))
+sample("16/27 in one entry, the pair of the first", blorb([(DATA, 7, 1), (DATA, 9, 2), (DATA, 7, 0)], [TEXT] * 3), (16, 48))
+sample("27/12 entry 1 with 27, entry 2 with 12", blorb([(DATA, 7, 1), (DATA, 8, 0), (b"data", 9, 1)], [TEXT, TEXT]), (27, 44))
+sample("27/16 entry 1 with 27, entry 2 with 16", blorb([(DATA, 7, 1), (DATA, 8, 0), (DATA, 7, 1)], [TEXT, TEXT]), (27, 44))
+sample("27/17", blorb([(DATA, 7, 3), (DATA, 8, 2)], [RELN, RELN, TEXT, TEXT]), (27, 44))
+sample("27/19", blorb([(DATA, 7, 2), (DATA, 8, 1)], [fspc(1), TEXT, TEXT]), (27, 44))
+sample("11/27", put32(large(4097), 32, 24 + 12 * 4097 + 8), (11, 20))
 sample("16/17", blorb([(DATA, 7, 2), (DATA, 7, 2)], [RELN, RELN, TEXT]), (16, 36))
 sample("16/19", blorb([(DATA, 7, 1), (DATA, 7, 1)], [fspc(1), TEXT]), (16, 36))
 sample("17/18 in one chunk", pictures(RELN, (b"RelN", b"abc")), (17, 82))
@@ -373,58 +411,60 @@ sample("18/19 a picture, then a length", pictures(fspc(3), (b"RelN", b"")), (19,
 sample("an unknown usage twice (A9)", rows([(b"data", 7, 48), (b"data", 7, 48)], TEXT), (12, 24))
 sample("A8: 16, then 12", blorb([(DATA, 7, 0), (DATA, 7, 0), (b"data", 1, 0)], [TEXT]), (16, 36))
 
-# ---- 12 to 16: two faults in two entries, in both orders (and twice the same)
+# ---- 12 to 16 and 27: two faults in two entries, in both orders (and twice the same)
 
-WORDS = [TEXT, JPEG, ZCOD]
+WORDS = [(b"BINA", b"low"), TEXT, JPEG, ZCOD]
 AT = starts(4, WORDS)
 FAULTY = {
-    12: ((b"pict", 1, AT[1]), 0),
-    13: ((PICT, 2, AT[1] + 2), 8),
-    14: ((PICT, 3, AT[0]), 0),
-    15: ((EXEC, 5, AT[2]), 4),
-    16: ((DATA, 7, AT[0]), 0),
+    12: ((b"pict", 1, AT[2]), 0),
+    13: ((PICT, 2, AT[2] + 2), 8),
+    14: ((PICT, 3, AT[1]), 0),
+    15: ((EXEC, 5, AT[3]), 4),
+    16: ((DATA, 7, AT[1]), 0),
+    27: ((DATA, 8, AT[0]), 8),
 }
 for k, (row, inside) in FAULTY.items():
     for other, (later, _) in FAULTY.items():
-        file = rows([(DATA, 7, AT[0]), row, (PICT, 9, AT[1]), later], *WORDS)
+        file = rows([(DATA, 7, AT[1]), row, (PICT, 9, AT[2]), later], *WORDS)
         sample(f"entry with {k}, then with {other}", file, (k, 36 + inside))
 
-# ---- Every two faults in one file of ten chunks and six entries. The faults change bytes and no length, and stand
+# ---- Every two faults in one file of eleven chunks and seven entries. The faults change bytes and no length, and stand
 # here in the order in which they decide: 7 is in the first chunk, 28 in the last but one, 6 in the last; the entries' faults
-# are in entries 1 to 5; 18, 19 and 17 are in the order of their chunks. 29 is only at an odd file's end: it comes behind.
+# are in entries 1 to 6; 18, 19 and 17 are in the order of their chunks. 29 is only at an odd file's end: it comes behind.
 
-TEN = [TEXT, RECT, (b"JPEG", b"12345"), (b"BINA", b"ab"), ZCOD, (b"OGGV", b"og"),
-       (b"RelN", b"\1\0"), fspc(2), (b"ANNO", b"ab"), ANNO]
-SIX = [(DATA, 7, 0), (PICT, 1, 1), (PICT, 2, 2), (DATA, 8, 3), (EXEC, 0, 4), (SND, 9, 5)]
-WHOLE = blorb(SIX, TEN)
-AT = starts(6, TEN)
+ELEVEN = [TEXT, RECT, (b"JPEG", b"12345"), (b"BINA", b"ab"), ZCOD, (b"OGGV", b"og"), (b"TEXT", b"end"),
+          (b"RelN", b"\1\0"), fspc(2), (b"ANNO", b"ab"), ANNO]
+SEVEN = [(DATA, 7, 0), (PICT, 1, 1), (PICT, 2, 2), (DATA, 8, 3), (EXEC, 0, 4), (SND, 9, 5), (DATA, 9, 6)]
+WHOLE = blorb(SEVEN, ELEVEN)
+AT = starts(7, ELEVEN)
 BROKEN = [
     (3, 0, lambda s: put(s, 0, b"f")),
     (4, 8, lambda s: put(s, 8, b"i")),
     (5, 4, lambda s: grow(s, 4, 2)),
     (7, AT[0] + 11, lambda s: put(s, AT[0] + 11, b"\1")),
-    (28, AT[8] + 4, lambda s: put32(s, AT[8] + 4, 2 ** 31 + 2)),
-    (6, AT[9] + 10, lambda s: grow(s, AT[9] + 4, -2)),
+    (28, AT[9] + 4, lambda s: put32(s, AT[9] + 4, 2 ** 31 + 2)),
+    (6, AT[10] + 10, lambda s: grow(s, AT[10] + 4, -2)),
     (8, 12, lambda s: put(s, 15, b"y")),
-    (9, AT[8], lambda s: put(s, AT[8], b"RIdx")),
+    (9, AT[9], lambda s: put(s, AT[9], b"RIdx")),
     (10, 16, lambda s: grow(s, 20, 1)),
     (12, 36, lambda s: put(s, 36, b"p")),
     (13, 48 + 8, lambda s: grow(s, 56, 1)),
     (14, 60, lambda s: put(s, AT[3], b"Bina")),
     (15, 72 + 4, lambda s: grow(s, 76, 1)),
     (16, 84, lambda s: put(s, 84, DATA + be(7) + be(AT[0]))),
-    (18, AT[6] + 4, lambda s: grow(s, AT[6] + 4, -1)),
-    (19, AT[7] + 8, lambda s: put32(s, AT[7] + 8, 1)),
-    (17, AT[9], lambda s: put(s, AT[9], b"Fspc")),
+    (27, 96 + 8, lambda s: put32(s, 104, AT[0])),
+    (18, AT[7] + 4, lambda s: grow(s, AT[7] + 4, -1)),
+    (19, AT[8] + 8, lambda s: put32(s, AT[8] + 8, 1)),
+    (17, AT[10], lambda s: put(s, AT[10], b"Fspc")),
 ]
-sample("ten chunks", WHOLE, 6)
+sample("eleven chunks", WHOLE, 7)
 for i, (k, place, spoil) in enumerate(BROKEN):
-    sample(f"ten chunks, {k}", spoil(WHOLE), (k, place))
+    sample(f"eleven chunks, {k}", spoil(WHOLE), (k, place))
     for other, _, spoil_more in BROKEN[i + 1:]:
-        sample(f"ten chunks, {k} and {other}", spoil_more(spoil(WHOLE)), (k, place))
+        sample(f"eleven chunks, {k} and {other}", spoil_more(spoil(WHOLE)), (k, place))
 UNPADDED = right_length(WHOLE + chunk(b"ANNO", b"odd")[:-1])
-broken_off("ten chunks, 29", UNPADDED, 29, len(UNPADDED))
+broken_off("eleven chunks, 29", UNPADDED, 29, len(UNPADDED))
 for k, place, spoil in BROKEN:
     if k != 6:                                                    # there is no cut header with a chunk behind it
         earlier = k in (3, 4, 5, 7, 28)
-        sample(f"ten chunks, {k} and 29", spoil(UNPADDED), (k, place) if earlier else (29, len(UNPADDED)))
+        sample(f"eleven chunks, {k} and 29", spoil(UNPADDED), (k, place) if earlier else (29, len(UNPADDED)))

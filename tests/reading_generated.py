@@ -36,6 +36,7 @@ def right_file(d):
             row = (usages[k], 0 if usages[k] == EXEC else d.below(5), k)
             if row[:2] not in [e[:2] for e in entries]:
                 entries.append(row)
+    entries.sort(key=lambda e: e[2])    # in the order of the chunks; spoil() breaks it
     if d.below(3) == 0:
         chunks.append((b"RelN", d.bytes(2)))
     pictures = [n for u, n, k in entries if u == PICT and chunks[k][0] != b"Rect"]
@@ -50,7 +51,7 @@ def spoil(d, s, count, at):
     entry = 24 + 12 * d.below(count) if count else 24
     fields = [4, 16, 20, entry + 4, entry + 8, *(x + 4 for x in places)]
     fields = [f for f in fields if f + 4 <= len(s)]
-    what = d.below(14)
+    what = d.below(16)
     if what == 0:
         return put(s, d.below(len(s)), d.bytes(1))
     if what == 1:
@@ -73,6 +74,9 @@ def spoil(d, s, count, at):
     if count == 0:
         return s
     other = 24 + 12 * d.below(count)
+    if what in (10, 11):    # two entries, or only their starts, change places
+        n = 0 if what == 10 else 8
+        return put(put(s, entry + n, s[other + n:other + 12]), other + n, s[entry + n:entry + 12])
     return put(s, *d.one_of([
         (entry, d.one_of([*USAGES, b"pict", b"\0\0\0\0"])),
         (entry + 4, be(d.below(5))),

@@ -73,7 +73,7 @@ def chunks_of(s):
     return chunks
 
 
-# ---- rules 3 to 6: refusals 8 to 16
+# ---- rules 3 to 6: refusals 8 to 16 and 27
 
 def index_of(chunks):
     """Rule 3, refusals 8 to 11: the data of the index. The count is not read where it isn't there (10)."""
@@ -87,7 +87,7 @@ def index_of(chunks):
 
 
 def entries_of(body, chunks):
-    """Rules 4 to 6, refusals 12 to 16: entry by entry, all five of an entry before the next one."""
+    """Rules 4 to 6, refusals 12 to 16 and 27 (02, P5): entry by entry, all six of an entry before the next one."""
     behind = {c.start: c for c in chunks[1:]}                   # rule 4: chunks other than the index, by their first byte
     entries, seen = [], set()
     for i in range(be32(body, 0)):
@@ -99,6 +99,7 @@ def entries_of(body, chunks):
         refuse_if(not kind_fits(usage, behind[start]), 14, place)
         refuse_if(usage == EXEC and number != 0, 15, place + 4)
         refuse_if((usage, number) in seen, 16, place)
+        refuse_if(entries and start < entries[-1].start, 27, place + 8)
         seen.add((usage, number))
         entries.append(Entry(usage, number, start))
     return entries

@@ -8,8 +8,8 @@ from building import be, blorb, chunk, form, index, put, starts
 from editing_by_hand import (BACK, BETWEEN, DATA_7, LAST, MIXED, ONCE, PICT_1, SCENARIOS, SHARED, UNDO, done, given, no,
                              record, remove, replace, scenario, size)
 from editing_run import fill
-from reading_by_hand import (A, ANNO, B, B_BINA, B_LESS, BLANK, DATA, EXEC, JPEG, PICT, RECT, RELN, SND, TEXT, WHOLE, ZCOD,
-                             behind, fspc)
+from reading_by_hand import (A, ANNO, B, B_BINA, B_LESS, B_TURNED, BLANK, DATA, EXEC, JPEG, PICT, RECT, RELN, SND, TEXT,
+                             WHOLE, ZCOD, behind, fspc)
 
 __all__ = ["HELD", "SCENARIOS"]
 
@@ -70,7 +70,7 @@ for usage, number in ((PICT, 0), (PICT, 2), (PICT, 2 ** 24 + 1), (DATA, 7), (DAT
 undoing("added, the first of two", B, record(1, DATA, 7, 0), no(21))
 undoing("added, none is there", BLANK, record(1, DATA, 7, 0), no(21))
 undoing("added, none is there, place -1", BLANK, record(1, DATA, 7, 2 ** 32 - 1), no(21))
-undoing("added, the chunk isn't last", blorb([(PICT, 1, 1), (DATA, 7, 0)], [TEXT, RECT]), record(1, DATA, 7, 1), no(21))
+undoing("added, the entries turned", B_TURNED, record(1, DATA, 7, 1), no(27, 44))
 undoing("added, another chunk behind", behind(B, chunk(*ANNO)), ADDED, no(21))
 undoing("added, the chunk is shared", blorb([(PICT, 1, 0), (PICT, 2, 0)], [JPEG]), record(1, PICT, 2, 1), no(21))
 undoing("added, the entry is alone", A, record(1, DATA, 7, 0), done(24, 9, BLANK), room=48)
@@ -96,8 +96,8 @@ for m in (2, 4, 0, 2 ** 32 - 1):
 undoing("replaced, m and the trailer one less", B, record(2, DATA, 7, 0, 48, b"TEXT", b"eel", m=2, trailer=27), no(21))
 undoing("replaced, m and the trailer one more", B, record(2, DATA, 7, 0, 48, b"TEXT", b"eel", m=4, trailer=29), no(21))
 undoing("replaced, none is there", BLANK, record(2, DATA, 7, 0, 24, b"BINA"), no(21))
-undoing("replaced, the chunk is shared", SHARED, record(2, PICT, 1, 0, starts(4, [TEXT])[-1], *JPEG), no(21))
-undoing("replaced, beside a shared chunk", SHARED, record(2, DATA, 7, 1, 72, *TEXT), done(len(SHARED), 9, SHARED))
+undoing("replaced, the chunk is shared", SHARED, record(2, PICT, 1, 1, starts(4, [TEXT])[-1], *JPEG), no(21))
+undoing("replaced, beside a shared chunk", SHARED, record(2, DATA, 7, 0, 72, *TEXT), done(len(SHARED), 9, SHARED))
 for was in (b"JPEG", b"RIdx", b"RelN", b"Fspc", b"text", bytes(4)):
     undoing(f"replaced, type {was.hex()} before", B, record(2, DATA, 7, 0, 48, was, b"ab"), no(21))
 undoing("replaced, a Rect of 7 before", B, record(2, PICT, 1, 1, 60, b"Rect", b"1234567"), no(21))
@@ -106,11 +106,10 @@ undoing("replaced, the frontispiece's picture a Rect before", LAST, record(2, PI
 undoing("replaced, the frontispiece's picture", LAST, record(2, PICT, 1, 1, 58, b"PNG ", b"p"), done(80, 9))
 
 EEL = (b"TEXT", b"eel")
-for place, start in product((0, 1), (48, 60)):
-    names = [(DATA, 7, 1 - (start == 60))]
-    names.insert(place, (DATA, 8, start == 60))
-    undoing(f"removed from {place} at {start}", A, record(3, DATA, 8, place, start, *EEL),
-            done(72, 9, blorb(names, [EEL, EEL])))
+undoing("removed from 0 at 48", A, record(3, DATA, 8, 0, 48, *EEL), done(72, 9, blorb([(DATA, 8, 0), (DATA, 7, 1)], [EEL, EEL])))
+undoing("removed from 1 at 60", A, record(3, DATA, 8, 1, 60, *EEL), done(72, 9, blorb([(DATA, 7, 0), (DATA, 8, 1)], [EEL, EEL])))
+undoing("removed from 0 at 60, behind the entry it goes before", A, record(3, DATA, 8, 0, 60, *EEL), no(21))
+undoing("removed from 1 at 48, before the entry in front of it", A, record(3, DATA, 8, 1, 48, *EEL), no(21))
 for place in (2, 3, 2 ** 32 - 1):
     undoing(f"removed from {place}", A, record(3, DATA, 8, place, 60, *EEL), no(21))
 for start in (*range(14), 24, 36, 44, 47, 49, 56, 59, 61, 62, 72, 2 ** 31 + 48, 2 ** 32 - 12, 2 ** 32 - 1):
@@ -119,16 +118,16 @@ for start in (*range(14), 24, 36, 44, 47, 49, 56, 59, 61, 62, 72, 2 ** 31 + 48, 
 undoing("removed from a blank", BLANK, record(3, DATA, 7, 0, 36, *TEXT), done(48, 9, A), room=48)
 undoing("removed from a blank, start 24", BLANK, record(3, DATA, 7, 0, 24, *TEXT), no(21))
 undoing("removed from a blank, place 1", BLANK, record(3, DATA, 7, 1, 36, *TEXT), no(21))
-for at in starts(2, BETWEEN):
+for k, at in enumerate(starts(2, BETWEEN)):    # between the entries of chunks 1 and 3
     undoing(f"removed between chunks, {at}", MIXED, record(3, SND, 5, 1, at + 12, b"SONG", b"s"),
-            done(len(MIXED) + 22, 9))
+            done(len(MIXED) + 22, 9) if k in (2, 3) else no(21))
 for usage, number, was, body in ((b"data", 8, b"TEXT", b""), (bytes(4), 8, b"TEXT", b""), (DATA, 7, b"TEXT", b"eel"),
                                  (DATA, 8, b"JPEG", b""), (DATA, 8, b"RIdx", b""), (DATA, 8, b"RelN", b"ab"),
                                  (PICT, 8, *fspc(8)), (PICT, 8, b"Rect", b"1234567"), (SND, 8, b"FORM", b"AIF"),
                                  (EXEC, 1, b"ZCOD", b"")):
-    for start in (48, 60):
+    for place, start in ((0, 48), (1, 60)):
         undoing(f"removed {usage.hex()} {number} {was.hex()} at {start}", A,
-                record(3, usage, number, 0, start, was, body), no(21))
+                record(3, usage, number, place, start, was, body), no(21))
 undoing("removed, an Exec", A, record(3, EXEC, 0, 0, 48, *ZCOD), done(72, 9))
 undoing("removed, a second Exec", form(index([(EXEC, 0, 36)]), chunk(*ZCOD)), record(3, EXEC, 0, 0, 48, *ZCOD), no(21))
 for m in (2, 4, 2 ** 32 - 1):
@@ -136,11 +135,11 @@ for m in (2, 4, 2 ** 32 - 1):
 undoing("removed, m and the trailer one less", A, record(3, DATA, 8, 0, 48, *EEL, m=2, trailer=27), no(21))
 undoing("removed, m and the trailer one more", A, record(3, DATA, 8, 0, 48, *EEL, m=4, trailer=29), no(21))
 
-for place in (0, 1, 2):
+for place in (0, 1):
     names = [(DATA, 7, 0), (PICT, 1, 1)]
     names.insert(place, (DATA, 8, 0))
     undoing(f"named at {place}", B, record(4, DATA, 8, place, 60), done(88, 9, blorb(names, [TEXT, RECT])))
-for place in (3, 2 ** 32 - 1):
+for place in (2, 3, 2 ** 32 - 1):
     undoing(f"named at {place}", B, record(4, DATA, 8, place, 60), no(21))
 for start in (*range(14), 24, 48, 59, 61, 68, 72, 88, 100, 2 ** 32 - 1):
     undoing(f"named, start {start}", B, record(4, DATA, 8, 0, start), no(21))
@@ -154,6 +153,25 @@ undoing("named, an Exec 1", form(index([]), chunk(*ZCOD)), record(4, EXEC, 1, 0,
 undoing("named, an Exec", form(index([]), chunk(*ZCOD)), record(4, EXEC, 0, 0, 36), done(48, 9))
 for at, stated in zip(starts(1, [JPEG, RELN, fspc(1)]), (done(len(ONCE) + 12, 9), no(21), no(21), no(21))):
     undoing(f"named beside a frontispiece, {at}", ONCE, record(4, PICT, 2, 0, at + 12), stated)
+
+# ---- the order of the chunks (02, P5), kinds 3 and 4: an entry at each place, with a chunk before or at each of four chunks, or
+# at the file's end. The entries' chunks are 0, 1, 1 and 3: chunk 1 has two entries, chunk 2 none.
+
+ON = (0, 1, 1, 3)
+HOLES = blorb([(DATA, n, k) for n, k in enumerate(ON)], [TEXT] * 4)
+for place, (k, at) in product(range(5), enumerate(starts(4, [TEXT] * 4))):
+    up = [(DATA, n, c + (c >= k)) for n, c in enumerate(ON)]
+    kept = all(c < k for c in ON[:place]) and all(c >= k for c in ON[place:])
+    undoing(f"order: removed from {place} before chunk {k}", HOLES, record(3, DATA, 9, place, at + 12, b"BINA", b"new"),
+            done(file=blorb(up[:place] + [(DATA, 9, k)] + up[place:], [TEXT] * k + [(b"BINA", b"new")] + [TEXT] * (4 - k)))
+            if kept else no(21), room=len(HOLES) + 24)
+for place, (k, at) in product(range(5), enumerate(starts(4, [TEXT] * 4)[:-1])):
+    names = [(DATA, n, c) for n, c in enumerate(ON)]
+    kept = all(c <= k for c in ON[:place]) and all(c >= k for c in ON[place:])
+    undoing(f"order: named at {place} on chunk {k}", HOLES, record(4, DATA, 9, place, at + 12),
+            done(file=blorb(names[:place] + [(DATA, 9, k)] + names[place:], [TEXT] * 4)) if kept else no(21))
+undoing("order: removed, wrong and no room", HOLES, record(3, DATA, 9, 0, len(HOLES) + 12, *TEXT), no(21), room=len(HOLES))
+undoing("order: named, wrong and no room", HOLES, record(4, DATA, 9, 0, starts(4, [TEXT] * 3)[-1] + 12), no(21), room=len(HOLES))
 
 # ---- room
 

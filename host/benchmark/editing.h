@@ -239,11 +239,20 @@ static struct record last_record(const uint8_t *journal, size_t used)
     return r;
 }
 
-/* Whether the entry of a removal's record may go in again, with a chunk of this type and data. */
-static bool goes_in(const struct facts *f, const struct record *r, uint32_t type, const uint8_t *data, size_t m)
+/* Whether an entry for a chunk that is at `at`, or goes in there, may stand at `place`: its neighbours are in chunk order then. */
+static bool in_order(const struct facts *f, const struct record *r, const uint8_t *file, size_t at)
+{
+    const uint8_t *e = file + entry_at(r->place);
+
+    return (r->place == 0 || get32(e - 4) < at + (r->kind == 4)) && (r->place == f->count || get32(e + 8) >= at);
+}
+
+/* Whether the entry of a removal's record may go in again at `at`, with a chunk of this type and data. */
+static bool goes_in(const struct facts *f, const struct record *r, const uint8_t *file, size_t at, uint32_t type,
+                    const uint8_t *data, size_t m)
 {
     return r->place <= f->count && f->count < BLORB_MAX_ENTRIES && !f->found && type_allowed(r->usage, type, data, m)
-        && (r->usage != BLORB_EXEC || r->number == 0);
+        && (r->usage != BLORB_EXEC || r->number == 0) && in_order(f, r, file, at);
 }
 
 /* Whether the record fits the file and leads to an accepted one; `to` becomes that one's length. */
@@ -264,11 +273,11 @@ static bool fits(const struct facts *f, const struct record *r, const uint8_t *f
             && !(r->type == RECT && is_front(f, r->usage, r->number));
     case 3:
         *to = length + 12 + old;
-        return (f->begins || at == length) && *to <= BLORB_MAX_SIZE && goes_in(f, r, r->type, data, r->length);
+        return (f->begins || at == length) && *to <= BLORB_MAX_SIZE && goes_in(f, r, file, at, r->type, data, r->length);
     default:
         *to = length + 12;
         return f->begins && *to <= BLORB_MAX_SIZE
-            && goes_in(f, r, get32(file + at), file + at + 8, get32(file + at + 4));
+            && goes_in(f, r, file, at, get32(file + at), file + at + 8, get32(file + at + 4));
     }
 }
 

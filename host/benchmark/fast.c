@@ -202,11 +202,12 @@ static bool repeated(const uint8_t *file, size_t j, struct ranges *r)
     return hashed(pair_at(e));
 }
 
-/* Refusals 12 to 16, and the pair asked for. */
+/* Refusals 12 to 16 and 27, and the pair asked for. */
 static struct verdict entries(const uint8_t *file, size_t chunks, uint64_t pair, struct facts *f)
 {
     struct ranges ranges = {{0}, {0}, 0};
     size_t near = 0, hit = f->count;
+    uint32_t before = 0;
 
     for (size_t j = 0; j < f->count; j++) {
         size_t at = entry_at(j);
@@ -222,6 +223,9 @@ static struct verdict entries(const uint8_t *file, size_t chunks, uint64_t pair,
             return (struct verdict){BLORB_EXEC_NUMBER, at + 4};
         if (repeated(file, j, &ranges))
             return (struct verdict){BLORB_REPEATED, at};
+        if (start < before)
+            return (struct verdict){BLORB_ORDER, at + 8};
+        before = start;
         if (pair_at(file + at) == pair)
             hit = j;
     }

@@ -31,15 +31,18 @@ const uint8_t *payload(void)
     return bytes;
 }
 
-struct resource resource_of(size_t i, size_t count, size_t size)
+/* Resource i of a sample with this many, by file position: an Exec, then pictures, sounds and data. */
+static struct resource resource_of(size_t i, size_t count, size_t size, enum order order)
 {
+    uint32_t number = (uint32_t)(order == FALLING ? count - i : i);
+
     if (i == 0)
         return (struct resource){"Exec", "ZCOD", 0, size};
     if (i < count / 2)
-        return (struct resource){"Pict", "PNG ", (uint32_t)i, size};
+        return (struct resource){"Pict", "PNG ", number, size};
     if (i < count / 2 + count / 4)
-        return (struct resource){"Snd ", "OGGV", (uint32_t)i, size};
-    return (struct resource){"Data", "BINA", (uint32_t)i, size};
+        return (struct resource){"Snd ", "OGGV", number, size};
+    return (struct resource){"Data", "BINA", number, size};
 }
 
 /* Chunk i and its entry at `place` go into the file, whose chunks so far end at s->length. */
@@ -60,7 +63,7 @@ static void put_in(struct sample *s, struct resource r, size_t place)
 
 static struct sample begun(const char *name, size_t count, size_t bytes)
 {
-    struct sample s = {.name = name, .in_order = true, .count = count, .length = entry_at(count)};
+    struct sample s = {.name = name, .order = RISING, .count = count, .length = entry_at(count)};
 
     s.room = entry_at(count) + bytes + 65536;
     s.file = lent(s.room);
@@ -77,16 +80,16 @@ static void finish(struct sample *s)
     put32(s->file + 20, (uint32_t)s->count);
 }
 
-struct sample make_sample(const char *name, size_t count, size_t size, bool in_order)
+struct sample make_sample(const char *name, size_t count, size_t size, enum order order)
 {
     struct sample s = begun(name, count, count * chunk_size(size));
 
-    s.in_order = in_order;
+    s.order = order;
     for (size_t i = 0; i < count; i++)
-        put_in(&s, resource_of(i, count, size), in_order ? i : count - 1 - i);
+        put_in(&s, resource_of(i, count, size, order), order == REVERSED ? count - 1 - i : i);
     finish(&s);
-    s.first = resource_of(0, count, size);
-    s.last = resource_of(count - 1, count, size);
+    s.first = resource_of(0, count, size, order);
+    s.last = resource_of(count - 1, count, size, order);
     return s;
 }
 
@@ -105,26 +108,27 @@ struct sample make_pair(const char *name, size_t first, size_t second)
 static const struct {
     const char *name;
     size_t count, size;
-    bool in_order;
+    enum order order;
 } samples[SAMPLES] = {
-    {"16 in 1 MB", 16, 65500, true},
-    {"256 in 4 MB", 256, 16300, true},
-    {"4,096 of 1 KB", 4096, 1024, true},
-    {"4 in 15 MB", 4, 3932000, true},
-    {"256 in 4 MB, reversed", 256, 16300, false},
-    {"4,096 of 1 KB, reversed", 4096, 1024, false},
+    {"16 in 1 MB", 16, 65500, RISING},
+    {"256 in 4 MB", 256, 16300, RISING},
+    {"4,096 of 1 KB", 4096, 1024, RISING},
+    {"4 in 15 MB", 4, 3932000, RISING},
+    {"4,096 of 1 KB, falling", 4096, 1024, FALLING},
+    {"256 in 4 MB, reversed", 256, 16300, REVERSED},
+    {"4,096 of 1 KB, reversed", 4096, 1024, REVERSED},
 };
 
 struct sample sample(unsigned i)
 {
-    return make_sample(samples[i].name, samples[i].count, samples[i].size, samples[i].in_order);
+    return make_sample(samples[i].name, samples[i].count, samples[i].size, samples[i].order);
 }
 
 struct sample sample_to_add(unsigned i)
 {
     size_t count = samples[i].count == BLORB_MAX_ENTRIES ? BLORB_MAX_ENTRIES - 1 : samples[i].count;
 
-    return make_sample(samples[i].name, count, samples[i].size, samples[i].in_order);
+    return make_sample(samples[i].name, count, samples[i].size, samples[i].order);
 }
 
 void free_sample(struct sample *s)

@@ -13,10 +13,13 @@ struct resource {
     size_t size;
 };
 
+/* Entries in chunk order, the numbers of each usage rising or falling; or in reverse order, which is refused with 27. */
+enum order { RISING, FALLING, REVERSED };
+
 /* A file in a buffer with room for its edits; `first` and `last` by file position. */
 struct sample {
     const char *name;
-    bool in_order;
+    enum order order;
     size_t count, length, room;
     uint8_t *file;
     struct resource first, last;
@@ -32,17 +35,14 @@ struct edit {
 
 enum { EDITS = 10, MORE = 512, JOURNAL_ROOM = BLORB_MAX_SIZE };
 
-/* The resource number i of a sample with this many: an Exec, then pictures, sounds and data with rising numbers. */
-struct resource resource_of(size_t i, size_t count, size_t size);
+enum { SAMPLES = 7 };
 
-enum { SAMPLES = 6 };
-
-/* The files that are measured. A full index takes no add: for adds such a file has one resource less. */
+/* The files that are measured, reversed ones by their reading only. A full index takes no add: for adds such a file has one resource less. */
 struct sample sample(unsigned i);
 struct sample sample_to_add(unsigned i);
 
 /* A file of `count` resources with `size` data bytes each. */
-struct sample make_sample(const char *name, size_t count, size_t size, bool in_order);
+struct sample make_sample(const char *name, size_t count, size_t size, enum order order);
 /* A file of two resources with these data lengths. */
 struct sample make_pair(const char *name, size_t first, size_t second);
 void free_sample(struct sample *s);

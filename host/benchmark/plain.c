@@ -1,8 +1,8 @@
 /*
  * The same checks and edits as the library's, with the same algorithms, as straightforward C: one walk over the chunks, along the
- * index as far as that tells the next one; each entry's chunk sought by walking on from the last one found, or from the index where
- * it lies before; earlier pairs looked at only for an entry whose number is not above all before it of its usage; no scratch but
- * eight numbers; edits in place.
+ * index as far as that tells the next one; each entry's chunk sought by walking on from the last one found, or from the index for the
+ * one entry that lies before and is refused; earlier pairs looked at only for an entry whose number is not above all before it of its
+ * usage; no scratch but eight numbers; edits in place.
  */
 #include "calls.h"
 #include "format.h"
@@ -103,25 +103,26 @@ static bool same_pair(const uint8_t *file, size_t i, size_t j)
     return memcmp(file + entry_at(i), file + entry_at(j), 8) == 0;
 }
 
-/* Refusals 12 to 16. The usages differ in the low three bits of their first byte. */
+/* Refusals 12 to 16 and 27. The usages differ in the low three bits of their first byte. */
 static struct verdict entries(const uint8_t *file, size_t size, size_t count)
 {
     uint64_t tops[8] = {0};
     size_t base = entry_at(count), found = base;
 
     for (size_t j = 0; j < count; j++) {
-        size_t e = entry_at(j);
+        size_t e = entry_at(j), before = found;
         struct verdict v = entry_fault(file, size, base, e, &found);
         if (v.refusal != 0)
             return v;
         uint64_t number = get32(file + e + 4), *top = &tops[file[e] % 8];
-        if (number >= *top) {
+        if (number >= *top)
             *top = number + 1;
-            continue;
-        }
-        for (size_t i = 0; i < j; i++)
-            if (same_pair(file, i, j))
-                return (struct verdict){BLORB_REPEATED, e};
+        else
+            for (size_t i = 0; i < j; i++)
+                if (same_pair(file, i, j))
+                    return (struct verdict){BLORB_REPEATED, e};
+        if (found < before)
+            return (struct verdict){BLORB_ORDER, e + 8};
     }
     return (struct verdict){0, 0};
 }

@@ -44,7 +44,7 @@ static void tell_entry(const contents *c, char about[ABOUT_SIZE])
     char pair[PAIR_SIZE], type[SHOWN_SIZE];
     uint64_t number = c->read.refusal;
     about[0] = '\0';
-    if (number >= BLORB_USAGE && number <= BLORB_REPEATED) {
+    if ((number >= BLORB_USAGE && number <= BLORB_REPEATED) || number == BLORB_ORDER) {
         size_t i = (size_t)(c->read.place - FIRST_ENTRY) / BLORB_ENTRY_SIZE;
         entry e = entry_at(c->file, i);
         show_pair(e.usage, e.number, pair);

@@ -23,7 +23,8 @@ static void list_plainly(const contents *c)
     }
 }
 
-/* What the whole file tells: the starts of all entries in order, and the data of the optional chunks, null where there are none. */
+/* What the whole file tells: the starts of all entries, which never fall in an accepted file, and the data of the optional chunks, null where
+ * there are none. */
 typedef struct overview {
     uint32_t *starts;
     const uint8_t *release;
@@ -70,7 +71,6 @@ static int look_over(const contents *c, overview *o)
         return -1;
     for (size_t i = 0; i < c->read.count; i++)
         o->starts[i] = entry_at(c->file, i).start;
-    qsort(o->starts, (size_t)c->read.count, sizeof *o->starts, compare_starts);
     for (uint32_t at = FIRST_CHUNK; at < c->length; at = next_chunk(c, at)) {
         if (memcmp(type_at(c->file, at), "RelN", 4) == 0)
             o->release = data_at(c->file, at).at;

@@ -18,23 +18,6 @@ static void warn_of_entry(const contents *c, const char *shown, const entry *e)
         say_warning(shown, pair, "it has no data, and ScummVM ends with an error there");
 }
 
-/* The first entry that stands behind one with a greater start. */
-static void warn_of_order(const contents *c, const char *shown)
-{
-    uint32_t last = 0;
-    for (size_t i = 0; i < c->read.count; i++) {
-        entry e = entry_at(c->file, i);
-        char pair[PAIR_SIZE];
-        show_pair(e.usage, e.number, pair);
-        if (e.start < last) {
-            say_warning(shown, pair, "the index is not in the order of the chunks from here on, and Frotz and the readers built on"
-                        " Glk's gi_blorb refuse such a file");
-            return;
-        }
-        last = e.start;
-    }
-}
-
 /* Frotz subtracts numbers of 32 bits with a sign to put the entries in order. */
 static void warn_of_numbers(const contents *c, const char *shown, const char usage[4])
 {
@@ -78,7 +61,6 @@ void warn_of(const contents *c, const char *shown)
         entry e = entry_at(c->file, i);
         warn_of_entry(c, shown, &e);
     }
-    warn_of_order(c, shown);
     for (size_t i = 0; i < 4; i++)
         warn_of_numbers(c, shown, usages[i]);
     warn_of_data(c, shown);

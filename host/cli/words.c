@@ -39,6 +39,8 @@ static const meaning meanings[] = {
     {BLORB_TYPE, "the type of a chunk does not suit the usage of its entry", PACK_AGAIN "\n  " TYPES},
     {BLORB_EXEC_NUMBER, "an Exec has a number other than 0", PACK_AGAIN},
     {BLORB_REPEATED, "an earlier entry has the same usage and number", PACK_AGAIN},
+    {BLORB_ORDER, "an entry's chunk stands before that of the entry before it: the index is not in the order of the chunks",
+     "Sort the entries of the index by their starts, or pack the file again with a program that does."},
     {BLORB_SECOND_OPTIONAL, "there is a second 'RelN' or 'Fspc' chunk", PACK_AGAIN},
     {BLORB_OPTIONAL_LENGTH, "a 'RelN' chunk is not 2 bytes long, or an 'Fspc' chunk not 4", PACK_AGAIN},
     {BLORB_FRONTISPIECE, "the frontispiece 'Fspc' names a picture that is not in the index or is a Rect", PACK_AGAIN},

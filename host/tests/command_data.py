@@ -101,8 +101,6 @@ def warnings(work):
     file.write_bytes(blorb([(b"Pict", 1, 0), (b"Pict", 2, 1), (b"Data", 3, 2), (b"Exec", 0, 3)],
                            [(b"PNG ", jpeg()), (b"JPEG", b"a text"), (b"TEXT", png()), (b"GLUL", glulx())]))
     warned(file, "'Pict' 1: the data is a JPEG picture", "'Pict' 2: the data does not begin as", "'Data' 3: the data is a PNG picture")
-    file.write_bytes(blorb([(b"Pict", 1, 1), (b"Pict", 2, 0)], [(b"PNG ", png()), (b"PNG ", png())]))
-    warned(file, "'Pict' 2: the index is not in the order of the chunks")
     file.write_bytes(blorb([(b"Data", 1, 0)], [(b"BINA", b"")]))
     warned(file, "'Data' 1: it has no data, and ScummVM")
     file.write_bytes(blorb([(b"Exec", 0, 0), (b"Data", 5, 1)], [(b"ZCOD", story()), (b"TEXT", b"eel")]))

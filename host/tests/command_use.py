@@ -147,6 +147,7 @@ def wrong_files():
         11: form(index([(b"Data", i, 49188) for i in range(4097)]), chunk(b"TEXT")), 12: put(SAMPLE_A, 24, b"D\x1b[m"),
         13: put32(SAMPLE_A, 32, 37), 14: put(SAMPLE_A, 36, b"\0\n\xffX"), 15: form(index([(b"Exec", 1, 36)]), chunk(b"ZCOD")),
         16: blorb([(b"Data", 7, 0), (b"Data", 7, 0)], text), 17: form(index([]), chunk(b"RelN", b"ab"), chunk(b"RelN", b"ab")),
+        27: blorb([(b"Pict", 1, 1), (b"Data", 7, 0)], text + [(b"Rect", bytes(8))]),
         18: form(index([row]), chunk(*text[0]), chunk(b"RelN", b"a")), 19: form(two[12:], chunk(b"Fspc", be(1))),
     }
 
@@ -161,7 +162,7 @@ def refused_files(work):
         same(run("list", file, "--json").out, b'{"refused": %d, "place": %d}\n' % verdict[1:], "list --json of a refused file")
         text = refused(*verdict[1:], "check", file).err
         expect(all(c == "\n" or " " <= c <= "~" for c in text), f"only printable text: {text!r}")
-        if 12 <= number <= 16:
+        if 12 <= number <= 16 or number == 27:
             i, usage = (verdict[2] - 24) // 12, {12: "'D\\x1b[m' 7", 15: "'Exec' 1"}.get(number, "'Data' 7")
             expect(f": entry {i}, {usage}, start " in text, f"the entry is named: {text}")
         refused(*verdict[1:], "get", file, "Data", "7", "-o", work / "out")
@@ -190,6 +191,22 @@ def broken_off(work):
             file.write_bytes(mend(broken))
             expect(done("check", file).startswith(b"accepted"), f"{number} at {place} mended as advised")
     same(len(set(advice.values())), 3, f"three pieces of advice: {advice}")
+
+
+def out_of_order(work):
+    """27: entries that are not in the order of their chunks. Sorted by their starts, as advised, they make the file good."""
+    file, names = work / "turned.blb", [(b"Data", 7, 0), (b"Pict", 1, 1), (b"Pict", 2, 2)]
+    chunks = [(b"TEXT", b"eel"), (b"Rect", bytes(8)), (b"JPEG", jpeg())]
+    for place, order in ((44, (1, 0, 2)), (44, (2, 1, 0)), (56, (0, 2, 1)), (44, (2, 0, 1)), (56, (1, 2, 0))):
+        turned = blorb([names[k] for k in order], chunks)
+        file.write_bytes(turned)
+        refused(27, place, "check", file)
+        refused(27, place, "get", file, "Data", "7")
+        refused(27, place, "add", file, "Data", "8", "TEXT", "-", stdin=b"new")
+        same(contents(work), {"turned.blb": turned}, "a refused file is left alone")
+        rows = sorted((turned[i:i + 12] for i in range(24, 60, 12)), key=lambda row: row[8:])
+        file.write_bytes(put(turned, 24, b"".join(rows)))
+        expect(done("check", file).startswith(b"accepted"), "27 mended as advised")
 
 
 def refused_edits(work):
@@ -574,6 +591,6 @@ def two_at_once(work):
     expect("waiting for another blorb" in said and said.count("\n") == 1, f"after a second it says so, once: {said!r}")
 
 
-PARTS = (help_and_misuse, names_with_dashes, samples_of_01, media, refused_files, broken_off, refused_edits, cut_and_damaged, chains,
-         at_the_limit, new_and_names, no_journal_covered, links_and_permissions, outputs, size_limit, full_disk, permissions,
+PARTS = (help_and_misuse, names_with_dashes, samples_of_01, media, refused_files, broken_off, out_of_order, refused_edits, cut_and_damaged,
+         chains, at_the_limit, new_and_names, no_journal_covered, links_and_permissions, outputs, size_limit, full_disk, permissions,
          other_groups, two_at_once)

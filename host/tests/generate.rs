@@ -283,6 +283,12 @@ impl Draft {
         self.entries.iter().any(|entry| &entry.usage == usage && entry.number == number)
     }
 
+    /// Puts the entries in the order of their chunks. Those of one chunk keep theirs.
+    fn order_entries(&mut self) {
+        let chunks = &self.chunks;
+        self.entries.sort_by_key(|entry| chunks.iter().position(|chunk| entry.start == Start::Chunk(chunk.id)));
+    }
+
     fn tag_of(&self, start: Start) -> Option<Tag> {
         self.chunks.iter().find(|chunk| start == Start::Chunk(chunk.id)).map(|chunk| chunk.tag)
     }
@@ -377,6 +383,7 @@ pub fn valid(rng: &mut Rng, count: usize) -> Draft {
         rng.shuffle(&mut draft.chunks);
         rng.shuffle(&mut draft.entries);
     }
+    draft.order_entries();
     if rng.chance(30) {
         let content = rng.bytes(2);
         draft.insert_anywhere(rng, *b"RelN", content);

@@ -53,6 +53,7 @@ IS(BLORB_START, 13);           /* start not as in rule 4 */
 IS(BLORB_TYPE, 14);            /* type not as in rule 5 */
 IS(BLORB_EXEC_NUMBER, 15);     /* Exec with a number other than 0 */
 IS(BLORB_REPEATED, 16);        /* pair used by an earlier entry */
+IS(BLORB_ORDER, 27);           /* a start lower than the entry's before it (02, P5) */
 IS(BLORB_SECOND_OPTIONAL, 17); /* a second 'RelN' or 'Fspc' */
 IS(BLORB_OPTIONAL_LENGTH, 18); /* its length wrong */
 IS(BLORB_FRONTISPIECE, 19);    /* a frontispiece whose picture isn't in the index, or is a 'Rect' */
@@ -687,6 +688,37 @@ static void test_broken_off(void)
     }
 }
 
+/* Sample B with its two entries turned, and two names of one chunk. */
+static image turned(void)
+{
+    image f = blank();
+    row(&f, "Pict", 1, 60);
+    row(&f, "Data", 7, 48);
+    chunk(&f, "TEXT", "eel", 3);
+    chunk(&f, "Rect", "\0\0\1\x40\0\0\0\0", 8);
+    return f;
+}
+
+/* 27: entries that are not in the order of their chunks; equal starts are. A record whose place does not suit its start is 21. */
+static void test_order(void)
+{
+    image none = {.length = 0}, f = turned(), left = without_text(), s = shared();
+    image gone = record(3, "Data", 7, 1, 48, "TEXT", "eel", 3), last = record(3, "Data", 7, 0, 64, "TEXT", "eel", 3);
+    image name = record(4, "Pict", 4, 3, 72, "\0\0\0\0", "", 0);
+    reads(&f, 27, 44, 0, "27");
+    reads(&s, 0, 0, 3, "equal starts");
+    for (int call = 0; call < 4; call++) {
+        pair p = prepared(&f, 90, &none, 40);
+        refused(&p, any_edit(&p, call), 27, 44, "an edit or undo: 27");
+    }
+    pair p = prepared(&left, 76, &gone, 32);
+    refused(&p, undo(&p), 21, 0, "undo: 21, its chunk before that of the entry in front");
+    p = prepared(&left, 76, &last, 32);
+    refused(&p, undo(&p), 21, 0, "undo: 21, its chunk behind that of the entry it goes before");
+    p = prepared(&s, s.length + 12, &name, 29);
+    refused(&p, undo(&p), 21, 0, "undo: 21, a name too far back");
+}
+
 /* 20: lengths beyond the buffers, null pointers too. */
 static void test_lengths(void)
 {
@@ -723,6 +755,7 @@ int main(void)
         test_undo();
         test_undo_damaged();
         test_broken_off();
+        test_order();
         test_lengths();
     }
     printf("interface: %lu checks\ninterface: ok\n", checks);

@@ -46,18 +46,20 @@ fn filled(rng: &mut Rng, length: usize) -> File {
     file.chunks[0].data = rng.bytes(length - file.length());
     if rng.chance(50) {
         file.chunks.swap(0, 1);
-        file.entries[0].chunk = 1;
-        file.entries[1].chunk = 0;
+        file.entries.swap(0, 1);
+        file.entries[0].chunk = 0;
+        file.entries[1].chunk = 1;
     }
     file
 }
 
-/// Pictures 0, 1, 2 .. with few chunks, which most of them share.
+/// Pictures 0, 1, 2 .. with few chunks, which most of them share, the numbers in any order.
 fn many_entries(rng: &mut Rng, count: usize, chunks: usize) -> File {
     let chunk = |rng: &mut Rng| Chunk { tag: *b"JPEG", data: rng.bytes(3) };
     let chunks: Vec<Chunk> = (0..chunks).map(|_| chunk(rng)).collect();
     let entry = |rng: &mut Rng, i| Entry { usage: *b"Pict", number: i as u32, chunk: rng.below(chunks.len()) };
-    let entries = (0..count).map(|i| entry(rng, i)).collect();
+    let mut entries: Vec<Entry> = (0..count).map(|i| entry(rng, i)).collect();
+    entries.sort_by_key(|entry| entry.chunk);
     File { chunks, entries }
 }
 
@@ -157,15 +159,17 @@ fn replace_to_limit(tally: &mut Tally, rng: &mut Rng) {
 fn undo_to_limit(tally: &mut Tally, rng: &mut Rng) {
     let list = filled(rng, LIMIT - 1000);
     let file = list.write();
-    let (place, start) = (0, file.len() as u32 + 12);
-    let data_start = list.starts()[list.entries[1].chunk] as u32;
+    let (last, start) = (list.entries.len() as u32, file.len() as u32 + 12);
+    let small = list.entries.iter().position(|entry| (&entry.usage, entry.number) == (b"Data", 2)).unwrap();
+    let data_start = list.starts()[list.entries[small].chunk] as u32;
     for (size, number) in [(980, 0), (979, 0), (981, 21), (982, 21)] {
         let removed =
-            Record { kind: 3, usage: *b"Snd ", number: 4, place, start, tag: *b"MOD ", data: rng.bytes(size) };
+            Record { kind: 3, usage: *b"Snd ", number: 4, place: last, start, tag: *b"MOD ", data: rng.bytes(size) };
         let state = generate::lend(rng, file.clone(), removed.write(), 1100, 3);
         expect(tally, rng, &Call::Undo, &state, number);
         let data = rng.bytes(size + 24);
-        let replaced = Record { kind: 2, usage: *b"Data", number: 2, place: 1, start: data_start, tag: *b"TEXT", data };
+        let place = small as u32;
+        let replaced = Record { kind: 2, usage: *b"Data", number: 2, place, start: data_start, tag: *b"TEXT", data };
         let state = generate::lend(rng, file.clone(), replaced.write(), 1100, 3);
         expect(tally, rng, &Call::Undo, &state, number);
     }

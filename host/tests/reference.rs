@@ -58,7 +58,7 @@ pub struct View {
     pub entries: Vec<Entry>,
 }
 
-/// Accepts the file, or refuses it with the first reason of the table: 1 to 19, 28 and 29.
+/// Accepts the file, or refuses it with the first reason of the table, in its order.
 pub fn read(file: &[u8]) -> Result<View, Refusal> {
     if file.len() > LIMIT {
         return refuse(1, 0);
@@ -135,11 +135,11 @@ fn index_count(file: &[u8], spans: &[Span]) -> Result<usize, Refusal> {
     Ok(count)
 }
 
-/// The entries in their order. Refusals 12 to 16.
+/// The entries in their order, which is that of their chunks. Refusals 12 to 16 and 27.
 fn read_entries(file: &[u8], spans: &[Span], count: usize) -> Result<Vec<Entry>, Refusal> {
     let chunk_at: HashMap<usize, usize> = spans.iter().enumerate().map(|(i, span)| (span.start, i)).collect();
     let mut pairs = HashSet::new();
-    let mut entries = Vec::new();
+    let mut entries: Vec<Entry> = Vec::new();
     for i in 0..count {
         let at = 24 + 12 * i;
         let (usage, number) = (tag_at(file, at), number_at(file, at + 4));
@@ -157,6 +157,9 @@ fn read_entries(file: &[u8], spans: &[Span], count: usize) -> Result<Vec<Entry>,
         }
         if !pairs.insert((usage, number)) {
             return refuse(16, at);
+        }
+        if entries.last().is_some_and(|before| spans[chunk].start < spans[before.chunk].start) {
+            return refuse(27, at + 8);
         }
         entries.push(Entry { usage, number, chunk });
     }

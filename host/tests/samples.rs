@@ -65,6 +65,7 @@ fn refused(tally: &mut Tally, rng: &mut Rng, a: &[u8], b: &[u8]) {
         (with(20, &1_073_741_825u32.to_be_bytes()), 10, 16),
         (frontispiece(a), 19, 48 + 8),
         (frontispiece(b), 19, 76 + 8),
+        ([&b[..24], &b[36..48], &b[24..36], &b[48..]].concat(), 27, 44),
     ];
     for (file, number, place) in samples {
         check_expected(tally, &file, Some(Refusal { number, place }));

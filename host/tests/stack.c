@@ -12,7 +12,7 @@
 #include "blorb.h"
 
 enum { PAGE = 4096, STACK = 2 * PAGE, ROOM = 200000, DATA = 40001 };
-static uint8_t file[ROOM], journal[ROOM], data[DATA];
+static uint8_t file[ROOM], wrong[ROOM], journal[ROOM], data[DATA];
 static ucontext_t outside, inside;
 static int calls;
 
@@ -28,20 +28,34 @@ static void done(uint64_t refusal)
     gives(refusal, BLORB_DONE);
 }
 
+/* Every call refuses the file in `wrong`. */
+static void refused(size_t length, size_t used, uint64_t refusal)
+{
+    gives(blorb_read(wrong, length).refusal, refusal);
+    gives(blorb_entry(wrong, length, 1).refusal, refusal);
+    gives(blorb_lookup(wrong, length, "Data", 2).refusal, refusal);
+    gives(blorb_add(wrong, ROOM, length, journal, ROOM, used, "Data", 9, "BINA", data, 1).refusal, refusal);
+    gives(blorb_replace(wrong, ROOM, length, journal, ROOM, used, "Data", 2, "BINA", data, 1).refusal, refusal);
+    gives(blorb_remove(wrong, ROOM, length, journal, ROOM, used, "Data", 2).refusal, refusal);
+    gives(blorb_undo(wrong, ROOM, length, journal, ROOM, used).refusal, refusal);
+}
+
 /* The file of `length` bytes cut short, its FORM length right: every call finds the broken chunk. */
 static void broken(size_t length, size_t cut, size_t used, uint64_t refusal)
 {
-    static uint8_t part[ROOM];
-    memcpy(part, file, length - cut);
+    memcpy(wrong, file, length - cut);
     for (int i = 0; i < 4; i++)
-        part[4 + i] = (uint8_t)((length - cut - 8) >> (24 - 8 * i));
-    gives(blorb_read(part, length - cut).refusal, refusal);
-    gives(blorb_entry(part, length - cut, 1).refusal, refusal);
-    gives(blorb_lookup(part, length - cut, "Data", 2).refusal, refusal);
-    gives(blorb_add(part, ROOM, length - cut, journal, ROOM, used, "Data", 9, "BINA", data, 1).refusal, refusal);
-    gives(blorb_replace(part, ROOM, length - cut, journal, ROOM, used, "Data", 2, "BINA", data, 1).refusal, refusal);
-    gives(blorb_remove(part, ROOM, length - cut, journal, ROOM, used, "Data", 2).refusal, refusal);
-    gives(blorb_undo(part, ROOM, length - cut, journal, ROOM, used).refusal, refusal);
+        wrong[4 + i] = (uint8_t)((length - cut - 8) >> (24 - 8 * i));
+    refused(length - cut, used, refusal);
+}
+
+/* The first two entries exchanged. */
+static void turned(size_t length, size_t used)
+{
+    memcpy(wrong, file, length);
+    memcpy(wrong + 24, file + 24 + BLORB_ENTRY_SIZE, BLORB_ENTRY_SIZE);
+    memcpy(wrong + 24 + BLORB_ENTRY_SIZE, file + 24, BLORB_ENTRY_SIZE);
+    refused(length, used, BLORB_ORDER);
 }
 
 static void every_call(void)
@@ -64,6 +78,7 @@ static void every_call(void)
     broken(a.length, 1, a.used, BLORB_NO_PADDING); /* Data 2 is last, with an odd length */
     broken(a.length, 2, a.used, BLORB_CHUNK_LENGTH);
     broken(a.length, DATA, a.used, BLORB_CHUNK_CUT);
+    turned(a.length, a.used);
     while (a.used > 0) {
         a = blorb_undo(file, ROOM, a.length, journal, ROOM, a.used);
         done(a.refusal);

@@ -163,7 +163,7 @@ module _ (R : Rules) where
   starts-ok at cs earlier p [] h = tt
   starts-ok at cs earlier p (e ∷ es) h =
       let a = then-accept _ _ (then-accept _ _ h .1) in
-      (check-accept _ _ _ (a .0), starts-ok at cs (earlier ++ (refOf at cs e ∷ [])) (p + 12) es (then-accept _ _ (a .1) .1))
+      (check-accept _ _ _ (a .0), starts-ok at cs (earlier ++ (refOf at cs e ∷ [])) (p + 12) es (then-accept _ _ (then-accept _ _ (a .1) .1) .1))
 
 pub entryOf-refOf : (at : ℕ) (cs : List Chunk) (es : List Entry) → All (λ e. isStart (e .start) at cs ≡ true) es → map (entryOf at cs) (map (refOf at cs) es) ≡ es
 unfolding refOf entryOf

@@ -1,11 +1,11 @@
 -- Reading what was written: chunks and entries of an encoded model.
-use mathlib.Core.Path.{_≡_, refl, ap}
+use mathlib.Core.Path.{_≡_, refl, sym, ap, _∙_}
 use Prim.Native.Nat.{ℕ, zero, suc, _+_, _*_, _≤_, _<_, _%_}
 use mathlib.Core.List.{List, [], _∷_, _++_, append-assoc}
 use native.Mathlib.Omega.{arith}
 use native.Mathlib.Nat.{le-of-suc-le-suc, not-suc-le-zero}
-use lib.ListN.{length, take, drop, replicate, length-append, length-replicate}
-use lib.Seq.{take-at, drop-at}
+use lib.ListN.{length, getD, take, drop, replicate, length-append, length-replicate}
+use lib.Seq.{take-at, drop-at, drop-drop}
 use Rattle.blorb.specs.Bytes.{be32, rd32}
 use Rattle.blorb.proofs.ByteLaws.{length-be32, rd32-be32, drop-be32, drop-two, drop-three}
 use Rattle.blorb.specs.Tags.{FORM, IFRS}
@@ -116,6 +116,22 @@ entriesIn-entriesBytes [] ok = refl
 entriesIn-entriesBytes (e ∷ es) ok =
     let p = entry-first e (entriesBytes es) (ok .0 .usage-fits) (ok .0 .number-fits) (ok .0 .start-fits) in
     rw (p .0, p .1) (ap (λ (r : List Entry). e ∷ r) (entriesIn-entriesBytes es (ok .1)))
+
+-- entry i of some that are followed by s
+pub entry-in : (es : List Entry) (i : ℕ) (d : Entry) (s : List ℕ) → All EntryOk es → i < length es → entryIn (drop (12 * i) (entriesBytes es ++ s))
+    ≡ getD es i d
+unfolding entriesBytes
+entry-in [] i d s ok h = absurd (not-suc-le-zero h)
+entry-in (e ∷ es) zero d s ok h =
+    ap entryIn (append-assoc (entryBytes e) (entriesBytes es) s)
+    ∙ entry-first e (entriesBytes es ++ s) (ok .0 .usage-fits) (ok .0 .number-fits) (ok .0 .start-fits) .0
+entry-in (e ∷ es) (suc i) d s ok h =
+    let l : List ℕ = entryBytes e ++ entriesBytes es ++ s in
+    let q : 12 * suc i ≡ 12 + 12 * i = omega arith in
+    let t : drop 12 l ≡ entriesBytes es ++ s
+    = ap (drop 12) (append-assoc (entryBytes e) (entriesBytes es) s) ∙ entry-first e (entriesBytes es ++ s) (ok .0 .usage-fits) (ok .0 .number-fits)
+    (ok .0 .start-fits) .1 in
+    ap (λ (z : ℕ). entryIn (drop z l)) q ∙ ap entryIn (sym (drop-drop (12 * i) 12 l) ∙ ap (drop (12 * i)) t) ∙ entry-in es i d s (ok .1) (le-of-suc-le-suc h)
 
 pub length-entriesBytes : (es : List Entry) → length (entriesBytes es) ≡ 12 * length es
 unfolding entriesBytes entryBytes

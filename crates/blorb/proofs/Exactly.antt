@@ -1,10 +1,10 @@
 -- A file is accepted exactly when it keeps the rules.
 use mathlib.Core.Path.{_≡_, refl, sym, ap, _∙_}
-use Prim.Native.Nat.{ℕ, zero, suc, _+_, _<_}
+use Prim.Native.Nat.{ℕ, zero, suc, _+_, _≤_, _<_}
 use mathlib.Core.List.{List, [], _∷_, _++_, append-assoc, append-nil}
 use mathlib.Core.Bool.{Bool, true, false, _||_, not, cond}
 use native.Mathlib.Omega.{arith}
-use native.Mathlib.Nat.{not-suc-le-zero}
+use native.Mathlib.Nat.{not-suc-le-zero, le-of-suc-le-suc}
 use lib.ListN.{length, getD, take}
 use lib.Dec.{eqb, leb}
 use borrow.Author.Tests.{eq-eqb, eqb-true, le-leb, leb-true}
@@ -14,12 +14,15 @@ use Rattle.blorb.specs.Format.{Chunk, Ref, size}
 use Rattle.blorb.specs.Verdict.{Rules, accept, _then_, check, noChunk, secondIndex, pairIn, refFault, verdict}
 use Rattle.blorb.specs.Rules.{typeIn, picture, single, chunkRule, chunkRules, optional, plainRules, plainVerdict}
 use Rattle.blorb.specs.Model.{Model, base, file, model}
-use Rattle.blorb.specs.Queries.{noRef}
+use Rattle.blorb.specs.Queries.{noRef, refAt, start}
 use Rattle.blorb.specs.All.{All}
+use Rattle.blorb.specs.Sound.{RefOk, Sound}
+use Rattle.blorb.proofs.AllLaws.{all-getD}
+use Rattle.blorb.proofs.Places.{lower-start}
 use Rattle.blorb.specs.Keeps.{EntryKeeps, Keeps, KeepsRules, ChunkKeeps, ChunksKeep, KeepsPlain}
-use Rattle.blorb.proofs.Checks.{then-accept, check-accept, pass, accepts, holds-last}
+use Rattle.blorb.proofs.Checks.{then-accept, check-accept, pass, accepts, holds-last, and-both, both-true}
 use Rattle.blorb.proofs.Accept.{accept-back}
-use Rattle.blorb.proofs.VerdictLaws.{refsFault, modelFault, verdict-file}
+use Rattle.blorb.proofs.VerdictLaws.{refsFault, modelFault, inOrder, verdict-file, file-judged, file-ordered}
 
 not-true : (b : Bool) → not b ≡ true → b ≡ false
 not-true true h = sym h
@@ -49,6 +52,42 @@ exec-fine u n h = go (eqb u Exec) refl
     go : (b : Bool) → eqb u Exec ≡ b → (not b || eqb n 0) ≡ true
     go true e = eq-eqb n 0 (h (eqb-true u Exec e))
     go false e = refl
+
+-- 27: the test, and the same of each entry and the next
+abbrev Each-order : List Ref → Type 0
+Each-order rs = (i : ℕ) → suc i < length rs → getD rs i noRef .chunk ≤ getD rs (suc i) noRef .chunk
+
+order-each : (k : ℕ) (rs : List Ref) → inOrder k rs ≡ true → Each-order rs
+unfolding inOrder
+order-each k [] h i l = absurd (not-suc-le-zero l)
+order-each k (r ∷ []) h i l = absurd (omega arith)
+order-each k (r ∷ (q ∷ rs)) h zero l =
+    leb-true _ _ (and-both (leb (r .chunk) (q .chunk)) (inOrder (q .chunk) rs) (and-both (leb k (r .chunk)) (inOrder (r .chunk) (q ∷ rs)) h .1) .0)
+order-each k (r ∷ (q ∷ rs)) h (suc i) l = order-each (r .chunk) (q ∷ rs) (and-both (leb k (r .chunk)) (inOrder (r .chunk) (q ∷ rs)) h .1) i (le-of-suc-le-suc l)
+
+order-of : (k : ℕ) (rs : List Ref) → (0 < length rs → k ≤ getD rs 0 noRef .chunk) → Each-order rs → inOrder k rs ≡ true
+unfolding inOrder
+order-of k [] b h = refl
+order-of k (r ∷ rs) b h = both-true _ _ (le-leb _ _ (b (omega arith))) (order-of (r .chunk) rs (λ l. h 0 (omega arith)) (λ i l. h (suc i) (omega arith)))
+
+-- and the same of their starts
+abbrev Starts-rise : Model → Type 0
+Starts-rise m = (i : ℕ) → suc i < length (m .refs) → start m (refAt m i .chunk) ≤ start m (refAt m (suc i) .chunk)
+
+-- the two tests of entry i and the next agree
+start-test : (m : Model) → Sound m → (i : ℕ) → suc i < length (m .refs)
+    → leb (start m (refAt m i .chunk)) (start m (refAt m (suc i) .chunk)) ≡ leb (refAt m i .chunk) (refAt m (suc i) .chunk)
+unfolding start
+start-test m s i l = lower-start _ _ _ _ (omega (arith, inside i (omega arith))) (omega (arith, inside (suc i) l))
+  where
+    inside : (j : ℕ) → j < length (m .refs) → refAt m j .chunk < length (m .chunks)
+    inside j h = all-getD (RefOk (length (m .chunks))) (m .refs) j noRef (s .refs-ok) h .chunk-there
+
+starts-ordered : (m : Model) → Sound m → Each-order (m .refs) → Starts-rise m
+starts-ordered m s h i l = leb-true _ _ (start-test m s i l ∙ le-leb _ _ (h i l))
+
+chunks-ordered : (m : Model) → Sound m → Starts-rise m → Each-order (m .refs)
+chunks-ordered m s h i l = leb-true _ _ (sym (start-test m s i l) ∙ le-leb _ _ (h i l))
 
 -- 16: no pair of rs stands in `earlier` or before it in rs
 abbrev Once : List Ref → List Ref → Type 0
@@ -98,8 +137,8 @@ module _ (R : Rules) where
   accepted-keeps f bytes h =
       let back = accept-back R f bytes h in
       let m : Model = model f in
-      let v : check (leb (length (file m)) 16777216) 1 0 then modelFault R m ≡ accept = sym (verdict-file R m (back .1)) ∙ ap (verdict R) (back .0) ∙ h in
-      let a = then-accept _ _ (then-accept _ _ v .1) in
+      let fine : verdict R (file m) ≡ accept = ap (verdict R) (back .0) ∙ h in
+      let a = then-accept _ _ (file-judged R m (back .1) fine) in
       let b = then-accept _ _ (a .1) in
       let c = then-accept _ _ (b .1) in
       let refs = refs-told (m .chunks) [] 24 (m .refs) (c .0) in
@@ -111,6 +150,7 @@ module _ (R : Rules) where
         one-index = index-told _ (m .chunks) (a .0);
         entries-keep = refs .0;
         once = refs .1;
+        in-order = starts-ordered m (back .1) (order-each 0 (m .refs) (file-ordered R m (back .1) fine));
         rule-seven = c .1;
       }
 
@@ -118,7 +158,7 @@ module _ (R : Rules) where
   unfolding modelFault
   keeps-accepted f m k =
       ap (verdict R) (sym (k .laid-out))
-      ∙ verdict-file R m (k .sound)
+      ∙ verdict-file R m (k .sound) (order-of 0 (m .refs) (λ h. omega arith) (chunks-ordered m (k .sound) (k .in-order)))
       ∙ pass _ _ _ _ (le-leb (length (file m)) 16777216 (rw (k .laid-out) (k .short)))
       ∙ accepts _ _ (index-fine _ (m .chunks) (k .one-index))
       ∙ pass _ _ _ _ (le-leb _ _ (k .few))
@@ -198,6 +238,7 @@ seven-as S T f m g k =
       one-index = k .one-index;
       entries-keep = k .entries-keep;
       once = k .once;
+      in-order = k .in-order;
       rule-seven = g (k .rule-seven);
     }
 

@@ -1,19 +1,21 @@
 -- A model's file as its parts, for the code: header, count, entries, chunks; and where the parts of an old file stand.
 use mathlib.Core.Path.{_≡_, refl, sym, ap, _∙_}
 use Prim.Native.Nat.{ℕ, zero, suc, _+_, _*_, _<_, _%_}
-use mathlib.Core.List.{List, [], _∷_, _++_, append-assoc, append-nil}
+use mathlib.Core.List.{List, [], _∷_, _++_, map, append-assoc, append-nil}
 use native.Mathlib.Omega.{arith}
 use native.Mathlib.Nat.{le-of-suc-le-suc, not-suc-le-zero}
 use lib.ListN.{length, getD, take, drop, set, replicate, length-append, length-map}
-use lib.Seq.{split-at}
-use Rattle.blorb.specs.Bytes.{be32}
+use lib.Seq.{drop-at, drop-drop, split-at}
+use Rattle.blorb.specs.Bytes.{be32, rd32}
 use Rattle.blorb.proofs.ByteLaws.{length-be32}
-use Rattle.blorb.specs.Format.{Chunk, chunkOf, size, sized, total, chunkBytes, chunksBytes, fileBytes, entriesBytes, indexChunk}
+use Rattle.blorb.specs.Format.{Ref, Chunk, Entry, chunkOf, size, sized, total, chunkBytes, chunksBytes, fileBytes, entriesBytes, indexChunk, entryIn}
 use Rattle.blorb.specs.Layout.{heading}
 use Rattle.blorb.specs.Verdict.{noChunk}
-use Rattle.blorb.specs.Model.{Model, base, file}
-use Rattle.blorb.proofs.Codec.{length-entriesBytes}
-use Rattle.blorb.proofs.ModelLaws.{entries, size-index, length-file}
+use Rattle.blorb.specs.Model.{Model, base, entryOf, file}
+use Rattle.blorb.specs.Queries.{noRef, refAt, start}
+use Rattle.blorb.specs.Sound.{W, Sound}
+use Rattle.blorb.proofs.Codec.{length-entriesBytes, entry-in}
+use Rattle.blorb.proofs.ModelLaws.{entries, size-index, entries-ok, length-file}
 
 no-pad : (n : ℕ) → replicate {A = ℕ} ((4 + 12 * n) % 2) 0 ≡ []
 no-pad n = rw e
@@ -61,3 +63,25 @@ unfolding chunksBytes
 chunks-set [] k c h = absurd (not-suc-le-zero h)
 chunks-set (x ∷ cs) zero c h = refl
 chunks-set (x ∷ cs) (suc k) c h = rw (chunks-set cs k c (le-of-suc-le-suc h)) (sym (append-assoc (chunkBytes x) (chunksBytes (take k cs)) _))
+
+entry-of : (at : ℕ) (cs : List Chunk) (rs : List Ref) (i : ℕ) → getD (map (entryOf at cs) rs) i (entryOf at cs noRef) ≡ entryOf at cs (getD rs i noRef)
+entry-of at cs [] i = refl
+entry-of at cs (r ∷ rs) zero = refl
+entry-of at cs (r ∷ rs) (suc i) = entry-of at cs rs i
+
+-- the start that stands in entry i of the index
+pub start-in : (m : Model) (i : ℕ) → Sound m → length (file m) < W → i < length (m .refs) → rd32 (drop (32 + 12 * i) (file m)) ≡ start m (refAt m i .chunk)
+unfolding start entryIn entryOf
+start-in m i s small h =
+    let F : List ℕ = heading (length (m .refs)) (total (m .chunks)) in
+    let X : List ℕ = entriesBytes (entries m) ++ chunksBytes (m .chunks) in
+    let at : ℕ = base (length (m .refs)) in
+    let k : 32 + 12 * i ≡ 24 + (12 * i + 8) = omega arith in
+    let d : drop (32 + 12 * i) (file m) ≡ drop 8 (drop (12 * i) X)
+    = (λ z. drop (k z) (file-parts m z)) ∙ sym (drop-drop (12 * i + 8) 24 (F ++ X)) ∙ ap (drop (12 * i + 8))
+    (drop-at F X 24 (length-heading (length (m .refs)) (total (m .chunks))))
+    ∙ sym (drop-drop 8 (12 * i) X) in
+    let e : entryIn (drop (12 * i) X) ≡ entryOf at (m .chunks) (refAt m i)
+    = entry-in (entries m) i (entryOf at (m .chunks) noRef) (chunksBytes (m .chunks)) (entries-ok m s small) (simp length-map h) ∙ entry-of at
+    (m .chunks) (m .refs) i in
+    ap rd32 d ∙ ap (λ (y : Entry). y .start) e

@@ -2,7 +2,7 @@
 use mathlib.Core.Path.{_≡_, refl, sym, ap, _∙_}
 use Prim.Native.Nat.{ℕ, zero, suc, _+_, _*_, _≤_, _<_, _%_}
 use mathlib.Core.List.{List, [], _∷_, _++_, map, append-assoc}
-use mathlib.Core.Bool.{Bool, true, false, _||_}
+use mathlib.Core.Bool.{Bool, true, false, _||_, _&&_}
 use native.Mathlib.Omega.{arith}
 use native.Mathlib.Nat.{not-suc-le-zero}
 use lib.ListN.{length, getD, drop, replicate, length-append, length-map}
@@ -13,13 +13,13 @@ use Rattle.blorb.specs.Bytes.{be32, rd32}
 use Rattle.blorb.proofs.ByteLaws.{length-be32, rd32-be32, drop-be32, drop-two}
 use Rattle.blorb.specs.Format.{Ref, refOf, Chunk, Entry, size, sized, total, chunkBytes, chunksBytes, fileBytes, chunksOf, entriesBytes, indexChunk}
 use Rattle.blorb.specs.Tags.{FORM, IFRS, RIdx}
-use Rattle.blorb.specs.Verdict.{Rules, Verdict, accept, _then_, check, headFault, chunkFault, walkFault, secondIndex, indexFault, refFault, entriesFault, restFault, layoutFault, verdict, knownUsage}
+use Rattle.blorb.specs.Verdict.{Rules, Verdict, accept, _then_, check, headFault, chunkFault, walkFault, secondIndex, indexFault, refFault, entriesFault, restFault, layoutFault, verdict, knownUsage, lastPlace}
 use Rattle.blorb.specs.Model.{Model, base, entryOf, file}
 use Rattle.blorb.specs.All.{All}
 use Rattle.blorb.specs.Sound.{W, RefOk, Sound}
 use Rattle.blorb.proofs.Places.{size-pos, body-size, isStart-startOf}
 use Rattle.blorb.proofs.Codec.{length-chunkBytes, length-fileBytes, length-entriesBytes, first-length, first-rest, drop-header, entriesOf-indexChunk}
-use Rattle.blorb.proofs.Checks.{then-accept, pass, accepts, holds-last}
+use Rattle.blorb.proofs.Checks.{pass, accepts, holds-last, then-accept, check-accept, and-both, both-true}
 use Rattle.blorb.proofs.ModelLaws.{entries, size-index, chunks-of, entries-ok, few, refOf-entryOf, refOf-entryOf1}
 
 -- an encoded chunk has no fault
@@ -96,15 +96,60 @@ index-fine es h =
     rw (rd32-be32 (length es) (entriesBytes es) h, l, le-leb 4 (4 + 12 * length es) (omega arith), eq-eqb (4 + 12 * length es) (4 + 12 * length es) refl)
     (unfold check in refl)
 
+-- no entry's chunk is before that of the entry before it (02, P5); k is the chunk before the first
+unfoldable pub inOrder : ℕ → List Ref → Bool
+inOrder k [] = true
+inOrder k (r ∷ rs) = leb k (r .chunk) && inOrder (r .chunk) rs
+
+pub last-snoc : (earlier : List Ref) (r : Ref) → lastPlace (earlier ++ (r ∷ [])) ≡ r .chunk
+unfolding lastPlace
+last-snoc [] r = refl
+last-snoc (x ∷ []) r = refl
+last-snoc (x ∷ (y ∷ rs)) r = last-snoc (y ∷ rs) r
+
 module _ (R : Rules) where
   -- 12, 14 to 16 of the entries of a model
   unfoldable pub refsFault : List Chunk → List Ref → ℕ → List Ref → Verdict
   refsFault cs earlier p [] = accept
   refsFault cs earlier p (r ∷ rs) = check (knownUsage (r .usage)) 12 p then refFault R cs earlier p r then refsFault cs (earlier ++ (r ∷ [])) (p + 12) rs
 
+  -- the same and 27
+  unfoldable orderedFault : List Chunk → List Ref → ℕ → List Ref → Verdict
+  orderedFault cs earlier p [] = accept
+  orderedFault cs earlier p (r ∷ rs) =
+      check (knownUsage (r .usage)) 12 p
+      then refFault R cs earlier p r
+      then check (leb (lastPlace earlier) (r .chunk)) 27 (p + 8)
+      then orderedFault cs (earlier ++ (r ∷ [])) (p + 12) rs
+
+  -- where the order is kept, 27 is out of the question
+  in-order : (cs : List Chunk) (earlier : List Ref) (p : ℕ) (rs : List Ref) → inOrder (lastPlace earlier) rs ≡ true → orderedFault cs earlier p rs
+      ≡ refsFault cs earlier p rs
+  unfolding orderedFault refsFault inOrder
+  in-order cs earlier p [] h = refl
+  in-order cs earlier p (r ∷ rs) h =
+      let q = and-both _ _ h in
+      let n : inOrder (lastPlace (earlier ++ (r ∷ []))) rs ≡ true = rw (last-snoc earlier r) (q .1) in
+      ap (λ (v : Verdict). check (knownUsage (r .usage)) 12 p then refFault R cs earlier p r then v)
+      (pass _ _ _ _ (q .0) ∙ in-order cs (earlier ++ (r ∷ [])) (p + 12) rs n)
+
+  order-told : (cs : List Chunk) (earlier : List Ref) (p : ℕ) (rs : List Ref) → orderedFault cs earlier p rs ≡ accept
+      → (refsFault cs earlier p rs ≡ accept) × (inOrder (lastPlace earlier) rs ≡ true)
+  unfolding orderedFault refsFault inOrder
+  order-told cs earlier p [] h = (refl, refl)
+  order-told cs earlier p (r ∷ rs) h =
+      let a = then-accept _ _ h in
+      let b = then-accept _ _ (a .1) in
+      let c = then-accept _ _ (b .1) in
+      let t = order-told cs (earlier ++ (r ∷ [])) (p + 12) rs (c .1) in
+      let o : inOrder (r .chunk) rs ≡ true = rw (last-snoc earlier r) at (t .1) in (
+        pass _ _ _ _ (check-accept _ _ _ (a .0)) ∙ accepts _ _ (b .0) ∙ t .0,
+        both-true _ _ (check-accept _ _ _ (c .0)) o,
+      )
+
   refs-entries : (at : ℕ) (cs : List Chunk) (earlier : List Ref) (p : ℕ) (rs : List Ref) → All (RefOk (length cs)) rs
-      → entriesFault R at cs earlier p (map (entryOf at cs) rs) ≡ refsFault cs earlier p rs
-  unfolding entriesFault refsFault entryOf
+      → entriesFault R at cs earlier p (map (entryOf at cs) rs) ≡ orderedFault cs earlier p rs
+  unfolding entriesFault orderedFault entryOf
   refs-entries at cs earlier p [] ok = refl
   refs-entries at cs earlier p (r ∷ rs) ok =
       let e : refOf at cs (entryOf at cs r) ≡ r = refOf-entryOf1 at cs r (ok .0) in
@@ -112,7 +157,7 @@ module _ (R : Rules) where
       (pass _ _ _ _ (isStart-startOf at cs (r .chunk) (ok .0 .chunk-there))
       ∙ rw (e, refs-entries at cs (earlier ++ (r ∷ [])) (p + 12) rs (ok .1)))
 
-  -- what is left to judge
+  -- what is left to judge, where the entries are in order
   unfoldable pub modelFault : Model → Verdict
   modelFault m =
       secondIndex (base (length (m .refs))) (m .chunks)
@@ -120,8 +165,16 @@ module _ (R : Rules) where
       then refsFault (m .chunks) [] 24 (m .refs)
       then R .rule7 (base (length (m .refs))) (m .refs) (m .chunks)
 
-  layout-file : (m : Model) → Sound m → length (file m) < W → layoutFault R (indexChunk (entries m) ∷ m .chunks) ≡ modelFault m
-  unfolding layoutFault restFault modelFault
+  -- and of any model
+  unfoldable allFault : Model → Verdict
+  allFault m =
+      secondIndex (base (length (m .refs))) (m .chunks)
+      then check (leb (length (m .refs)) 4096) 11 20
+      then orderedFault (m .chunks) [] 24 (m .refs)
+      then R .rule7 (base (length (m .refs))) (m .refs) (m .chunks)
+
+  layout-file : (m : Model) → Sound m → length (file m) < W → layoutFault R (indexChunk (entries m) ∷ m .chunks) ≡ allFault m
+  unfolding layoutFault restFault allFault
   layout-file m s small =
       let b : 12 + size (indexChunk (entries m)) ≡ base (length (m .refs)) = unfold base in simp (size-index, length-map) (omega arith) in
       let n : length (entries m) ≡ length (m .refs) = simp length-map in
@@ -144,21 +197,21 @@ module _ (R : Rules) where
     rw (drop-two FORM (4 + total cs)) (rd32-be32 IFRS (chunksBytes cs) (omega arith)),
   )
 
-  pub verdict-file : (m : Model) → Sound m → verdict R (file m) ≡ check (leb (length (file m)) 16777216) 1 0 then modelFault m
+  verdict-all : (m : Model) → Sound m → verdict R (file m) ≡ check (leb (length (file m)) 16777216) 1 0 then allFault m
   unfolding verdict headFault
-  verdict-file m s = go (leb (length (file m)) 16777216) refl
+  verdict-all m s = go (leb (length (file m)) 16777216) refl
     where
       cs : List Chunk
       cs = indexChunk (entries m) ∷ m .chunks
 
-      go : (b : Bool) → leb (length (file m)) 16777216 ≡ b → verdict R (file m) ≡ check (leb (length (file m)) 16777216) 1 0 then modelFault m
+      go : (b : Bool) → leb (length (file m)) 16777216 ≡ b → verdict R (file m) ≡ check (leb (length (file m)) 16777216) 1 0 then allFault m
       go false e = rw e (unfold _then_ check in refl)
       go true e =
           let short : length (file m) ≤ 16777216 = leb-true _ _ e in
           let f : file m ≡ fileBytes cs = unfold file in refl in
           let l : length (file m) ≡ 12 + total cs = rw f (length-fileBytes cs) in
           let h = head3 cs (omega arith) in
-          let rest : layoutFault R (chunksOf (file m)) ≡ modelFault m = rw (chunks-of m s (omega arith)) (layout-file m s (omega arith)) in
+          let rest : layoutFault R (chunksOf (file m)) ≡ allFault m = rw (chunks-of m s (omega arith)) (layout-file m s (omega arith)) in
           accepts _ _ (pass _ _ _ _ e
           ∙ pass _ _ _ _ (le-leb 12 (length (file m)) (omega arith))
           ∙ pass _ _ _ _ (eq-eqb (rd32 (file m)) FORM (rw f (h .0)))
@@ -167,6 +220,23 @@ module _ (R : Rules) where
           ∙ accepts _ _ (rw (f, drop-header cs) (walk-fine (length (fileBytes cs)) 12 cs (omega arith)))
           ∙ rest ∙ sym (pass _ _ _ _ e)
 
-  -- the model of an accepted file passes what is left to judge
+  -- the verdict where the entries are in order
+  pub verdict-file : (m : Model) → Sound m → inOrder 0 (m .refs) ≡ true → verdict R (file m) ≡ check (leb (length (file m)) 16777216) 1 0 then modelFault m
+  unfolding allFault modelFault lastPlace
+  verdict-file m s o = verdict-all m s ∙ rw (in-order (m .chunks) [] 24 (m .refs) o)
+
+  -- what an accepted file tells of its model
+  file-told : (m : Model) → Sound m → verdict R (file m) ≡ accept → (modelFault m ≡ accept) × (inOrder 0 (m .refs) ≡ true)
+  unfolding allFault modelFault lastPlace
+  file-told m s h =
+      let a = then-accept _ _ (then-accept _ _ (sym (verdict-all m s) ∙ h) .1) in
+      let b = then-accept _ _ (a .1) in
+      let c = then-accept _ _ (b .1) in
+      let o = order-told (m .chunks) [] 24 (m .refs) (c .0) in
+      (accepts _ _ (a .0) ∙ accepts _ _ (b .0) ∙ accepts _ _ (o .0) ∙ c .1, o .1)
+
   pub file-judged : (m : Model) → Sound m → verdict R (file m) ≡ accept → modelFault m ≡ accept
-  file-judged m s h = then-accept _ _ (sym (verdict-file m s) ∙ h) .1
+  file-judged m s h = file-told m s h .0
+
+  pub file-ordered : (m : Model) → Sound m → verdict R (file m) ≡ accept → inOrder 0 (m .refs) ≡ true
+  file-ordered m s h = file-told m s h .1

@@ -1,7 +1,7 @@
--- The rules of a file (01, How a good file is laid out, and Sizes), each as a statement of its own: no order of checking and no places. That a
+-- The rules of a file (01, How a good file is laid out, and Sizes; 02, P5), each as a statement of its own: no order of checking and no places. That a
 -- file is accepted exactly when it keeps them is proved in proofs/Exactly.antt.
 use mathlib.Core.Path.{_≡_}
-use Prim.Native.Nat.{ℕ, _≤_, _<_}
+use Prim.Native.Nat.{ℕ, suc, _≤_, _<_}
 use mathlib.Core.List.{List}
 use mathlib.Core.Bool.{true, false}
 use lib.ListN.{length, getD, take}
@@ -12,7 +12,7 @@ use Rattle.blorb.specs.Format.{Chunk, Ref}
 use Rattle.blorb.specs.Verdict.{Rules, accept, noChunk, knownUsage, pairIn}
 use Rattle.blorb.specs.Rules.{typeIn, picture, plainRules}
 use Rattle.blorb.specs.Model.{Model, base, file}
-use Rattle.blorb.specs.Queries.{refAt, chunkAt}
+use Rattle.blorb.specs.Queries.{refAt, chunkAt, start}
 use Rattle.blorb.specs.All.{All}
 use Rattle.blorb.specs.Sound.{Sound}
 
@@ -39,6 +39,8 @@ pub record Keeps (R : Rules) (Seven : Model → Type 0) (f : List ℕ) (m : Mode
   pub entries-keep : All (EntryKeeps R (m .chunks)) (m .refs)
   -- rule 6: "No (usage, number) pair stands twice": that of entry i is not among the entries before it
   pub once : (i : ℕ) → i < length (m .refs) → pairIn (refAt m i .usage) (refAt m i .number) (take i (m .refs)) ≡ false
+  -- rule 4, with 02's P5: "a start lower than the entry's before it is now refused; equal starts are fine"
+  pub in-order : (i : ℕ) → suc i < length (m .refs) → start m (refAt m i .chunk) ≤ start m (refAt m (suc i) .chunk)
   pub rule-seven : Seven m
 
 -- the file keeps the rules, rule 7 as R checks it
@@ -55,6 +57,6 @@ pub record ChunkKeeps (rs : List Ref) (cs earlier : List Chunk) (c : Chunk) : Ty
 abbrev pub ChunksKeep : Model → Type 0
 ChunksKeep m = (i : ℕ) → i < length (m .chunks) → ChunkKeeps (m .refs) (m .chunks) (take i (m .chunks)) (chunkAt m i)
 
--- the file keeps 01's rules: no order of checking and no places in it
+-- the file keeps 01's rules and 02's P5: no order of checking and no places in it
 abbrev pub KeepsPlain : List ℕ → Type 0
 KeepsPlain f = (m : Model) × Keeps plainRules ChunksKeep f m

@@ -74,6 +74,12 @@ unfoldable pub pairIn : ℕ → ℕ → List Ref → Bool
 pairIn u n [] = false
 pairIn u n (r ∷ rs) = (eqb (r .usage) u && eqb (r .number) n) || pairIn u n rs
 
+-- the chunk of the last of these entries, by its place; 0 where there is none
+unfoldable pub lastPlace : List Ref → ℕ
+lastPlace [] = 0
+lastPlace (r ∷ []) = r .chunk
+lastPlace (r ∷ (q ∷ rs)) = lastPlace (q ∷ rs)
+
 -- The rules that are a definition of their own: rule 5 for a usage and a chunk, and rule 7 (17 to 19) for the offset of the first chunk
 -- behind the index, the entries and the chunks.
 pub record Rules : Type 0 where
@@ -89,16 +95,18 @@ module _ (R : Rules) where
       then check (not (pairIn (r .usage) (r .number) earlier)) 16 p
 
   -- "12 to 16 go entry by entry, the first faulty entry deciding, in that order within it": of the entries from p on;
-  -- the chunks behind the index stand from at on
+  -- the chunks behind the index stand from at on. 27, "after 16 within an entry", is "a start lower than the entry's before it" (02, P5). The chunks
+  -- stand one behind the other, so a start is lower just where its chunk has a lower place: proofs/Places, start-order.
   unfoldable pub entriesFault : ℕ → List Chunk → List Ref → ℕ → List Entry → Verdict
   entriesFault at cs earlier p [] = accept
   entriesFault at cs earlier p (e ∷ es) =
       check (knownUsage (e .usage)) 12 p
       then check (isStart (e .start) at cs) 13 (p + 8)
       then refFault cs earlier p (refOf at cs e)
+      then check (leb (lastPlace earlier) (refOf at cs e .chunk)) 27 (p + 8)
       then entriesFault at cs (earlier ++ (refOf at cs e ∷ [])) (p + 12) es
 
-  -- 9 to 19, c being the first chunk
+  -- 9 to 19 with 27, c being the first chunk
   unfoldable pub restFault : Chunk → List Chunk → Verdict
   restFault c cs =
       secondIndex (12 + size c) cs
@@ -111,6 +119,6 @@ module _ (R : Rules) where
   layoutFault [] = refuse 8 12
   layoutFault (c ∷ cs) = check (eqb (c .type) RIdx) 8 12 then restFault c cs
 
-  -- the whole table: 1 to 5, then 6, 28, 29 and 7 of all chunks, then 8 to 19
+  -- the whole table: 1 to 5, then 6, 28, 29 and 7 of all chunks, then 8 to 19 with 27
   unfoldable pub verdict : List ℕ → Verdict
   verdict f = headFault f then (walkFault (length f) 12 (drop 12 f) then layoutFault (chunksOf f))

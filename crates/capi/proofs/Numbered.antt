@@ -79,7 +79,7 @@ entries : (at : ℕ) (cs : List Chunk) (earlier : List Ref) (p : ℕ) (es : List
 unfolding entriesFault
 entries at cs earlier p [] = none
 entries at cs earlier p (e ∷ es) =
-    more _ _ _ _ (omega arith) (more _ _ _ _ (omega arith) (both _ _ (ref cs earlier p (refOf at cs e)) (entries at cs _ _ es)))
+    more _ _ _ _ (omega arith) (more _ _ _ _ (omega arith) (both _ _ (ref cs earlier p (refOf at cs e)) (more _ _ _ _ (omega arith) (entries at cs _ _ es))))
 
 only : (rs : List Ref) (all : List Chunk) (t n : ℕ) (earlier : List Chunk) (at : ℕ) (c : Chunk) → Numbered (single rs all t n earlier at c)
 unfolding single

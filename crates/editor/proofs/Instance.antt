@@ -20,7 +20,7 @@ use Rattle.blorb.specs.Bytes.{be32, rd32, Byte}
 use Rattle.blorb.specs.Tags.{Data, Pict, Rect, TEXT}
 use Rattle.blorb.specs.Format.{sized, size, chunkBytes, chunksBytes, total, fileBytes, chunkIn, chunksIn, chunksOf, entryIn, entriesIn}
 use Rattle.blorb.specs.Format.{entryBytes, entriesBytes, indexChunk, entriesOf, isStart, placeOf, refOf}
-use Rattle.blorb.specs.Verdict.{_then_, check, headFault, chunkFault, walkFault, secondIndex, indexFault, pairIn, refFault, entriesFault}
+use Rattle.blorb.specs.Verdict.{_then_, check, headFault, chunkFault, walkFault, secondIndex, indexFault, pairIn, lastPlace, refFault, entriesFault}
 use Rattle.blorb.specs.Verdict.{restFault, layoutFault, verdict}
 use Rattle.blorb.specs.Rules.{oneOf, plainAllows, picture, typeIn, single, chunkRule, chunkRules, optional, plainVerdict, plainRules}
 use Rattle.blorb.specs.Model.{base, startOf, entryOf, file, modelOf, model}
@@ -120,7 +120,7 @@ unfolding be32 rd32 sized size chunkBytes chunksBytes total fileBytes chunkIn ch
 format = 0
 
 verdicts : ℕ
-unfolding entriesOf isStart placeOf refOf _then_ check headFault chunkFault walkFault secondIndex indexFault pairIn refFault entriesFault restFault
+unfolding entriesOf isStart placeOf refOf _then_ check headFault chunkFault walkFault secondIndex indexFault pairIn lastPlace refFault entriesFault restFault
 verdicts = 0
 
 rules : ℕ

@@ -13,7 +13,7 @@ use Rattle.blorb.specs.Rules.{plainRules, optional, chunkRules}
 use Rattle.blorb.specs.Model.{Model, file, model}
 use Rattle.blorb.specs.Sound.{Sound}
 use Rattle.blorb.proofs.ModelLaws.{model-file}
-use Rattle.blorb.proofs.VerdictLaws.{refsFault, modelFault, verdict-file}
+use Rattle.blorb.proofs.VerdictLaws.{refsFault, modelFault, verdict-file, inOrder}
 use Rattle.edits.specs.Run.{noted}
 use Rattle.edits.specs.Blank.{blankFile, blanked}
 
@@ -34,7 +34,9 @@ sound = record { refs-ok = tt; chunks-ok = tt }
 
 pub blank-accepted : verdict plainRules blankFile ≡ accept
 unfolding modelFault check _then_ secondIndex refsFault optional chunkRules
-blank-accepted = ap (verdict plainRules) blank-file ∙ verdict-file plainRules nothing sound ∙ ap (λ (n : ℕ). check (leb n 16777216) 1 0 then modelFault plainRules nothing) (ap length (sym blank-file) ∙ length-blank)
+blank-accepted =
+    ap (verdict plainRules) blank-file ∙ verdict-file plainRules nothing sound (unfold inOrder in refl)
+    ∙ ap (λ (n : ℕ). check (leb n 16777216) 1 0 then modelFault plainRules nothing) (ap length (sym blank-file) ∙ length-blank)
 
 pub blank-model : model blankFile ≡ nothing
 blank-model = ap model blank-file ∙ model-file nothing sound (omega (arith, ap length blank-file, length-blank))

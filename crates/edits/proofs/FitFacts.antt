@@ -183,3 +183,9 @@ module _ (r : Rec) (m : Model) where
           let y : oldPlace r m ≡ length (m .chunks)
           = ap (λ (z : ℕ). placeOf z (base (length (m .refs))) (m .chunks)) x ∙ (unfold start in placeOf-startOf (base (length (m .refs))) (m .chunks) (length (m .chunks)) (omega arith)) in
           goes-in p (omega arith) (ap (start m) y ∙ sym x)
+
+  pub fits4-in : fits4 r m ≡ true → GoesIn
+  unfolding fits4
+  fits4-in fit =
+      let a = and-parts (leb (r .place) (length (m .refs))) (isStart back (base (length (m .refs))) (m .chunks)) fit in
+      begin-in (leb-true _ _ (a .0)) (a .1)

@@ -19,7 +19,7 @@ use Rattle.blorb.proofs.AllLaws.{all-append, all-take, all-drop, all-map}
 use Rattle.blorb.specs.Sound.{W, RefOk, ChunkOk, Sound}
 use Rattle.blorb.proofs.Checks.{then-accept, check-accept, pass}
 use Rattle.blorb.proofs.ModelLaws.{length-file}
-use Rattle.blorb.proofs.VerdictLaws.{refsFault, modelFault}
+use Rattle.blorb.proofs.VerdictLaws.{refsFault, modelFault, inOrder}
 use Rattle.edits.specs.Edit.{with-at, raise, entered, inserted}
 use Rattle.edits.specs.Run.{accepted}
 use Rattle.edits.proofs.AddVerdict.{second-any}
@@ -177,7 +177,8 @@ module _ (m : Model) (i k u n : ℕ) (s : Sound m) (ok : modelFault plainRules m
   entered-length = rw (length-file (entered m i k u n), length-file m) (omega (arith, length-with i new (m .refs)))
 
   pub entered-accepted : accepted (verdict plainRules (file (entered m i k u n)))
-      ≡ (leb (length (file m) + 12) 16777216 && (leb (suc (length (m .refs))) 4096 && entryTests u n (getD (m .chunks) k noChunk) (m .refs)))
+      ≡ (inOrder 0 (entered m i k u n .refs)
+      && (leb (length (file m) + 12) 16777216 && (leb (suc (length (m .refs))) 4096 && entryTests u n (getD (m .chunks) k noChunk) (m .refs))))
   unfolding entered
   entered-accepted =
       let p = model-parts m ok in
@@ -192,7 +193,8 @@ module _ (m : Model) (i k u n : ℕ) (s : Sound m) (ok : modelFault plainRules m
         entry-tests (m .chunks) i new (m .refs) (p .entries-fine),
         front-stays at at′ (m .refs) rs′ (m .chunks) (m .chunks) (like-self (m .chunks)) (p .seven) (picture-with (frontNumber (m .chunks)) (m .chunks) i new (m .refs)),
       )
-      (ap (λ (b : Bool). leb (length (file m) + 12) 16777216 && (leb (suc (length (m .refs))) 4096 && b)) (and-true (entryTests u n (getD (m .chunks) k noChunk) (m .refs))))
+      (ap (λ (b : Bool). inOrder 0 rs′ && (leb (length (file m) + 12) 16777216 && (leb (suc (length (m .refs))) 4096 && b)))
+      (and-true (entryTests u n (getD (m .chunks) k noChunk) (m .refs))))
 
 -- an entry put in at i and its chunk at k
 raise-ok : (k n : ℕ) (r : Ref) → RefOk n r → RefOk (suc n) (raise k r)
@@ -231,7 +233,8 @@ module _ (m : Model) (i k u n : ℕ) (c : Chunk) (s : Sound m) (ok : modelFault 
   inserted-length = rw (length-file (inserted m i k u n c), length-file m) (omega (arith, inserted-count, total-with k c (m .chunks)))
 
   pub inserted-accepted : u < W → n < W → c .type < W → accepted (verdict plainRules (file (inserted m i k u n c)))
-      ≡ (leb (length (file m) + 12 + size c) 16777216 && (not (eqb (c .type) RIdx) && (leb (suc (length (m .refs))) 4096 && entryTests u n c (m .refs))))
+      ≡ (inOrder 0 (inserted m i k u n c .refs)
+      && (leb (length (file m) + 12 + size c) 16777216 && (not (eqb (c .type) RIdx) && (leb (suc (length (m .refs))) 4096 && entryTests u n c (m .refs)))))
   unfolding inserted
   inserted-accepted hu hn ht =
       let p = model-parts m ok in
@@ -245,7 +248,8 @@ module _ (m : Model) (i k u n : ℕ) (c : Chunk) (s : Sound m) (ok : modelFault 
       (λ h. picture-with (frontNumber (m .chunks)) cs′ i x up (picture-raise (frontNumber (m .chunks)) (m .chunks) k c (m .refs) here ∙ h)) in
       accepted-file (inserted m i k u n c) (inserted-sound hu hn ht)
       ∙ rw (inserted-length, inserted-count, second-with at at′ (m .chunks) k c (p .no-second), e)
-      (ap (λ (b : Bool). leb (length (file m) + 12 + size c) 16777216 && (not (eqb (c .type) RIdx) && (leb (suc (length (m .refs))) 4096 && b)))
+      (ap (λ (b : Bool). inOrder 0 (with-at i x up)
+      && (leb (length (file m) + 12 + size c) 16777216 && (not (eqb (c .type) RIdx) && (leb (suc (length (m .refs))) 4096 && b))))
       (last (knownUsage u) (plainAllows u c) ((not (eqb u Exec) || eqb n 0) && not (pairIn u n (m .refs))) (accepted (optional at′ (with-at i x up) cs′)) q))
     where
       last : (a b c z : Bool) → (b ≡ true → z ≡ true) → (a && (b && c)) && z ≡ a && (b && c)

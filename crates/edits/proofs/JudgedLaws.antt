@@ -8,7 +8,7 @@ use lib.ListN.{length, getD}
 use lib.Dec.{eqb, leb}
 use borrow.Author.Tests.{leb-true, lt-ltb}
 use Rattle.blorb.specs.Format.{Ref, Chunk}
-use Rattle.blorb.specs.Verdict.{Rules, accept, check, noChunk, pairIn, refFault, secondIndex, verdict}
+use Rattle.blorb.specs.Verdict.{Rules, Verdict, accept, refuse, check, noChunk, pairIn, refFault, secondIndex, verdict}
 use Rattle.blorb.specs.Tags.{Pict, Fspc}
 use Rattle.blorb.specs.Rules.{typeIn, optional, plainRules}
 use Rattle.blorb.specs.Model.{Model, base, file}
@@ -16,7 +16,7 @@ use Rattle.blorb.specs.Queries.{find, noRef, frontNumber}
 use Rattle.blorb.proofs.AllLaws.{all-getD}
 use Rattle.blorb.specs.Sound.{RefOk, Sound}
 use Rattle.blorb.proofs.Checks.{then-accept, check-accept}
-use Rattle.blorb.proofs.VerdictLaws.{refsFault, modelFault, verdict-file}
+use Rattle.blorb.proofs.VerdictLaws.{refsFault, modelFault, inOrder, verdict-file, file-ordered}
 use Rattle.edits.specs.Run.{accepted}
 use Rattle.edits.proofs.FaultLaws.{pair-found}
 use Rattle.edits.proofs.FrontLaws.{pairs-once, pair-right}
@@ -40,11 +40,27 @@ model-parts m ok =
     record { no-second = a .0; few = leb-true _ _ (check-accept _ _ _ (b .0)); entries-fine = c .0; seven = c .1 }
 
 -- the verdict on a sound model's file, as a test
-pub accepted-file : (m : Model) → Sound m → accepted (verdict plainRules (file m))
+pub accepted-ordered : (m : Model) → Sound m → inOrder 0 (m .refs) ≡ true → accepted (verdict plainRules (file m))
     ≡ (leb (length (file m)) 16777216 && (accepted (secondIndex (base (length (m .refs))) (m .chunks)) && (leb (length (m .refs)) 4096
     && (accepted (refsFault plainRules (m .chunks) [] 24 (m .refs)) && accepted (optional (base (length (m .refs))) (m .refs) (m .chunks))))))
 unfolding modelFault
-accepted-file m s = ap accepted (verdict-file plainRules m s) ∙ simp (accepted-then, accepted-check)
+accepted-ordered m s o = ap accepted (verdict-file plainRules m s o) ∙ simp (accepted-then, accepted-check)
+
+-- of any order
+pub accepted-file : (m : Model) → Sound m → accepted (verdict plainRules (file m))
+    ≡ (inOrder 0 (m .refs) && (leb (length (file m)) 16777216 && (accepted (secondIndex (base (length (m .refs))) (m .chunks)) && (leb (length (m .refs)) 4096
+    && (accepted (refsFault plainRules (m .chunks) [] 24 (m .refs)) && accepted (optional (base (length (m .refs))) (m .refs) (m .chunks)))))))
+accepted-file m s = go (inOrder 0 (m .refs)) refl
+  where
+    refused : (v : Verdict) → (v ≡ accept → inOrder 0 (m .refs) ≡ true) → inOrder 0 (m .refs) ≡ false → accepted v ≡ false
+    refused accept h o = sym (h refl) ∙ o
+    refused (refuse k p) h o = refl
+
+    go : (b : Bool) → inOrder 0 (m .refs) ≡ b → accepted (verdict plainRules (file m))
+        ≡ (b && (leb (length (file m)) 16777216 && (accepted (secondIndex (base (length (m .refs))) (m .chunks)) && (leb (length (m .refs)) 4096
+        && (accepted (refsFault plainRules (m .chunks) [] 24 (m .refs)) && accepted (optional (base (length (m .refs))) (m .refs) (m .chunks)))))))
+    go true o = accepted-ordered m s o
+    go false o = refused (verdict plainRules (file m)) (λ h. file-ordered plainRules m s h) o
 
 pub accepted-front : (b t : Bool) (p : ℕ) → accepted (cond b (check t 19 p) accept) ≡ not (b && not t)
 accepted-front true t p = accepted-check t 19 p ∙ sym (not-not t)

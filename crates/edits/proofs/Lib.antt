@@ -5,6 +5,8 @@ pub mod JournalLaws
 pub mod RunLaws
 pub mod Demand3
 pub mod Starts
+pub mod OrderLaws
+pub mod EditsKeepOrder
 pub mod AddVerdict
 pub mod ReplaceVerdict
 pub mod RemoveVerdict
@@ -23,6 +25,7 @@ pub mod ReplaceJudged
 pub mod InsertJudged
 pub mod UndoJudged
 pub mod FitFacts
+pub mod OrderTold
 pub mod UndoTold
 pub mod InsertStarts
 pub mod AddInserts

@@ -17,9 +17,10 @@ use Rattle.blorb.specs.Queries.{find, noRef, refAt, chunkAt, without, uses, sha
 use Rattle.blorb.proofs.AllLaws.{all-getD}
 use Rattle.blorb.specs.Sound.{RefOk, Sound}
 use Rattle.blorb.proofs.Checks.{then-accept, check-accept, pass}
-use Rattle.blorb.proofs.VerdictLaws.{refsFault, modelFault}
+use Rattle.blorb.proofs.VerdictLaws.{refsFault, modelFault, inOrder}
 use Rattle.edits.specs.Edit.{remove, edited, lower, removed, removedBoth}
 use Rattle.edits.specs.Run.{accepted}
+use Rattle.edits.proofs.OrderLaws.{order-removed}
 use Rattle.edits.proofs.AddVerdict.{second-any}
 use Rattle.edits.proofs.UndoLaws.{or-false, length-remaining}
 use Rattle.edits.proofs.FitLaws.{edit-sound}
@@ -27,7 +28,7 @@ use Rattle.edits.proofs.Lengths.{length-removed}
 use Rattle.edits.proofs.RemoveVerdict.{same-chunk, refs-removed}
 use Rattle.edits.proofs.FrontLaws.{like-without, optional-like, front-picture, picture-none}
 use Rattle.edits.proofs.ReadBack.{same, pair-gone}
-use Rattle.edits.proofs.JudgedLaws.{model-parts, accepted-file, accepted-front, isFront, find-at, chunk-in, chunk-plain}
+use Rattle.edits.proofs.JudgedLaws.{model-parts, accepted-ordered, accepted-front, isFront, find-at, chunk-in, chunk-plain}
 
 -- no second index among fewer chunks
 pub second-without : (at at′ : ℕ) (cs : List Chunk) (k : ℕ) → secondIndex at cs ≡ accept → secondIndex at′ (without k cs) ≡ accept
@@ -114,16 +115,17 @@ module _ (m : Model) (i : ℕ) (s : Sound m) (ok : modelFault plainRules m ≡ a
   removed-length = rw removed-both (omega (arith, length-removed m i k h (chunk-in m i s h)))
 
   -- the file without them is accepted unless the frontispiece's picture goes
-  pub removed-accepted : length (file m) ≤ 16777216
+  pub removed-accepted : length (file m) ≤ 16777216 → inOrder 0 (m .refs) ≡ true
       → accepted (verdict plainRules (file (removed m i))) ≡ not (isFront (m .chunks) (refAt m i .usage) (refAt m i .number))
-  removed-accepted short =
+  removed-accepted short ord =
       let p = model-parts m ok in
       let x : Model = removedBoth m i (refAt m i .chunk) in
       let few : length (x .refs) ≤ 4096 = omega (arith, length-remaining m i (refAt m i .chunk) h, p .few) in
       let le : length (file x) ≤ 16777216 = omega (arith, length-removed m i k h (chunk-in m i s h)) in
       let a : secondIndex (base (length (x .refs))) (x .chunks) ≡ accept
       = (unfold removedBoth in second-without (base (length rs)) (base (length (map (lower k) (without i rs)))) cs k (p .no-second)) in
+      let o : inOrder 0 (x .refs) ≡ true = (unfold removedBoth in order-removed k i rs ord) in
       let b : refsFault plainRules (x .chunks) [] 24 (x .refs) ≡ accept = (unfold removedBoth shared in refs-removed plainRules cs k i rs alone (p .entries-fine)) in
       ap (λ (z : Model). accepted (verdict plainRules (file z))) removed-both
-      ∙ accepted-file x (rw removed-both at removed-sound)
+      ∙ accepted-ordered x (rw removed-both at removed-sound) o
       ∙ rw (le-leb (length (file x)) 16777216 le, a, le-leb (length (x .refs)) 4096 few, b) front-removed

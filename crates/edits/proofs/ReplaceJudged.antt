@@ -17,7 +17,7 @@ use Rattle.blorb.specs.Queries.{find, refAt, chunkAt, shared, frontNumber}
 use Rattle.blorb.specs.Sound.{W, Sound}
 use Rattle.blorb.proofs.Checks.{then-accept, check-accept, pass}
 use Rattle.blorb.proofs.ModelLaws.{length-file, size-getD}
-use Rattle.blorb.proofs.VerdictLaws.{refsFault, modelFault}
+use Rattle.blorb.proofs.VerdictLaws.{refsFault, modelFault, inOrder}
 use Rattle.edits.specs.Edit.{replaced}
 use Rattle.edits.specs.Run.{accepted}
 use Rattle.edits.proofs.AddVerdict.{second-any, then-end}
@@ -28,7 +28,7 @@ use Rattle.edits.proofs.RuleSeven.{plain-plain}
 use Rattle.edits.proofs.FrontLaws.{optional-replaced}
 use Rattle.edits.proofs.UndoVerdict.{accepted-check}
 use Rattle.edits.proofs.BoolLaws.{and-where}
-use Rattle.edits.proofs.JudgedLaws.{model-parts, accepted-file, accepted-front, isFront, chunk-in, chunk-plain}
+use Rattle.edits.proofs.JudgedLaws.{model-parts, accepted-ordered, accepted-front, isFront, chunk-in, chunk-plain}
 
 -- a second index: only the new chunk can be one
 second-set : (at at′ : ℕ) (cs : List Chunk) (k : ℕ) (c : Chunk) → k < length cs → secondIndex at cs ≡ accept → accepted (secondIndex at′ (set cs k c)) ≡ not (eqb (c .type) RIdx)
@@ -70,9 +70,9 @@ module _ (m : Model) (u n t : ℕ) (d : List ℕ) (s : Sound m) (ok : modelFault
       let there = chunk-in m place s h in
       omega (arith, length-replaced m own (chunkOf t d) there, size-getD (m .chunks) own noChunk there, length-file m)
 
-  pub replaced-accepted : t < W → accepted (verdict plainRules (file (replaced m own (chunkOf t d))))
+  pub replaced-accepted : t < W → inOrder 0 (m .refs) ≡ true → accepted (verdict plainRules (file (replaced m own (chunkOf t d))))
       ≡ (leb (length (file m) - size (chunkAt m own) + size (chunkOf t d)) 16777216 && (not (eqb t RIdx) && (plainAllows u (chunkOf t d) && not (isFront (m .chunks) u n && eqb t Rect))))
-  replaced-accepted ht =
+  replaced-accepted ht ord =
       let p = model-parts m ok in
       let there = chunk-in m place s h in
       let x : Model = replaced m own (chunkOf t d) in
@@ -87,7 +87,7 @@ module _ (m : Model) (u n t : ℕ) (d : List ℕ) (s : Sound m) (ok : modelFault
       ∙ ap (λ (z : ℕ). plainAllows z (chunkOf t d)) (find-pair u n (m .refs) h .0)) in
       let q : plainAllows u (chunkOf t d) ≡ true → accepted (optional (base (length (x .refs))) (x .refs) (x .chunks)) ≡ not (isFront (m .chunks) u n && eqb t Rect)
       = λ pl. (unfold replaced in front-replaced pl) in
-      accepted-file x sd
+      accepted-ordered x sd (unfold replaced in ord)
       ∙ rw (replaced-length, a, le-leb (length (x .refs)) 4096 few, b)
       (ap (λ (z : Bool). leb (length (file m) - size (chunkAt m own) + size (chunkOf t d)) 16777216 && (not (eqb t RIdx) && z))
       (and-where (plainAllows u (chunkOf t d)) (accepted (optional (base (length (x .refs))) (x .refs) (x .chunks))) (not (isFront (m .chunks) u n && eqb t Rect)) q))

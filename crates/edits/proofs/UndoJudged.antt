@@ -20,7 +20,7 @@ use Rattle.blorb.proofs.Places.{startOf-placeOf}
 use Rattle.blorb.specs.Bytes.{Byte}
 use Rattle.blorb.proofs.Accept.{accept-back}
 use Rattle.blorb.proofs.ModelLaws.{length-file, size-getD}
-use Rattle.blorb.proofs.VerdictLaws.{modelFault, file-judged}
+use Rattle.blorb.proofs.VerdictLaws.{modelFault, inOrder, file-judged, file-ordered}
 use Rattle.edits.specs.Edit.{lower, replaced, removed, removedBoth}
 use Rattle.edits.specs.Journal.{Rec, hasPair, fits, fits1, fits2, fits3, fits4, undone, undo1, undo2, undo3, undo4, oldChunk, oldPlace}
 use Rattle.edits.specs.Run.{accepted}
@@ -92,12 +92,13 @@ undo1-length r m s ok fit =
     ∙ removed-length m (r .place) s ok (omega (arith, f .count)) (f .alone)
 
 -- accepted unless the frontispiece's picture goes
-pub undo1-accepted : (r : Rec) (m : Model) → Sound m → modelFault plainRules m ≡ accept → length (file m) ≤ 16777216 → fits1 r m ≡ true
+pub undo1-accepted : (r : Rec) (m : Model) → Sound m → modelFault plainRules m ≡ accept → inOrder 0 (m .refs) ≡ true → length (file m) ≤ 16777216
+    → fits1 r m ≡ true
     → accepted (verdict plainRules (file (undo1 m))) ≡ not (isFront (m .chunks) (r .usage) (r .number))
-undo1-accepted r m s ok short fit =
+undo1-accepted r m s ok ord short fit =
     let f = fits1-facts r m fit in
     ap (λ (z : Model). accepted (verdict plainRules (file z))) (undo1-removed r m s fit)
-    ∙ removed-accepted m (r .place) s ok (omega (arith, f .count)) (f .alone) short
+    ∙ removed-accepted m (r .place) s ok (omega (arith, f .count)) (f .alone) short ord
     ∙ (λ i. not (isFront (m .chunks) (f .usage-is i) (f .number-is i)))
 
 -- ---- kind 2
@@ -142,17 +143,17 @@ module _ (r : Rec) (m : Model) (s : Sound m) (ok : modelFault plainRules m ≡ a
       omega (arith, length-replaced m (refAt m (r .place) .chunk) (oldChunk r) there, size-getD (m .chunks) (refAt m (r .place) .chunk) noChunk there, length-file m)
 
   -- accepted if it is short enough, the old chunk is no index and one that rule 5 allows, and the frontispiece's picture doesn't become a 'Rect'
-  pub undo2-accepted : r .type < W → accepted (verdict plainRules (file (undo2 r m)))
+  pub undo2-accepted : r .type < W → inOrder 0 (m .refs) ≡ true → accepted (verdict plainRules (file (undo2 r m)))
       ≡ (leb (length (file m) - size (chunkAt m (refAt m (r .place) .chunk)) + size (oldChunk r)) 16777216
       && (not (eqb (r .type) RIdx) && (plainAllows (r .usage) (oldChunk r) && not (isFront (m .chunks) (r .usage) (r .number) && eqb (r .type) Rect))))
   unfolding undo2
-  undo2-accepted ht =
+  undo2-accepted ht ord =
       let f = fits2-facts r m fit in
       let e : find (r .usage) (r .number) (m .refs) ≡ r .place = found-at r m ok (f .inside) (f .usage-is) (f .number-is) in
       let h : find (r .usage) (r .number) (m .refs) < length (m .refs) = rw e (f .inside) in
       let al : shared m (find (r .usage) (r .number) (m .refs)) ≡ false = rw e (f .alone) in
       ap (λ (i : ℕ). accepted (verdict plainRules (file (replaced m (refAt m i .chunk) (oldChunk r))))) (sym e)
-      ∙ replaced-accepted m (r .usage) (r .number) (r .type) (r .body) s ok h al ht
+      ∙ replaced-accepted m (r .usage) (r .number) (r .type) (r .body) s ok h al ht ord
       ∙ ap (λ (i : ℕ). leb (length (file m) - size (chunkAt m (refAt m i .chunk)) + size (oldChunk r)) 16777216
       && (not (eqb (r .type) RIdx) && (plainAllows (r .usage) (oldChunk r) && not (isFront (m .chunks) (r .usage) (r .number) && eqb (r .type) Rect)))) e
 
@@ -163,8 +164,9 @@ module _ (r : Rec) (m : Model) (s : Sound m) (ok : modelFault plainRules m ≡ a
   undo3-length = inserted-length m (r .place) (oldPlace r m) (r .usage) (r .number) (oldChunk r) s ok (place-inside (r .start - 12) (base (length (m .refs))) (m .chunks))
 
   pub undo3-accepted : r .usage < W → r .number < W → r .type < W → accepted (verdict plainRules (file (undo3 r m)))
-      ≡ (leb (length (file m) + 12 + size (oldChunk r)) 16777216 && (not (eqb (r .type) RIdx) && (leb (suc (length (m .refs))) 4096
-      && entryTests (r .usage) (r .number) (oldChunk r) (m .refs))))
+      ≡ (inOrder 0 (undo3 r m .refs)
+      && (leb (length (file m) + 12 + size (oldChunk r)) 16777216 && (not (eqb (r .type) RIdx) && (leb (suc (length (m .refs))) 4096
+      && entryTests (r .usage) (r .number) (oldChunk r) (m .refs)))))
   unfolding undo3
   undo3-accepted hu hn ht = inserted-accepted m (r .place) (oldPlace r m) (r .usage) (r .number) (oldChunk r) s ok (place-inside (r .start - 12) (base (length (m .refs))) (m .chunks)) hu hn ht
 
@@ -181,7 +183,8 @@ module _ (r : Rec) (m : Model) (s : Sound m) (ok : modelFault plainRules m ≡ a
     undo4-length = entered-length m (r .place) (oldPlace r m) (r .usage) (r .number) s ok old-ok
 
     pub undo4-accepted : accepted (verdict plainRules (file (undo4 r m)))
-        ≡ (leb (length (file m) + 12) 16777216 && (leb (suc (length (m .refs))) 4096 && entryTests (r .usage) (r .number) (chunkAt m (oldPlace r m)) (m .refs)))
+        ≡ (inOrder 0 (undo4 r m .refs)
+        && (leb (length (file m) + 12) 16777216 && (leb (suc (length (m .refs))) 4096 && entryTests (r .usage) (r .number) (chunkAt m (oldPlace r m)) (m .refs))))
     unfolding undo4
     undo4-accepted = entered-accepted m (r .place) (oldPlace r m) (r .usage) (r .number) s ok old-ok
 
@@ -206,10 +209,18 @@ kind-4 r m h = (rw h, rw h)
 pub record AcceptedFile (f : List ℕ) : Type 0 where
   pub sound : Sound (model f)
   pub judged : modelFault plainRules (model f) ≡ accept
+  pub ordered : inOrder 0 (model f .refs) ≡ true
   pub whole : file (model f) ≡ f
   pub short : length (file (model f)) ≤ 16777216
 
 pub accepted-facts : (f : List ℕ) → All Byte f → verdict plainRules f ≡ accept → AcceptedFile f
 accepted-facts f bytes fine =
     let g = accept-back plainRules f bytes fine in
-    record { sound = g .1; judged = file-judged plainRules (model f) (g .1) (ap (verdict plainRules) (g .0) ∙ fine); whole = g .0; short = omega (arith, ap length (g .0), g .2) }
+    let v : verdict plainRules (file (model f)) ≡ accept = ap (verdict plainRules) (g .0) ∙ fine in
+    record {
+      sound = g .1;
+      judged = file-judged plainRules (model f) (g .1) v;
+      ordered = file-ordered plainRules (model f) (g .1) v;
+      whole = g .0;
+      short = omega (arith, ap length (g .0), g .2);
+    }

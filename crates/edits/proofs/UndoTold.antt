@@ -12,17 +12,19 @@ use Rattle.blorb.specs.Tags.{RIdx, Rect}
 use Rattle.blorb.specs.Verdict.{verdict}
 use Rattle.blorb.specs.Rules.{plainAllows, plainRules}
 use Rattle.blorb.specs.Model.{Model, model, file}
-use Rattle.blorb.specs.Queries.{find, refAt, chunkAt}
+use Rattle.blorb.specs.Queries.{find, refAt, chunkAt, start}
 use Rattle.blorb.specs.All.{All}
 use Rattle.blorb.proofs.AllLaws.{all-take, all-drop}
 use Rattle.blorb.specs.Sound.{W}
 use Rattle.blorb.proofs.Accept.{rd32-small}
-use Rattle.edits.specs.Journal.{Rec, trailer, recIn, lastBody, lastRec, fits, fits1, fits2, fits4, undo2, oldChunk, oldPlace}
+use Rattle.edits.specs.Journal.{Rec, trailer, recIn, lastBody, lastRec, fits, fits1, fits2, fits3, fits4, undo2, oldChunk, oldPlace}
+use Rattle.edits.specs.Order.{between}
 use Rattle.edits.specs.Run.{accepted, undoneFile}
 use Rattle.edits.proofs.BoolLaws.{and-where}
 use Rattle.edits.proofs.JudgedLaws.{isFront}
 use Rattle.edits.proofs.InsertJudged.{entryTests}
 use Rattle.edits.proofs.UndoJudged.{AcceptedFile, kind-1, kind-2, kind-3, kind-4, fits2-facts, found-at, undo1-length, undo1-accepted, undo2-length, undo2-accepted, undo3-length, undo3-accepted, undo4-length, undo4-accepted}
+use Rattle.edits.proofs.OrderTold.{order-inserted, order-entered}
 use Rattle.edits.proofs.FitFacts.{size-is, told1, told2, told3, told4, fits1-told, fits2-told, fits3-told, fits4-told}
 
 -- a record read from bytes has numbers of 32 bits
@@ -46,13 +48,20 @@ accepted2 r m L i =
     leb (length2 r m L i) 16777216
     && (not (eqb (r .type) RIdx) && (plainAllows (r .usage) (oldChunk r) && not (isFront (m .chunks) (r .usage) (r .number) && eqb (r .type) Rect)))
 
+-- kinds 3 and 4: the order of the chunks first, told by the starts of the entries beside the new one. Of kind 3 the one in front starts below the
+-- new chunk, which pushes what is there now up; of kind 4 it may start there too.
+abbrev pub entryStart : Model → ℕ → ℕ
+entryStart m i = start m (refAt m i .chunk)
+
 abbrev pub accepted3 : Rec → Model → ℕ → Bool
 accepted3 r m L =
-    leb (L + 12 + sizeOf (length (r .body))) 16777216
-    && (not (eqb (r .type) RIdx) && (leb (suc (length (m .refs))) 4096 && entryTests (r .usage) (r .number) (oldChunk r) (m .refs)))
+    between (entryStart m) (length (m .refs)) (r .place) (r .start - 12) (r .start - 12) && (leb (L + 12 + sizeOf (length (r .body))) 16777216
+    && (not (eqb (r .type) RIdx) && (leb (suc (length (m .refs))) 4096 && entryTests (r .usage) (r .number) (oldChunk r) (m .refs))))
 
 abbrev pub accepted4 : Rec → Model → ℕ → Bool
-accepted4 r m L = leb (L + 12) 16777216 && (leb (suc (length (m .refs))) 4096 && entryTests (r .usage) (r .number) (chunkAt m (oldPlace r m)) (m .refs))
+accepted4 r m L =
+    between (entryStart m) (length (m .refs)) (r .place) (r .start - 12 + 1) (r .start - 12) && (leb (L + 12) 16777216
+    && (leb (suc (length (m .refs))) 4096 && entryTests (r .usage) (r .number) (chunkAt m (oldPlace r m)) (m .refs)))
 
 module _ (f j : List ℕ) (st : AcceptedFile f) (bytes : All Byte j) where
   abbrev m : Model
@@ -77,7 +86,7 @@ module _ (f j : List ℕ) (st : AcceptedFile f) (bytes : All Byte j) where
       let k = kind-1 r m h in
       let z : Bool = not (isFront (m .chunks) (r .usage) (r .number)) in
       (λ i. k .0 i && accepted (verdict plainRules (file (k .1 i))))
-      ∙ and-where (fits1 r m) _ z (λ fit. undo1-accepted r m (st .sound) (st .judged) (st .short) fit)
+      ∙ and-where (fits1 r m) _ z (λ fit. undo1-accepted r m (st .sound) (st .judged) (st .ordered) (st .short) fit)
       ∙ ap (λ (b : Bool). b && z) (fits1-told r m (st .sound) (st .judged) ∙ ap (λ (L : ℕ). told1 r m L at) same-length)
 
   pub test-2 : lastRec j .kind ≡ 2 → (fits (lastRec j) (model f) && accepted (verdict plainRules (undoneFile f j)))
@@ -94,7 +103,7 @@ module _ (f j : List ℕ) (st : AcceptedFile f) (bytes : All Byte j) where
       part fit =
           let p = fits2-facts r m fit in
           let i : at ≡ r .place = found-at r m (st .judged) (p .inside) (p .usage-is) (p .number-is) in
-          undo2-accepted r m (st .sound) (st .judged) fit (last-small j bytes .2)
+          undo2-accepted r m (st .sound) (st .judged) fit (last-small j bytes .2) (st .ordered)
           ∙ (λ z. leb (same-length z - size-is (chunkAt m (refAt m (r .place) .chunk)) z + size-is (oldChunk r) z) 16777216
           && (not (eqb (r .type) RIdx) && (plainAllows (r .usage) (oldChunk r) && not (isFront (m .chunks) (r .usage) (r .number) && eqb (r .type) Rect))))
           ∙ ap (accepted2 r m (length f)) (sym i)
@@ -106,9 +115,10 @@ module _ (f j : List ℕ) (st : AcceptedFile f) (bytes : All Byte j) where
       let k = kind-3 r m h in
       let w = last-small j bytes in
       (λ i. k .0 i && accepted (verdict plainRules (file (k .1 i))))
-      ∙ (λ i. (fits3-told r m ∙ ap (told3 r m) same-length) i && undo3-accepted r m (st .sound) (st .judged) (w .0) (w .1) (w .2) i)
-      ∙ (λ z. told3 r m (length f) && (leb (same-length z + 12 + size-is (oldChunk r) z) 16777216
-      && (not (eqb (r .type) RIdx) && (leb (suc (length (m .refs))) 4096 && entryTests (r .usage) (r .number) (oldChunk r) (m .refs)))))
+      ∙ and-where (fits3 r m) _ (accepted3 r m (length f)) (λ fit. undo3-accepted r m (st .sound) (st .judged) (w .0) (w .1) (w .2)
+      ∙ (λ z. order-inserted r m (st .sound) (st .ordered) fit z && (leb (same-length z + 12 + size-is (oldChunk r) z) 16777216
+      && (not (eqb (r .type) RIdx) && (leb (suc (length (m .refs))) 4096 && entryTests (r .usage) (r .number) (oldChunk r) (m .refs))))))
+      ∙ ap (λ (b : Bool). b && accepted3 r m (length f)) (fits3-told r m ∙ ap (told3 r m) same-length)
 
   pub test-4 : lastRec j .kind ≡ 4 → (fits (lastRec j) (model f) && accepted (verdict plainRules (undoneFile f j)))
       ≡ (told4 (lastRec j) (model f) && accepted4 (lastRec j) (model f) (length f))
@@ -117,7 +127,9 @@ module _ (f j : List ℕ) (st : AcceptedFile f) (bytes : All Byte j) where
       let k = kind-4 r m h in
       let w = last-small j bytes in
       (λ i. k .0 i && accepted (verdict plainRules (file (k .1 i))))
-      ∙ and-where (fits4 r m) _ (accepted4 r m (length f)) (λ fit. undo4-accepted r m (st .sound) (st .judged) (w .0) (w .1) fit ∙ ap (accepted4 r m) same-length)
+      ∙ and-where (fits4 r m) _ (accepted4 r m (length f)) (λ fit. undo4-accepted r m (st .sound) (st .judged) (w .0) (w .1) fit
+      ∙ (λ z. order-entered r m (st .sound) (st .ordered) fit z && (leb (same-length z + 12) 16777216
+      && (leb (suc (length (m .refs))) 4096 && entryTests (r .usage) (r .number) (chunkAt m (oldPlace r m)) (m .refs)))))
       ∙ ap (λ (b : Bool). b && accepted4 r m (length f)) (fits4-told r m)
 
   -- the length of the file after it, for 24

@@ -1,5 +1,6 @@
 pub mod Edit
 pub mod Starts
+pub mod Order
 pub mod Journal
 pub mod KindRule
 pub mod Run

@@ -21,7 +21,8 @@ use Rattle.blorb.specs.Bytes.{Byte}
 use Rattle.blorb.proofs.Checks.{then-accept}
 use Rattle.blorb.proofs.Accept.{accept-back}
 use Rattle.edits.proofs.AddVerdict.{then-assoc, added-verdict}
-use Rattle.blorb.proofs.VerdictLaws.{modelFault, verdict-file, file-judged}
+use Rattle.blorb.proofs.VerdictLaws.{modelFault, inOrder, verdict-file, file-judged, file-ordered}
+use Rattle.edits.proofs.EditsKeepOrder.{edits-keep-order}
 use Rattle.edits.proofs.FitLaws.{edit-sound}
 use Rattle.edits.proofs.Lengths.{length-added}
 use Rattle.edits.specs.Run.{hundred}
@@ -91,13 +92,15 @@ module _ (m : Model) (u n t : ℕ) (d : List ℕ) (s : Sound m) (ok : modelFault
       added-verdict plainRules m u n c s ok
       ∙ (λ i. check (not (eqb t RIdx)) 9 (place9 i) then (check (leb (suc K) 4096) 11 20 then e i))
 
-  add-judged : hundred (verdict plainRules (file (added m u n c))) ≡ addJudged (length (file m)) K (ltb (find u n (m .refs)) K) u n t d
+  add-judged : inOrder 0 (m .refs) ≡ true → hundred (verdict plainRules (file (added m u n c))) ≡ addJudged (length (file m)) K
+      (ltb (find u n (m .refs)) K) u n t d
   unfolding addJudged
-  add-judged =
+  add-judged ord =
       let k1 : suc K ≡ K + 1 = omega arith in
       let l1 : length (file (added m u n c)) ≡ length (file m) + (20 + (length d + length d % 2)) = length-added m u n c ∙ omega (arith, size-of t d) in
       let sd : Sound (added m u n c) = (unfold edited givenChunk in edit-sound m (add u n t d) s (hu, hn, ht) tt) in
-      ap hundred (verdict-file plainRules (added m u n c) sd ∙ (λ i. check (leb (l1 i) 16777216) 1 0 then model-judged i))
+      let o : inOrder 0 (added m u n c .refs) ≡ true = (unfold edited givenChunk in edits-keep-order m (add u n t d) s ord) in
+      ap hundred (verdict-file plainRules (added m u n c) sd o ∙ (λ i. check (leb (l1 i) 16777216) 1 0 then model-judged i))
       ∙ hundreds (leb (length (file m) + (20 + (length d + length d % 2))) 16777216) (not (eqb t RIdx)) (leb (suc K) 4096) (knownUsage u) (plainAllows u c) (not (eqb u Exec) || eqb n 0) (not (ltb (find u n (m .refs)) K)) (length (file m) + 12) (24 + 12 * K)
       ∙ ap (λ (z : ℕ). check (leb (length (file m) + (20 + (length d + length d % 2))) 16777216) 101 0 then (check (not (eqb t RIdx)) 109 (length (file m) + 12) then (check (leb z 4096) 111 20
       then (check (knownUsage u) 112 (24 + 12 * K) then (check (plainAllows u c) 114 (24 + 12 * K) then (check (not (eqb u Exec) || eqb n 0) 115 (24 + 12 * K + 4) then check (not (ltb (find u n (m .refs)) K)) 116 (24 + 12 * K))))))) k1
@@ -113,7 +116,8 @@ add-fault : (f : List ℕ) (k : ℕ) (b : Bool) (u n t : ℕ) (d : List ℕ) →
     → hundred (verdict plainRules (file (added (model f) u n (chunkOf t d)))) ≡ addJudged (length f) k b u n t d
 add-fault f k b u n t d bytes fine co eb hu hn ht =
     let g = accept-back plainRules f bytes fine in
-    add-judged (model f) u n t d (g .1) (file-judged plainRules (model f) (g .1) (ap (verdict plainRules) (g .0) ∙ fine)) hu hn ht
+    let old : verdict plainRules (file (model f)) ≡ accept = ap (verdict plainRules) (g .0) ∙ fine in
+    add-judged (model f) u n t d (g .1) (file-judged plainRules (model f) (g .1) old) hu hn ht (file-ordered plainRules (model f) (g .1) old)
     ∙ (λ j. addJudged (length (g .0 j)) (sym (co .entries) j) (eb j) u n t d)
 
 -- the ways out of the code

@@ -23,7 +23,8 @@ use Rattle.blorb.proofs.Checks.{then-accept, check-accept, pass, accepts}
 use Rattle.blorb.proofs.Accept.{accept-back}
 use Rattle.edits.proofs.AddVerdict.{second-any}
 use Rattle.edits.proofs.UndoLaws.{length-without, length-remaining}
-use Rattle.blorb.proofs.VerdictLaws.{refsFault, modelFault, verdict-file, file-judged}
+use Rattle.blorb.proofs.VerdictLaws.{refsFault, modelFault, verdict-file, file-judged, file-ordered}
+use Rattle.edits.proofs.EditsKeepOrder.{edits-keep-order}
 use Rattle.edits.proofs.RemoveVerdict.{refs-removed, refs-without}
 use Rattle.edits.proofs.FitLaws.{edit-sound, find-pair}
 use Rattle.edits.specs.Starts.{fallen}
@@ -205,11 +206,13 @@ remove-fault f u n bytes fine hu hn found =
     let m : Model = model f in
     let i : ℕ = find u n (m .refs) in
     let g = accept-back plainRules f bytes fine in
-    let mf = file-judged plainRules m (g .1) (ap (verdict plainRules) (g .0) ∙ fine) in
+    let old : verdict plainRules (file m) ≡ accept = ap (verdict plainRules) (g .0) ∙ fine in
+    let mf = file-judged plainRules m (g .1) old in
+    let ord = edits-keep-order m (remove u n) (g .1) (file-ordered plainRules m (g .1) old) in
     let fp = find-pair u n (m .refs) found in
     let sd : Sound (removed m i) = edit-sound m (remove u n) (g .1) (hu, hn) found in
     let short : length (file (removed m i)) ≤ 16777216 = omega (arith, removed-length m i u n (g .1) mf found (fp .0) (fp .1), ap length (g .0), g .2) in
-    ap hundred (verdict-file plainRules (removed m i) sd ∙ pass _ _ _ _ (le-leb _ _ short) ∙ removed-model m i u n (g .1) mf found (fp .0) (fp .1))
+    ap hundred (verdict-file plainRules (removed m i) sd ord ∙ pass _ _ _ _ (le-leb _ _ short) ∙ removed-model m i u n (g .1) mf found (fp .0) (fp .1))
     ∙ (unfold lostFront in hundred-front (typeIn Fspc (m .chunks)) (not (eqb u Pict && eqb n (frontNumber (m .chunks)))) (fallen (start m (refAt m i .chunk)) (goneSize m i) (start m (frontPlace (m .chunks))) + 8))
 
 -- the ways out of the code

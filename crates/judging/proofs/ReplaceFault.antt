@@ -22,7 +22,8 @@ use Rattle.blorb.specs.Bytes.{Byte}
 use Rattle.blorb.proofs.Checks.{then-accept, check-accept, pass}
 use Rattle.blorb.proofs.Accept.{accept-back}
 use Rattle.edits.proofs.AddVerdict.{second-any, then-end}
-use Rattle.blorb.proofs.VerdictLaws.{refsFault, modelFault, verdict-file, file-judged}
+use Rattle.blorb.proofs.VerdictLaws.{refsFault, modelFault, verdict-file, file-judged, file-ordered}
+use Rattle.edits.proofs.EditsKeepOrder.{edits-keep-order}
 use Rattle.edits.proofs.ReplaceVerdict.{refs-replaced}
 use Rattle.edits.proofs.FitLaws.{edit-sound, find-pair}
 use Rattle.edits.specs.Starts.{behind}
@@ -136,11 +137,14 @@ replace-fault f u n t d bytes fine hu hn ht found alone =
     let m : Model = model f in
     let k : ℕ = refAt m (find u n (m .refs)) .chunk in
     let g = accept-back plainRules f bytes fine in
-    let mf = file-judged plainRules m (g .1) (ap (verdict plainRules) (g .0) ∙ fine) in
+    let old : verdict plainRules (file m) ≡ accept = ap (verdict plainRules) (g .0) ∙ fine in
+    let mf = file-judged plainRules m (g .1) old in
+    let ord = edits-keep-order m (replace u n t d) (g .1) (file-ordered plainRules m (g .1) old) in
     let sd : Sound (replaced m k (chunkOf t d)) = edit-sound m (replace u n t d) (g .1) (hu, hn, ht) (found, alone) in
     let th = there m u n t d (g .1) mf found alone in
     let len : length (file (replaced m k (chunkOf t d))) ≡ length f - size (chunkAt m k) + size (chunkOf t d) = omega (arith, length-replaced m k (chunkOf t d) th, ap length (g .0), size-getD (m .chunks) k noChunk th, file-length m) in
-    ap hundred (verdict-file plainRules (replaced m k (chunkOf t d)) sd ∙ (λ z. check (leb (len z) 16777216) 1 0 then replaced-model m u n t d (g .1) mf found alone z))
+    ap hundred (verdict-file plainRules (replaced m k (chunkOf t d)) sd ord
+    ∙ (λ z. check (leb (len z) 16777216) 1 0 then replaced-model m u n t d (g .1) mf found alone z))
     ∙ spread (leb (length f - size (chunkAt m k) + size (chunkOf t d)) 16777216) (not (eqb t RIdx)) (plainAllows u (chunkOf t d)) (start m k) (24 + 12 * find u n (m .refs)) (spoiltFront m u n t d (g .1) mf found alone)
     ∙ ap (λ (v : Verdict). check (leb (length f - size (chunkAt m k) + size (chunkOf t d)) 16777216) 101 0 then (check (not (eqb t RIdx)) 109 (start m k) then (check (plainAllows u (chunkOf t d)) 114 (24 + 12 * find u n (m .refs)) then v)))
     (unfold spoiltFront in hundred-front (typeIn Fspc (m .chunks)) (not ((eqb u Pict && eqb n (frontNumber (m .chunks))) && eqb t Rect)) (behind (start m k) (size (chunkAt m k)) (size (chunkOf t d)) (start m (frontPlace (m .chunks))) + 8))

@@ -1,6 +1,6 @@
 -- The ways out of an undo's plan.
 use mathlib.Core.Path.{_≡_, refl, sym, ap, subst, _∙_}
-use Prim.Native.Nat.{ℕ, _+_, _-_, _≤_, _<_}
+use Prim.Native.Nat.{ℕ, _+_, _*_, _-_, _≤_, _<_}
 use mathlib.Core.List.{List}
 use mathlib.Core.Bool.{Bool, true, false, _&&_, not, and-false}
 use native.Mathlib.Omega.{arith}
@@ -10,12 +10,14 @@ use lib.Dec.{eqb, leb}
 use borrow.Author.Tests.{le-leb, lt-leb, eq-eqb, ne-eqb}
 use Rattle.blorb.specs.Verdict.{Verdict, accept, refuse, _then_, check, verdict}
 use Rattle.blorb.specs.Rules.{plainRules, plainVerdict}
-use Rattle.blorb.specs.Model.{model}
+use Rattle.blorb.specs.Model.{Model, base, model}
 use Rattle.blorb.specs.All.{All}
 use Rattle.blorb.proofs.AllLaws.{all-take}
 use Rattle.blorb.specs.Bytes.{Byte}
 use Rattle.blorb.proofs.Checks.{pass, accepts}
 use Rattle.blorb.proofs.Accept.{accept-short}
+use Rattle.blorb.proofs.ModelLaws.{length-file}
+use Rattle.edits.proofs.JudgedLaws.{model-parts}
 use Rattle.edits.specs.Journal.{Rec, lastRec, wellFormed, fits}
 use Rattle.edits.specs.Run.{accepted, undoneFile, undoFault}
 use Rattle.edits.proofs.UndoJudged.{AcceptedFile, accepted-facts}
@@ -87,19 +89,37 @@ module _ (b : List ℕ) (l : ℕ) (j : List ℕ) (u : ℕ) (r : Record) (t : Fac
       e ∙ (λ i. replacedPlan (facts-are i) (file-is i) (numbers i) (body-is i)) ∙ fits-replaced (take l b) (take u j) file-facts (a .bytes) (kind-is 2 h)
 
   pub asked-removed : (x : Undoing) → (r .kind ≡ 1 → ⊥) → (r .kind ≡ 4 → ⊥) → (r .kind ≡ 2 → ⊥)
-      → x ≡ removedPlan t l r (take (u - 4 - (u - 4 - r .length)) (drop (u - 4 - r .length) j)) → x ≡ fittingPlan (take l b) (take u j)
+      → x ≡ removedPlan t (take l b) r (take (u - 4 - (u - 4 - r .length)) (drop (u - 4 - r .length) j)) → x ≡ fittingPlan (take l b) (take u j)
   asked-removed x n1 n4 n2 e =
       let h : r .kind ≡ 3 = omega (arith, ends .kind-low, ends .kind-high) in
-      e ∙ (λ i. removedPlan (start-facts (omega arith) i) (file-is i) (numbers i) (body-is i)) ∙ fits-removed (take l b) (take u j) file-facts (a .bytes) (kind-is 3 h)
+      e ∙ (λ i. removedPlan (start-facts (omega arith) i) (take l b) (numbers i) (body-is i)) ∙ fits-removed (take l b) (take u j) file-facts
+      (a .bytes) (kind-is 3 h)
 
   pub asked-unlisted : (x : Undoing) → r .kind ≡ 4 → x ≡ unlistedPlan t (take l b) r → x ≡ fittingPlan (take l b) (take u j)
   asked-unlisted x h e =
       e ∙ (λ i. unlistedPlan (start-facts (omega arith) i) (take l b) (numbers i)) ∙ fits-unlisted (take l b) (take u j) file-facts (a .bytes) (kind-is 4 h)
 
-  pub asked-begins : r .kind ≡ 4 → (length (take l b) ≤ 16777216) × ChunkInside (t .begins) (take l b) (r .start - 12)
+  -- the index lies in the file
+  pub index-inside : (length (take l b) ≤ 16777216) × (t .count ≤ 4096) × (24 + 12 * (t .count) ≤ length (take l b))
+  unfolding base
+  index-inside =
+      let m : Model = model (take l b) in
+      let c : t .count ≡ length (m .refs) = ap (λ (z : Facts). z .count) facts-are in (
+        omega (arith, file-is, a .short),
+        omega (arith, c, model-parts m (file-facts .judged) .few),
+        omega (arith, c, length-file m, ap length (file-facts .whole)),
+      )
+
+  pub asked-begins : r .kind ≡ 4 → (length (take l b) ≤ 16777216) × ChunkInside (t .begins) (take l b) (r .start - 12) × (t .count ≤ 4096)
+      × (24 + 12 * (t .count) ≤ length (take l b))
   asked-begins h =
-      let k : 3 ≤ r .kind = omega arith in
-      (omega (arith, file-is, a .short), subst (λ (z : Facts × Record). ChunkInside (z .0 .begins) (take l b) (z .1 .start - 12)) (λ i. (sym (start-facts k) i, sym numbers i)) (begins-there (take l b) (take u j) file-facts (a .bytes)))
+      let k : 3 ≤ r .kind = omega arith in (
+        index-inside .0,
+        subst (λ (z : Facts × Record). ChunkInside (z .0 .begins) (take l b) (z .1 .start - 12))
+            (λ i. (sym (start-facts k) i, sym numbers i)) (begins-there (take l b) (take u j) file-facts (a .bytes)),
+        index-inside .1,
+        index-inside .2,
+      )
 
 -- the last record's numbers tell whether it is well formed
 good-numbers : (w : Last) (r : Record) → r ≡ numbersIn w → (r .kind ≡ 0 → ⊥) → w ≡ Good r

@@ -1,6 +1,6 @@
 -- Kind by kind: the plan that the code makes of the record's numbers and of what the reader tells is the one that the definitions give.
 use mathlib.Core.Path.{_≡_, refl, sym, ap, _∙_}
-use Prim.Native.Nat.{ℕ, suc, _+_, _-_, _≤_, _<_}
+use Prim.Native.Nat.{ℕ, suc, _+_, _*_, _-_, _≤_, _<_}
 use mathlib.Core.List.{List}
 use mathlib.Core.Bool.{Bool, true, false, _&&_, not, and-assoc}
 use native.Mathlib.Omega.{arith}
@@ -27,14 +27,17 @@ use Rattle.edits.proofs.JudgedLaws.{isFront}
 use Rattle.edits.proofs.InsertJudged.{entryTests, entry-new, entry-twice}
 use Rattle.edits.proofs.UndoJudged.{AcceptedFile, fits1-facts, fits2-facts, found-at, kind-1, kind-2, kind-4}
 use Rattle.edits.proofs.FitFacts.{size-is, told3, told4}
-use Rattle.edits.proofs.UndoTold.{accepted2, accepted4, test-1, test-2, test-3, test-4, after-1, after-2, after-3, after-4}
+use Rattle.edits.specs.Order.{between}
+use Rattle.edits.proofs.OrderTold.{between-alike}
+use Rattle.blorb.proofs.Parts.{start-in}
+use Rattle.edits.proofs.UndoTold.{entryStart, accepted2, accepted4, test-1, test-2, test-3, test-4, after-1, after-2, after-3, after-4}
 use Rattle.reader.specs.declared.Piece.{Piece}
 use Rattle.reader.specs.declared.Facts.{Facts}
 use Rattle.judging.specs.declared.undoing.Undoing.{Undoing}
 use Rattle.judging.specs.declared.undoing.Undoing.the-variants.{Go}
 use Rattle.judging.specs.LastRecord.{numbersOf}
 use Rattle.reader.specs.Inspecting.{pieceOf, targetBy, targetOf, frontBy, frontOf, factsOf}
-use Rattle.judging.specs.UndoPlan.{chunkStart, chunkSize, goOf, fitting, fittingPlan, frontIs, entryFine, ChunkInside, onPiece, fitsAdded, addedPlan, fitsReplaced, oldFine, replacedPlan, removedPlan, unlistedPlan}
+use Rattle.judging.specs.UndoPlan.{chunkStart, chunkSize, goOf, fitting, fittingPlan, frontIs, entryFine, ChunkInside, onPiece, fitsAdded, addedPlan, fitsReplaced, oldFine, replacedPlan, startIn, removedPlan, unlistedPlan}
 use Rattle.judging.proofs.ChunkAt.{drop-start, type-at, length-at, body-at}
 
 -- what the reader's answers mean
@@ -171,11 +174,20 @@ module _ (f j : List ℕ) (st : AcceptedFile f) (bytes : All Byte j) where
           (s ∙ sym (size-is (chunkAt m (refAt m (r .place) .chunk))) ∙ sym (at-2 r m h .1))
           (ap (λ (z : ℕ). length f - z + sizeOf (length (r .body))) s ∙ sym (after-2 f j st bytes h fit))
 
-  pub fits-removed : lastRec j .kind ≡ 3 → removedPlan told (length f) (numbersOf (lastRec j)) (lastRec j .body) ≡ fittingPlan f j
+  -- the start in an entry of the index is that of its chunk
+  start-read : (i : ℕ) → i < length (model f .refs) → startIn f i ≡ entryStart (model f) i
+  start-read i h = ap (λ (z : List ℕ). rd32 (drop (32 + 12 * i) z)) (sym (st .whole)) ∙ start-in m i (st .sound) (omega (arith, st .short)) h
+
+  order-read : (limit x : ℕ) → between (startIn f) (length (model f .refs)) (lastRec j .place) limit x
+      ≡ between (entryStart (model f)) (length (model f .refs)) (lastRec j .place) limit x
+  order-read limit x = between-alike (startIn f) (entryStart m) (length (m .refs)) (r .place) limit x start-read
+
+  pub fits-removed : lastRec j .kind ≡ 3 → removedPlan told f (numbersOf (lastRec j)) (lastRec j .body) ≡ fittingPlan f j
   fits-removed h =
       same-plan _ _
-      ((λ i. told3 r m (length f) && (leb (length f + 12 + sizeOf (length (r .body))) 16777216 && (not (eqb (r .type) RIdx)
-      && (below (length (m .refs)) 4096 i && entry-told m (r .usage) (r .number) (oldChunk r) i)))) ∙ sym (test-3 f j st bytes h))
+      ((λ i. told3 r m (length f)
+      && (order-read (r .start - 12) (r .start - 12) i && (leb (length f + 12 + sizeOf (length (r .body))) 16777216 && (not (eqb (r .type) RIdx)
+      && (below (length (m .refs)) 4096 i && entry-told m (r .usage) (r .number) (oldChunk r) i))))) ∙ sym (test-3 f j st bytes h))
       (λ ok. go-is _ _ _ (sym (at-3 r m h .0)) (sym (at-3 r m h .1)) (sym (after-3 f j st bytes h)))
 
   -- where a chunk begins, it is read in place
@@ -215,12 +227,16 @@ module _ (f j : List ℕ) (st : AcceptedFile f) (bytes : All Byte j) where
       (λ ok. go-is _ _ _ (sym (at-4 r m h .0)) (sym (at-4 r m h .1)) (sym (after-4 f j st bytes h (sym (kind-4 r m h .0) ∙ the-fit ok))))
     where
       part : told4 (lastRec j) (model f) ≡ true
-          → (leb (length f + 12) 16777216 && (ltb (length (model f .refs)) 4096 && entryFine (lastRec j .usage) (lastRec j .number) (plainAllows (lastRec j .usage) (chunkIn (drop (lastRec j .start - 12) f))) (targetOf (model f) (lastRec j .usage) (lastRec j .number))))
+          → (between (startIn f) (length (model f .refs)) (lastRec j .place) (lastRec j .start - 12 + 1) (lastRec j .start - 12)
+          && (leb (length f + 12) 16777216
+          && (ltb (length (model f .refs)) 4096 && entryFine (lastRec j .usage) (lastRec j .number)
+          (plainAllows (lastRec j .usage) (chunkIn (drop (lastRec j .start - 12) f))) (targetOf (model f) (lastRec j .usage) (lastRec j .number)))))
           ≡ accepted4 (lastRec j) (model f) (length f)
       part fit =
           let s = and-parts (leb (r .place) (length (m .refs))) (isStart (r .start - 12) (base (length (m .refs))) (m .chunks)) fit .1 in
-          λ i. leb (length f + 12) 16777216 && (below (length (m .refs)) 4096 i
-          && (ap (λ (z : Chunk). entryFine (r .usage) (r .number) (plainAllows (r .usage) z) (targetOf m (r .usage) (r .number))) (read-there s) ∙ entry-told m (r .usage) (r .number) (c s)) i)
+          λ i. order-read (r .start - 12 + 1) (r .start - 12) i && (leb (length f + 12) 16777216 && (below (length (m .refs)) 4096 i
+          && (ap (λ (z : Chunk). entryFine (r .usage) (r .number) (plainAllows (r .usage) z) (targetOf m (r .usage) (r .number))) (read-there s)
+          ∙ entry-told m (r .usage) (r .number) (c s)) i))
 
   pub begins-there : ChunkInside (told .begins) f (lastRec j .start - 12)
   begins-there = go (isStart (r .start - 12) (base (length (m .refs))) (m .chunks)) refl

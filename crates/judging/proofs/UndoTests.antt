@@ -2,17 +2,18 @@
 use mathlib.Core.Path.{_≡_, refl, sym, ap, _∙_}
 use Prim.Native.Nat.{ℕ, _+_, _-_, _≤_, _<_}
 use mathlib.Core.List.{List}
-use mathlib.Core.Bool.{Bool, true, false, _&&_, not, and-true}
+use mathlib.Core.Bool.{Bool, true, false, _&&_, _||_, not, and-true}
 use native.Mathlib.Omega.{arith}
 use lib.ListN.{length, take, drop}
 use lib.Seq.{drop-drop}
 use lib.Dec.{eqb, leb, ltb}
-use borrow.Author.Tests.{not-true, not-false, le-leb, lt-leb}
+use borrow.Author.Tests.{not-true, not-false, le-leb, lt-leb, le-ltb, lt-ltb, eq-eqb, ne-eqb}
 use Rattle.blorb.specs.Bytes.{rd32}
 use Rattle.blorb.specs.Tags.{RIdx}
 use Rattle.blorb.specs.Format.{chunkIn, chunkOf}
 use Rattle.blorb.specs.Layout.{sizeOf}
 use Rattle.blorb.specs.Rules.{plainAllows}
+use Rattle.edits.specs.Order.{between}
 use Rattle.judging.specs.declared.journal.Record.{Record}
 use Rattle.reader.specs.declared.Piece.{Piece}
 use Rattle.reader.specs.declared.Facts.{Facts}
@@ -20,7 +21,7 @@ use Rattle.reader.specs.declared.Target.{Target}
 use Rattle.reader.specs.declared.Target.the-variants as target
 use Rattle.judging.specs.declared.undoing.Undoing.{Undoing}
 use Rattle.judging.specs.declared.undoing.Undoing.the-variants.{Go, Not}
-use Rattle.judging.specs.UndoPlan.{fitting, onPiece, frontIs, entryFine, ChunkInside, fitsAdded, addedPlan, fitsReplaced, oldFine, replacedPlan, fitsRemoved, removedPlan, unlistedPlan, roomy}
+use Rattle.judging.specs.UndoPlan.{fitting, onPiece, frontIs, entryFine, ChunkInside, fitsAdded, addedPlan, fitsReplaced, oldFine, replacedPlan, fitsRemoved, startIn, removedFine, removedPlan, unlistedPlan, roomy}
 
 -- a test that the code found to hold or not
 pub not-fitting : (a b : Bool) (x : Undoing) → a ≡ b → not a ≡ true → Not 21 0 ≡ fitting b x
@@ -75,23 +76,23 @@ module _ (t : Facts) (l : ℕ) (r : Record) (d : List ℕ) (p : Piece) (a o : Bo
       piece-fits (t .target) p found (a && (leb (x + n) 16777216 && o)) replaced-test replaced-go (λ i. ea i && (leb (replaced-to i) 16777216 && eo i)) h
       (Go (t .count) (p .start) s (x + n) r) (λ i. Go (t .count) (p .start) (es i) (replaced-to i) r)
 
--- kind 3: a is the test of place and start, e that of the entry, b whether rule 5 allows the record's chunk, n that chunk's size
-module _ (t : Facts) (l : ℕ) (r : Record) (d : List ℕ) (a b e : Bool) (n : ℕ) (ea : a ≡ fitsRemoved t l r)
+-- kind 3: a is the test of place and start, o that of the order, e that of the entry, b whether rule 5 allows the record's chunk, n that chunk's
+-- size, x where it goes in
+module _ (t : Facts) (s : List ℕ) (r : Record) (d : List ℕ) (a o b e : Bool) (n x : ℕ) (ea : a ≡ fitsRemoved t (length s) r) (ex : x ≡ r .start - 12)
+    (eo : o ≡ between (startIn s) (t .count) (r .place) x x)
     (eb : b ≡ plainAllows (r .usage) (chunkOf (r .sort) d)) (ee : e ≡ entryFine (r .usage) (r .number) b (t .target)) (en : n ≡ sizeOf (r .length)) where
-  abbrev removed-test : Bool
-  removed-test = a && (leb (l + 12 + n) 16777216 && (not (eqb (r .sort) RIdx) && (ltb (t .count) 4096 && e)))
+  removed-same : (a && (o && (leb (length s + 12 + n) 16777216 && (not (eqb (r .sort) RIdx) && (ltb (t .count) 4096 && e)))))
+      ≡ (fitsRemoved t (length s) r && removedFine t s r d)
+  removed-same = λ i. ea i && ((eo ∙ ap (λ (z : ℕ). between (startIn s) (t .count) (r .place) z z) ex) i && (leb (length s + 12 + en i) 16777216
+      && (not (eqb (r .sort) RIdx) && (ltb (t .count) 4096 && (ee ∙ ap (λ (z : Bool). entryFine (r .usage) (r .number) z (t .target)) eb) i))))
 
-  removed-same : removed-test ≡ (fitsRemoved t l r && (leb (l + 12 + sizeOf (r .length)) 16777216
-      && (not (eqb (r .sort) RIdx) && (ltb (t .count) 4096 && entryFine (r .usage) (r .number) (plainAllows (r .usage) (chunkOf (r .sort) d)) (t .target)))))
-  removed-same = λ i. ea i && (leb (l + 12 + en i) 16777216 && (not (eqb (r .sort) RIdx) && (ltb (t .count) 4096
-      && (ee ∙ ap (λ (z : Bool). entryFine (r .usage) (r .number) z (t .target)) eb) i)))
-
-  pub removed-not : not (a && (leb (l + 12 + n) 16777216 && (not (eqb (r .sort) RIdx) && (ltb (t .count) 4096 && e)))) ≡ true → Not 21 0 ≡ removedPlan t l r d
+  pub removed-not : not (a && (o && (leb (length s + 12 + n) 16777216 && (not (eqb (r .sort) RIdx) && (ltb (t .count) 4096 && e))))) ≡ true → Not 21 0
+      ≡ removedPlan t s r d
   removed-not h = not-fitting _ _ _ removed-same h
 
-  pub removed-fits : (x : ℕ) → not (a && (leb (l + 12 + n) 16777216 && (not (eqb (r .sort) RIdx) && (ltb (t .count) 4096 && e)))) ≡ false
-      → x ≡ r .start - 12 → Go (t .count) x 0 (l + 12 + n) r ≡ removedPlan t l r d
-  removed-fits x h ex = is-fitting _ _ _ _ removed-same h (λ i. Go (t .count) (ex i) 0 (l + 12 + en i) r)
+  pub removed-fits : not (a && (o && (leb (length s + 12 + n) 16777216 && (not (eqb (r .sort) RIdx) && (ltb (t .count) 4096 && e))))) ≡ false
+      → Go (t .count) x 0 (length s + 12 + n) r ≡ removedPlan t s r d
+  removed-fits h = is-fitting _ _ _ _ removed-same h (λ i. Go (t .count) (ex i) 0 (length s + 12 + en i) r)
 
 -- a chunk read in place
 pub chunk-read : (s : List ℕ) (at k m : ℕ) → k ≡ rd32 (drop at s) → m ≡ rd32 (drop (at + 4) s)
@@ -101,7 +102,28 @@ chunk-read s at k m ek em =
     let e : at + 8 + m - (at + 8) ≡ rd32 (drop 4 (drop at s)) = omega arith ∙ em ∙ ap rd32 (sym (drop-drop 4 at s)) in
     λ i. record { type = ek i; body = take (e i) (sym (drop-drop 8 at s) i) }
 
--- kind 4: b is whether rule 5 allows the chunk at x, e the test of the entry
+-- the order: one neighbour, then the other
+pub none-before : (s : List ℕ) (place limit : ℕ) → place ≡ 0 → true ≡ (eqb place 0 || ltb (startIn s (place - 1)) limit)
+none-before s place limit h = rw (eq-eqb place 0 h)
+
+pub one-before : (s : List ℕ) (place limit x : ℕ) → (place ≡ 0 → ⊥) → x ≡ startIn s (place - 1) → ltb x limit
+    ≡ (eqb place 0 || ltb (startIn s (place - 1)) limit)
+one-before s place limit x h e = ap (λ (z : ℕ). ltb z limit) e ∙ rw (ne-eqb place 0 h)
+
+pub none-behind : (s : List ℕ) (count place at : ℕ) → count ≤ place → true ≡ (not (ltb place count) || leb at (startIn s place))
+none-behind s count place at h = rw (le-ltb place count h)
+
+pub one-behind : (s : List ℕ) (count place at x : ℕ) → place < count → x ≡ startIn s place → leb at x ≡ (not (ltb place count) || leb at (startIn s place))
+one-behind s count place at x h e = ap (leb at) e ∙ rw (lt-ltb place count h)
+
+pub too-far : (s : List ℕ) (count place limit at : ℕ) → count < place → false ≡ between (startIn s) count place limit at
+too-far s count place limit at h = rw (lt-leb place count h)
+
+pub both-sides : (s : List ℕ) (count place limit at : ℕ) (a b : Bool) → place ≤ count → a ≡ (eqb place 0 || ltb (startIn s (place - 1)) limit)
+    → b ≡ (not (ltb place count) || leb at (startIn s place)) → a && b ≡ between (startIn s) count place limit at
+both-sides s count place limit at a b h ea eb = (λ i. ea i && eb i) ∙ rw (le-leb place count h)
+
+-- kind 4: b is whether rule 5 allows the chunk at x, o the test of the order, e that of the entry
 pub unlisted-none : (t : Facts) (s : List ℕ) (r : Record) → not (t .begins) ≡ true → Not 21 0 ≡ unlistedPlan t s r
 unlisted-none t s r h = ap (λ (z : Bool). fitting z (Go (t .count) (r .start - 12) 0 (length s + 12) r)) (sym (go (leb (r .place) (t .count)) (t .begins) _ (not-true _ h)))
   where
@@ -113,23 +135,27 @@ pub begins-in : (b : Bool) (s : List ℕ) (x at : ℕ) → not b ≡ false → C
 begins-in true s x at h g e = rw e g
 begins-in false s x at h g e = let z : _≡_ {A = ℕ} 0 1 = cc in absurd (omega arith)
 
-module _ (t : Facts) (s : List ℕ) (r : Record) (b e : Bool) (x : ℕ) (begun : not (t .begins) ≡ false) (ex : x ≡ r .start - 12)
-    (eb : b ≡ plainAllows (r .usage) (chunkIn (drop x s))) (ee : e ≡ entryFine (r .usage) (r .number) b (t .target)) where
-  abbrev unlisted-test : Bool
-  unlisted-test = leb (r .place) (t .count) && (leb (length s + 12) 16777216 && (ltb (t .count) 4096 && e))
+module _ (t : Facts) (s : List ℕ) (r : Record) (o b e : Bool) (x : ℕ) (begun : not (t .begins) ≡ false) (ex : x ≡ r .start - 12)
+    (eo : o ≡ between (startIn s) (t .count) (r .place) (x + 1) x) (eb : b ≡ plainAllows (r .usage) (chunkIn (drop x s)))
+    (ee : e ≡ entryFine (r .usage) (r .number) b (t .target)) where
+  abbrev unlisted-rest : Bool
+  unlisted-rest =
+      between (startIn s) (t .count) (r .place) (r .start - 12 + 1) (r .start - 12) && (leb (length s + 12) 16777216 && (ltb (t .count) 4096
+      && entryFine (r .usage) (r .number) (plainAllows (r .usage) (chunkIn (drop (r .start - 12) s))) (t .target)))
 
-  unlisted-same : unlisted-test ≡ ((leb (r .place) (t .count) && t .begins) && (leb (length s + 12) 16777216 && (ltb (t .count) 4096
-      && entryFine (r .usage) (r .number) (plainAllows (r .usage) (chunkIn (drop (r .start - 12) s))) (t .target))))
+  unlisted-same : (leb (r .place) (t .count) && (o && (leb (length s + 12) 16777216 && (ltb (t .count) 4096 && e))))
+      ≡ ((leb (r .place) (t .count) && t .begins) && unlisted-rest)
   unlisted-same =
       let eb′ = eb ∙ ap (λ (z : ℕ). plainAllows (r .usage) (chunkIn (drop z s))) ex in
-      (λ i. sym (and-true (leb (r .place) (t .count))) i && (leb (length s + 12) 16777216 && (ltb (t .count) 4096 && (ee ∙ ap (λ (z : Bool). entryFine (r .usage) (r .number) z (t .target)) eb′) i)))
-      ∙ ap (λ (z : Bool). (leb (r .place) (t .count) && z) && (leb (length s + 12) 16777216 && (ltb (t .count) 4096
-      && entryFine (r .usage) (r .number) (plainAllows (r .usage) (chunkIn (drop (r .start - 12) s))) (t .target)))) (sym (not-false (t .begins) begun))
+      (λ i. sym (and-true (leb (r .place) (t .count))) i && ((eo ∙ ap (λ (z : ℕ). between (startIn s) (t .count) (r .place) (z + 1) z) ex) i
+      && (leb (length s + 12) 16777216 && (ltb (t .count) 4096 && (ee ∙ ap (λ (z : Bool). entryFine (r .usage) (r .number) z (t .target)) eb′) i))))
+      ∙ ap (λ (z : Bool). (leb (r .place) (t .count) && z) && unlisted-rest) (sym (not-false (t .begins) begun))
 
-  pub unlisted-not : not (leb (r .place) (t .count) && (leb (length s + 12) 16777216 && (ltb (t .count) 4096 && e))) ≡ true → Not 21 0 ≡ unlistedPlan t s r
+  pub unlisted-not : not (leb (r .place) (t .count) && (o && (leb (length s + 12) 16777216 && (ltb (t .count) 4096 && e)))) ≡ true → Not 21 0
+      ≡ unlistedPlan t s r
   unlisted-not h = not-fitting _ _ _ unlisted-same h
 
-  pub unlisted-fits : not (leb (r .place) (t .count) && (leb (length s + 12) 16777216 && (ltb (t .count) 4096 && e))) ≡ false
+  pub unlisted-fits : not (leb (r .place) (t .count) && (o && (leb (length s + 12) 16777216 && (ltb (t .count) 4096 && e)))) ≡ false
       → Go (t .count) x 0 (length s + 12) r ≡ unlistedPlan t s r
   unlisted-fits h = is-fitting _ _ _ _ unlisted-same h (λ i. Go (t .count) (ex i) 0 (length s + 12) r)
 

@@ -1,6 +1,6 @@
 -- What an undo goes on with, and how it is told from the record's numbers and one reading of the file (01, The undo journal: "It fits when ..").
 use mathlib.Core.Path.{_≡_}
-use Prim.Native.Nat.{ℕ, _+_, _-_, _≤_}
+use Prim.Native.Nat.{ℕ, _+_, _*_, _-_, _≤_}
 use mathlib.Core.List.{List}
 use mathlib.Core.Bool.{Bool, true, false, cond, _&&_, _||_, not}
 use lib.ListN.{length, take, drop}
@@ -16,6 +16,7 @@ use Rattle.blorb.specs.Queries.{refAt, chunkAt, start}
 use Rattle.blorb.specs.All.{All}
 use Rattle.edits.specs.Journal.{Rec, byKind, lastRec, fits}
 use Rattle.edits.specs.Run.{accepted, undoneFile, undoFault}
+use Rattle.edits.specs.Order.{between}
 use Rattle.judging.specs.declared.journal.Record.{Record}
 use Rattle.judging.specs.declared.journal.Last.{Last}
 use Rattle.judging.specs.declared.journal.Last.the-variants.{Good, Bad}
@@ -128,23 +129,31 @@ replacedPlan t l r d =
 abbrev pub fitsRemoved : Facts → ℕ → Record → Bool
 fitsRemoved t l r = leb (r .place) (t .count) && (t .begins || eqb (r .start - 12) l)
 
-abbrev pub removedFine : Facts → ℕ → Record → List ℕ → Bool
-removedFine t l r d =
-    leb (l + 12 + sizeOf (r .length)) 16777216
-    && (not (eqb (r .sort) RIdx) && (ltb (t .count) 4096 && entryFine (r .usage) (r .number) (plainAllows (r .usage) (chunkOf (r .sort) d)) (t .target)))
+-- the start that stands in entry i of the file s
+abbrev pub startIn : List ℕ → ℕ → ℕ
+startIn s i = rd32 (drop (32 + 12 * i) s)
 
-abbrev pub removedPlan : Facts → ℕ → Record → List ℕ → Undoing
-removedPlan t l r d =
-    fitting (fitsRemoved t l r && removedFine t l r d) (Go (t .count) (r .start - 12) 0 (l + 12 + sizeOf (r .length)) r)
+-- and the file s after it is accepted; first of all its entries are in order. The entry in front of the new one starts below the new chunk, which pushes what
+-- is there now up.
+abbrev pub removedFine : Facts → List ℕ → Record → List ℕ → Bool
+removedFine t s r d =
+    between (startIn s) (t .count) (r .place) (r .start - 12) (r .start - 12)
+    && (leb (length s + 12 + sizeOf (r .length)) 16777216
+    && (not (eqb (r .sort) RIdx) && (ltb (t .count) 4096 && entryFine (r .usage) (r .number) (plainAllows (r .usage) (chunkOf (r .sort) d)) (t .target))))
+
+abbrev pub removedPlan : Facts → List ℕ → Record → List ℕ → Undoing
+removedPlan t s r d =
+    fitting (fitsRemoved t (length s) r && removedFine t s r d) (Go (t .count) (r .start - 12) 0 (length s + 12 + sizeOf (r .length)) r)
 
 -- the header and data of a chunk that begins at `at` lie in the file s
 abbrev pub ChunkInside : Bool → List ℕ → ℕ → Type 0
 ChunkInside true s at = at + (8 + rd32 (drop (at + 4) s)) ≤ length s
 ChunkInside false s at = Unit {0}
 
--- kind 4: as kind 3, but a chunk begins there; it is read in the file s
+-- kind 4: as kind 3, but a chunk begins there; it is read in the file s, and the entry in front of the new one may start there too
 abbrev pub unlistedPlan : Facts → List ℕ → Record → Undoing
 unlistedPlan t s r =
-    fitting ((leb (r .place) (t .count) && t .begins) && (leb (length s + 12) 16777216 && (ltb (t .count) 4096
-    && entryFine (r .usage) (r .number) (plainAllows (r .usage) (chunkIn (drop (r .start - 12) s))) (t .target))))
+    fitting ((leb (r .place) (t .count) && t .begins) && (between (startIn s) (t .count) (r .place) (r .start - 12 + 1) (r .start - 12)
+    && (leb (length s + 12) 16777216 && (ltb (t .count) 4096
+    && entryFine (r .usage) (r .number) (plainAllows (r .usage) (chunkIn (drop (r .start - 12) s))) (t .target)))))
     (Go (t .count) (r .start - 12) 0 (length s + 12) r)

@@ -11,15 +11,18 @@ use reader::Inspection;
 use reader::Piece;
 use reader::Target;
 ghost use mathlib.Core.Path.{_≡_};
-ghost use Prim.Native.Nat.{_+_, _-_, _≤_};
+ghost use Prim.Native.Nat.{_+_, _*_, _-_, _≤_};
+ghost use mathlib.Core.Bool.{_||_, not};
 ghost use lib.ListN.{length, take, drop};
+ghost use lib.Dec.{eqb, leb, ltb};
 ghost use Rattle.blorb.specs.Bytes.{rd32};
 ghost use Rattle.blorb.specs.Format.{chunkIn};
 ghost use Rattle.blorb.specs.Layout.{sizeOf};
 ghost use Rattle.blorb.specs.Rules.{plainAllows};
 ghost use Rattle.blorb.specs.Verdict.{knownUsage};
+ghost use Rattle.edits.specs.Order.{between};
 ghost use Rattle.judging.specs.LastRecord.{lastOf};
-ghost use Rattle.judging.specs.UndoPlan.{undoPlan, fittingPlan, roomy, numbersIn, askedAt, UndoReady, frontIs, entryFine, ChunkInside, fitsAdded, addedPlan, fitsReplaced, oldFine, replacedPlan, fitsRemoved, removedPlan, unlistedPlan};
+ghost use Rattle.judging.specs.UndoPlan.{undoPlan, fittingPlan, roomy, numbersIn, askedAt, UndoReady, frontIs, entryFine, ChunkInside, fitsAdded, addedPlan, fitsReplaced, oldFine, replacedPlan, fitsRemoved, startIn, removedPlan, unlistedPlan};
 
 // What an undo goes on with: the file has `count` entries; the record's chunk stands, or goes in, at `at` and has `size` bytes
 // now; the file has `to` bytes after it.
@@ -175,18 +178,54 @@ fn fits_removed(facts: Facts, len: usize, r: Record) -> bool
     (r.place as usize <= facts.count) & (facts.begins | (less(r.start as usize, 12) == len))
 }
 
-// Kind 3: the entry goes in, and a chunk with the record's type, which is no 'RIdx', and data `d`.
-fn plan_removed(facts: Facts, len: usize, r: Record, d: &[u8]) -> Undoing
-    requires { ⌜ len ≤ 16777216 ⌝ }
-    ensures { λ x. ⌜ x ≡ removedPlan facts len r (now (d .entry)) ⌝ }
+// The entry in front of `place` in the index of the file `s`, if there is one, starts below `limit`.
+fn starts_below(s: &[u8], place: usize, limit: usize) -> bool
+    requires { ⌜ (place ≤ 4096) × (24 + 12 * place ≤ length (now s)) ⌝ }
+    ensures { λ r. ⌜ r ≡ (eqb place 0 || ltb (startIn (now (s .entry)) (place - 1)) limit) ⌝ }
+{
+    if place == 0 {
+        return true;
+    }
+    let i = place - 1;
+    (blorb::be32_at(s, 32 + 12 * i) as usize) < limit
+}
+
+// The entry at `place`, if there is one, starts not below `at`.
+fn starts_from(s: &[u8], count: usize, place: usize, at: usize) -> bool
+    requires { ⌜ (count ≤ 4096) × (24 + 12 * count ≤ length (now s)) ⌝ }
+    ensures { λ r. ⌜ r ≡ (not (ltb place count) || leb at (startIn (now (s .entry)) place)) ⌝ }
+{
+    if count <= place {
+        return true;
+    }
+    at <= blorb::be32_at(s, 32 + 12 * place) as usize
+}
+
+// The entries stay in the order of their chunks if one goes in at `place`, for a chunk at `at`.
+fn in_order(s: &[u8], count: usize, place: usize, limit: usize, at: usize) -> bool
+    requires { ⌜ (count ≤ 4096) × (24 + 12 * count ≤ length (now s)) ⌝ }
+    ensures { λ r. ⌜ r ≡ between (startIn (now (s .entry))) count place limit at ⌝ }
+{
+    if count < place {
+        return false;
+    }
+    starts_below(s, place, limit) & starts_from(s, count, place, at)
+}
+
+// Kind 3: in the file `s` the entry goes in, and a chunk with the record's type, which is no 'RIdx', and data `d`.
+fn plan_removed(s: &[u8], facts: Facts, r: Record, d: &[u8]) -> Undoing
+    requires { ⌜ (length (now s) ≤ 16777216) × (facts .count ≤ 4096) × (24 + 12 * (facts .count) ≤ length (now s)) ⌝ }
+    ensures { λ x. ⌜ x ≡ removedPlan facts (now (s .entry)) r (now (d .entry)) ⌝ }
 {
     let count = facts.count;
     let target = facts.target;
-    let to = len + 12 + chunk_size(r.length);
+    let to = s.len() + 12 + chunk_size(r.length);
+    let at = less(r.start as usize, 12);
+    let ordered = in_order(s, count, r.place as usize, at, at);
     let allowed = blorb::type_allowed(r.usage as u64, r.sort as u64, d);
     let fine = (r.sort as u64 != blorb::RIDX)
         & ((count < 4096) & entry_fine(r.usage, r.number, allowed, target));
-    if !(fits_removed(facts, len, r) & ((to <= 16777216) & fine)) {
+    if !(fits_removed(facts, s.len(), r) & (ordered & ((to <= 16777216) & fine))) {
         return Undoing::Not {
             number: 21,
             place: 0,
@@ -194,7 +233,7 @@ fn plan_removed(facts: Facts, len: usize, r: Record, d: &[u8]) -> Undoing
     }
     Undoing::Go {
         count,
-        at: less(r.start as usize, 12),
+        at,
         size: 0,
         to,
         record: r,
@@ -215,7 +254,7 @@ fn chunk_allowed(s: &[u8], at: usize, usage: u32) -> bool
 
 // Kind 4: the entry goes in; its chunk stands in the file `s`.
 fn plan_unlisted(s: &[u8], facts: Facts, r: Record) -> Undoing
-    requires { ⌜ (length (now s) ≤ 16777216) × ChunkInside (facts .begins) (now s) (r .start - 12) ⌝ }
+    requires { ⌜ (length (now s) ≤ 16777216) × ChunkInside (facts .begins) (now s) (r .start - 12) × (facts .count ≤ 4096) × (24 + 12 * (facts .count) ≤ length (now s)) ⌝ }
     ensures { λ x. ⌜ x ≡ unlistedPlan facts (now (s .entry)) r ⌝ }
 {
     let count = facts.count;
@@ -229,9 +268,10 @@ fn plan_unlisted(s: &[u8], facts: Facts, r: Record) -> Undoing
     }
     let to = s.len() + 12;
     let at = less(r.start as usize, 12);
+    let ordered = in_order(s, count, r.place as usize, at + 1, at);
     let allowed = chunk_allowed(s, at, r.usage);
     let fine = (to <= 16777216) & ((count < 4096) & entry_fine(r.usage, r.number, allowed, target));
-    if !((r.place as usize <= count) & fine) {
+    if !((r.place as usize <= count) & (ordered & fine)) {
         return Undoing::Not {
             number: 21,
             place: 0,
@@ -264,7 +304,7 @@ fn plan_fitting(buf: &[u8], len: usize, jrn: &[u8], used: usize, facts: Facts, r
     if kind == 2 {
         return plan_replaced(facts, len, r, d);
     }
-    plan_removed(facts, len, r, d)
+    plan_removed(&buf[..len], facts, r, d)
 }
 
 // 24, in a buffer of `room` bytes.

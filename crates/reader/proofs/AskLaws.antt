@@ -156,7 +156,8 @@ unfolding entriesFault
 known-at R f base [] earlier p i d h l = absurd (not-suc-le-zero l)
 known-at R f base (e ∷ es) earlier p zero d h l = check-accept _ _ _ (then-accept _ _ h .0)
 known-at R f base (e ∷ es) earlier p (suc i) d h l =
-    known-at R f base es (earlier ++ (refOf base (chunksFrom f base) e ∷ [])) (p + 12) i d (then-accept _ _ (then-accept _ _ (then-accept _ _ h .1) .1) .1) (le-of-suc-le-suc l)
+    known-at R f base es (earlier ++ (refOf base (chunksFrom f base) e ∷ [])) (p + 12) i d
+    (then-accept _ _ (then-accept _ _ (then-accept _ _ (then-accept _ _ h .1) .1) .1) .1) (le-of-suc-le-suc l)
 
 pub not-unknown : (u : ℕ) (k : Known) → usageOf u ≡ k → knownUsage u ≡ true → (x : Usage) × (usageOf u ≡ Is x)
 not-unknown u (Is x) e h = (x, e)

@@ -8,12 +8,14 @@ use native.Mathlib.Numerals.{add-one}
 use native.Mathlib.Nat.{not-suc-le-zero}
 use lib.ListN.{length, getD, take, drop, set}
 use lib.Seq.{getD-set-same, getD-set-other, drop-drop}
-use lib.Dec.{eqb}
-use borrow.Author.Tests.{eqb-true, eqb-false}
+use lib.Dec.{eqb, leb}
+use borrow.Author.Tests.{eqb-true, eqb-false, le-leb, lt-leb}
 use Rattle.blorb.proofs.UsageLaws.{or-false, or-assoc, known-is, known-not}
 use Rattle.blorb.specs.Bytes.{rd32}
 use Rattle.blorb.specs.Format.{Ref, refOf, chunkIn, entryIn, entriesIn, isStart, placeOf, chunkOf}
-use Rattle.blorb.specs.Verdict.{Verdict, accept, refuse, _then_, check, noChunk, knownUsage, pairIn, refFault, entriesFault}
+use Rattle.blorb.specs.Verdict.{Verdict, accept, refuse, _then_, check, noChunk, knownUsage, pairIn, refFault, entriesFault, lastPlace}
+use Rattle.blorb.proofs.Places.{startOf-zero, startOf-placeOf, lower-start}
+use Rattle.blorb.proofs.VerdictLaws.{last-snoc}
 use Rattle.blorb.specs.Rules.{plainAllows}
 use Rattle.reader.specs.Walk.{chunksFrom, walkFrom}
 use Rattle.blorb.proofs.Checks.{pass, stop, holds-last, fails-last, accepts, refuses, then-accept, check-accept}
@@ -23,7 +25,7 @@ use Rattle.blorb.specs.declared.Usage.the-variants.{Exec}
 use Rattle.blorb.specs.declared.Known.the-variants.{Is, Unknown}
 use Rattle.reader.specs.declared.entries.Judged.the-variants.{At, Fault}
 use Rattle.blorb.specs.Usages.{codeOf, usageOf}
-use Rattle.reader.specs.Entries.{usageAt, numberAt, startAt, place, typedAt, entryFault, unstartedFault, judgedBy, earlier, samePair, Topped, slotOf, Below, entriesFrom}
+use Rattle.reader.specs.Entries.{usageAt, numberAt, startAt, place, typedAt, entryFault, unstartedFault, judgedBy, earlier, Before, samePair, Topped, slotOf, Below, entriesFrom}
 
 -- rule 5 of the chunk at x, by its type and its data
 pub typed-at : (f : List ℕ) (u x from to t : ℕ) → from ≡ x + 8 → to ≡ from + rd32 (drop (x + 4) f) → t ≡ rd32 (drop x f)
@@ -67,7 +69,8 @@ shape true true b14 true true b16 p v h = rw (h refl)
 
 module _ (f : List ℕ) (base : ℕ) (w : walkFrom f base ≡ accept) where
   pub entries-on : (j n : ℕ)
-      → entriesFrom f base j (suc n) ≡ entryFault f base (place j) then (check (not (pairIn (usageAt f (place j)) (numberAt f (place j)) (earlier f base j))) 16 (place j) then entriesFrom f base (suc j) n)
+      → entriesFrom f base j (suc n) ≡ entryFault f base (place j) then (check (not (pairIn (usageAt f (place j)) (numberAt f (place j)) (earlier f base j))) 16 (place j)
+      then (check (leb (lastPlace (earlier f base j)) (placeOf (startAt f (place j)) base (chunksFrom f base))) 27 (place j + 8) then entriesFrom f base (suc j) n))
   unfolding entriesFrom entriesFault entriesIn refFault entryFault earlier ref-at entryIn
   entries-on j n =
       let q : place j + 12 ≡ place (suc j) = omega arith in
@@ -180,7 +183,8 @@ module _ (f : List ℕ) (base count j : ℕ) (w : walkFrom f base ≡ accept) (h
   left : count - j ≡ suc (count - (j + 1))
   left = omega arith
 
-  turn : entriesFrom f base j (count - j) ≡ entryFault f base (place j) then (check (not (pairIn (usageAt f (place j)) (numberAt f (place j)) (earlier f base j))) 16 (place j) then entriesFrom f base (suc j) (count - (j + 1)))
+  turn : entriesFrom f base j (count - j) ≡ entryFault f base (place j) then (check (not (pairIn (usageAt f (place j)) (numberAt f (place j)) (earlier f base j))) 16 (place j)
+      then (check (leb (lastPlace (earlier f base j)) (placeOf (startAt f (place j)) base (chunksFrom f base))) 27 (place j + 8) then entriesFrom f base (suc j) (count - (j + 1))))
   turn = ap (λ (n : ℕ). entriesFrom f base j n) left ∙ entries-on f base w j (count - (j + 1))
 
   pub entry-stop : (k p : ℕ) → entryFault f base (place j) ≡ refuse k p → refuse k p ≡ entriesFrom f base j (count - j)
@@ -190,8 +194,39 @@ module _ (f : List ℕ) (base count j : ℕ) (w : walkFrom f base ≡ accept) (h
     pub pair-stop : pairIn (usageAt f (place j)) (numberAt f (place j)) (earlier f base j) ≡ true → refuse 16 (place j) ≡ entriesFrom f base j (count - j)
     pair-stop e = sym (turn ∙ accepts _ _ g ∙ stop _ _ _ _ (rw e))
 
-    pub entries-next : pairIn (usageAt f (place j)) (numberAt f (place j)) (earlier f base j) ≡ false → entriesFrom f base (j + 1) (count - (j + 1)) ≡ entriesFrom f base j (count - j)
-    entries-next e = ap (λ (k : ℕ). entriesFrom f base k (count - (j + 1))) (add-one j) ∙ (sym (turn ∙ accepts _ _ g ∙ pass _ _ _ _ (rw e)))
+    module _ (e : pairIn (usageAt f (place j)) (numberAt f (place j)) (earlier f base j) ≡ false) (x y : ℕ) (b : Before f base j x) (ey : startAt f (place j) ≡ y) where
+      at-place : ℕ
+      at-place = placeOf (startAt f (place j)) base (chunksFrom f base)
+
+      -- the starts are in the order of their places
+      order-is : leb (lastPlace (earlier f base j)) at-place ≡ leb x y
+      unfolding at-place
+      order-is =
+          let s = startOf-placeOf (startAt f (place j)) base (chunksFrom f base) (entry-start f base (place j) g) in
+          sym (lower-start base (chunksFrom f base) (lastPlace (earlier f base j)) at-place (b .inside) (omega (arith, s .1)))
+          ∙ (λ i. leb (b .starts i) ((s .0 ∙ ey) i))
+
+      pub order-stop : y < x → refuse 27 (place j + 8) ≡ entriesFrom f base j (count - j)
+      unfolding at-place
+      order-stop l = sym (turn ∙ accepts _ _ g ∙ pass _ _ _ _ (rw e) ∙ stop _ _ _ _ (order-is ∙ lt-leb x y l))
+
+      pub entries-next : x ≤ y → entriesFrom f base (j + 1) (count - (j + 1)) ≡ entriesFrom f base j (count - j)
+      unfolding at-place
+      entries-next l =
+          ap (λ (k : ℕ). entriesFrom f base k (count - (j + 1))) (add-one j)
+          ∙ (sym (turn ∙ accepts _ _ g ∙ pass _ _ _ _ (rw e) ∙ pass _ _ _ _ (order-is ∙ le-leb x y l)))
+
+    pub before-next : (y : ℕ) → startAt f (place j) ≡ y → Before f base (j + 1) y
+    unfolding earlier ref-at
+    before-next y ey =
+        let s = startOf-placeOf (startAt f (place j)) base (chunksFrom f base) (entry-start f base (place j) g) in
+        let e : lastPlace (earlier f base (suc j)) ≡ placeOf (startAt f (place j)) base (chunksFrom f base)
+        = rw (refOf-at f base (place j)) (last-snoc (earlier f base j) (ref-at f base (place j))) in
+        rw (add-one j) (record { starts = rw e (s .0 ∙ ey); inside = rw e (omega (arith, s .1)) })
+
+pub before-none : (f : List ℕ) (base : ℕ) → Before f base 0 base
+unfolding earlier lastPlace
+before-none f base = record { starts = startOf-zero base (chunksFrom f base); inside = omega arith }
 
 -- the same by the numbers that the code has read
 module _ (f : List ℕ) (base p u x : ℕ) (eu : u ≡ usageAt f p) where

@@ -214,7 +214,7 @@ module _ (R : Rules) (f : List ℕ) (base : ℕ) (w : walkFrom f base ≡ accept
       let a = then-accept _ _ (then-accept _ _ h .1) in
       let b = then-accept _ _ (a .1) in
       let d = then-accept _ _ (then-accept _ _ (b .0) .1) in
-      (check-accept _ _ _ (a .0), not-true (pairIn (e .usage) (e .number) earlier) (check-accept _ _ _ (d .1)), b .1)
+      (check-accept _ _ _ (a .0), not-true (pairIn (e .usage) (e .number) earlier) (check-accept _ _ _ (d .1)), then-accept _ _ (b .1) .1)
 
   -- a hit is a chunk's beginning
   pub hit-start : (u n x : ℕ) (es : List Entry) (earlier : List Ref) (p : ℕ) → entriesFault R base (chunksFrom f base) earlier p es ≡ accept

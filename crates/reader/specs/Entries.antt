@@ -1,14 +1,15 @@
--- The entries of an index by their offsets, and refusals 12 to 16 from an entry on.
-use Prim.Native.Nat.{ℕ, zero, suc, _+_, _*_, _/_, _%_, _<_}
+-- The entries of an index by their offsets, and refusals 12 to 16 and 27 from an entry on.
+use Prim.Native.Nat.{ℕ, zero, suc, _+_, _*_, _/_, _%_, _≤_, _<_}
 use mathlib.Core.Path.{_≡_}
 use mathlib.Core.List.{List, [], _∷_, _++_}
 use mathlib.Core.Bool.{Bool, false, _&&_, _||_, not, cond}
-use lib.ListN.{getD, drop}
+use lib.ListN.{length, getD, drop}
 use lib.Dec.{eqb}
 use Rattle.blorb.specs.Bytes.{rd32}
 use Rattle.blorb.specs.Usages.{codeOf}
 use Rattle.blorb.specs.Format.{Entry, Ref, refOf, entryIn, entriesIn, isStart}
-use Rattle.blorb.specs.Verdict.{Verdict, accept, refuse, _then_, check, knownUsage, entriesFault}
+use Rattle.blorb.specs.Verdict.{Verdict, accept, refuse, _then_, check, knownUsage, entriesFault, lastPlace}
+use Rattle.blorb.specs.Model.{startOf}
 use Rattle.blorb.specs.Rules.{plainAllows, plainRules}
 use Rattle.reader.specs.Walk.{chunkFrom, chunksFrom}
 use Rattle.blorb.specs.declared.Usage.the-variants.{Exec}
@@ -55,11 +56,16 @@ unfoldable pub earlier : List ℕ → ℕ → ℕ → List Ref
 earlier f base zero = []
 earlier f base (suc j) = earlier f base j ++ (refOf base (chunksFrom f base) (entryIn (drop (place j) f)) ∷ [])
 
+-- the entry before entry j starts at x; where there is none, x is where the chunks behind the index begin
+pub record Before (f : List ℕ) (base j x : ℕ) : Type 0 where
+  pub starts : startOf base (chunksFrom f base) (lastPlace (earlier f base j)) ≡ x
+  pub inside : lastPlace (earlier f base j) ≤ length (chunksFrom f base)
+
 -- entries i and j have the same usage and number
 abbrev pub samePair : List ℕ → ℕ → ℕ → Bool
 samePair f i j = eqb (usageAt f (place i)) (usageAt f (place j)) && eqb (numberAt f (place i)) (numberAt f (place j))
 
--- 12 to 16 of n entries from entry j on
+-- 12 to 16 and 27 of n entries from entry j on
 unfoldable pub entriesFrom : List ℕ → ℕ → ℕ → ℕ → Verdict
 entriesFrom f base j n = entriesFault plainRules base (chunksFrom f base) (earlier f base j) (place j) (entriesIn n (drop (place j) f))
 

@@ -1,4 +1,4 @@
-// The entries of an index, and refusals 12 to 16.
+// The entries of an index, and refusals 12 to 16 and 27.
 use crate::chunks;
 use crate::chunks::Check;
 use blorb::Known;
@@ -8,7 +8,7 @@ ghost use Prim.Native.Nat.{_+_, _*_, _≤_, _<_};
 ghost use mathlib.Core.Bool.{_||_, not};
 ghost use lib.ListN.{length, drop};
 ghost use lib.Dec.{eqb};
-ghost use Rattle.blorb.specs.Verdict.{accept, indexFault};
+ghost use Rattle.blorb.specs.Verdict.{accept, refuse, indexFault};
 ghost use Rattle.blorb.specs.Format.{isStart, entriesIn};
 ghost use Rattle.blorb.specs.Usages.{codeOf};
 ghost use Rattle.blorb.specs.declared.Usage.the-variants.{Exec};
@@ -121,8 +121,9 @@ fn typed(s: &[u8], usage: Usage, at: usize) -> bool
     usage.allows(blorb::be32_at(s, at), &s[from..to])
 }
 
-// Whether a chunk behind the index begins at `start`: the walk goes on from `from`, where one begins, if `start` is not before it.
-pub(crate) fn begins_behind(s: &[u8], base: usize, from: usize, start: usize) -> bool
+// Whether a chunk behind the index begins at `start`: the walk goes on from `from`, where one begins, if `start` is not before it. Only an
+// entry out of order has one before it, and is refused: that walk from the index on comes once in a file.
+fn begins_behind(s: &[u8], base: usize, from: usize, start: usize) -> bool
     requires { ⌜ (walkFrom (now s) base ≡ accept) × (walkFrom (now s) from ≡ accept) × Reached (now s) base from ⌝ }
     ensures { λ r. ⌜ r ≡ isStart start base (chunksFrom (now (s .entry)) base) ⌝ }
 {
@@ -180,7 +181,19 @@ fn judge(s: &[u8], base: usize, from: usize, p: usize) -> Judged
     Judged::At(start)
 }
 
-// Refusals 12 to 16, entry by entry. For each usage a number above all of its numbers so far is kept, so that
+// Refusal 27 of the entry at `p`: its start is lower than that of the entry before it.
+fn unordered(p: usize) -> Check
+    requires { ⌜ p ≤ 65536 ⌝ }
+    ensures { λ r. ⌜ verdictOf r ≡ refuse 27 (p + 8) ⌝ }
+{
+    let field = p + 8;
+    Check::Refused {
+        number: 27,
+        place: field,
+    }
+}
+
+// Refusals 12 to 16 and 27, entry by entry. For each usage a number above all of its numbers so far is kept, so that
 // the search among the earlier entries runs only for an entry that could repeat one of them.
 pub(crate) fn entries(s: &[u8], count: usize) -> Check
     requires { ⌜ (count ≤ 4096) × (place count ≤ length (now s)) × (walkFrom (now s) (place count) ≡ accept) ⌝ }
@@ -193,7 +206,8 @@ pub(crate) fn entries(s: &[u8], count: usize) -> Check
     let mut j: usize = 0;
     'entries: while j < count {
         let p = 24 + 12 * j;
-        match judge(s, base, found, p) {
+        let before = found;
+        match judge(s, base, before, p) {
             Judged::Fault { number, place } => return Check::Refused { number, place },
             Judged::At(start) => {
                 found = start;
@@ -202,6 +216,9 @@ pub(crate) fn entries(s: &[u8], count: usize) -> Check
         let k = slot(blorb::be32_at(s, p));
         let number = blorb::be32_at(s, p + 4);
         if tops[k] <= number {
+            if found < before {
+                return unordered(p);
+            }
             tops[k] = number + 1;
             j += 1;
             continue 'entries;
@@ -216,6 +233,9 @@ pub(crate) fn entries(s: &[u8], count: usize) -> Check
                 break 'entries;
             }
             i += 1;
+        }
+        if found < before {
+            return unordered(p);
         }
         j += 1;
     }

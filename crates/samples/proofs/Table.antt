@@ -10,12 +10,12 @@ use Rattle.blorb.specs.declared.Usage.the-variants as usage
 use Rattle.blorb.specs.All.{All}
 use Rattle.edits.specs.Edit.{add, replace, remove, with-at, lower, raise, added, replaced, removedBoth, removedEntry, removed, givenChunk, edited, entered, inserted}
 use Rattle.edits.specs.Blank.{blanked, blankFile}
-use Rattle.blorb.specs.Verdict.{accept, refuse, _then_, check, headFault, chunkFault, walkFault, secondIndex, indexFault, pairIn, refFault, entriesFault, restFault, layoutFault, verdict}
+use Rattle.blorb.specs.Verdict.{accept, refuse, _then_, check, headFault, chunkFault, walkFault, secondIndex, indexFault, pairIn, lastPlace, refFault, entriesFault, restFault, layoutFault, verdict}
 use Rattle.edits.specs.Run.{edit, undo, targetFault, editedFile, editRecord, undoneFile, editFault, undoFault, written, noted, afterEdit, afterUndo, after, fault, step, run, answers}
 use Rattle.reader.specs.declared.Reading.the-variants.{Accepted, Refused}
 use Rattle.reader.specs.declared.Asked.the-variants.{Given, Refused as NotGiven}
 use Rattle.reader.specs.declared.Looked.the-variants.{Found, Refused as NotFound}
-use Rattle.samples.specs.Files.{blank, A, B, withoutEel, binary, eel, sides, addedEel, addedRect, removedEel, replacedEel}
+use Rattle.samples.specs.Files.{blank, A, B, withoutEel, binary, eel, sides, addedEel, addedRect, removedEel, replacedEel, turned, twoNames, sameTwice, lowThenUnknown}
 use Rattle.samples.specs.Rows.{Row, reads, asks, looks, edits, undoes, blanks, runs, RowHolds}
 use Rattle.blorb.specs.Format.{sized, size, chunkBytes, chunksBytes, total, fileBytes, chunkIn, chunksIn, chunksOf, entryIn, entriesIn, entryBytes, entriesBytes, indexChunk, entriesOf, isStart, placeOf, refOf}
 use Rattle.blorb.specs.Rules.{oneOf, plainAllows, picture, typeIn, single, chunkRule, chunkRules, optional, plainVerdict}
@@ -27,7 +27,7 @@ use Rattle.reader.specs.Reading.{indexOf, readOf, askedOf, hitIn, lookupOf}
 
 -- opens every definition that a row computes with: a definition opens what its own line names
 computed : ℕ
-unfolding be32 rd32 sized size chunkBytes chunksBytes total fileBytes chunkIn chunksIn chunksOf entryIn entriesIn entryBytes entriesBytes indexChunk entriesOf isStart placeOf refOf _then_ check headFault chunkFault walkFault secondIndex indexFault pairIn refFault entriesFault restFault layoutFault verdict oneOf plainAllows picture typeIn single chunkRule chunkRules optional plainVerdict base startOf entryOf file modelOf model without find uses shared start frontPlace usageOf with-at lower raise entered inserted added replaced removedBoth removedEntry removed givenChunk edited recBody recBytes removal recOf trailer recIn lastBody lastRec zeros wellFormed fits1 fits2 fits3 fits4 fits undo1 undo2 undo3 undo4 undone targetFault editedFile editRecord undoneFile editFault undoFault indexOf readOf askedOf hitIn lookupOf written noted afterEdit afterUndo after fault step run answers blanked blankFile
+unfolding be32 rd32 sized size chunkBytes chunksBytes total fileBytes chunkIn chunksIn chunksOf entryIn entriesIn entryBytes entriesBytes indexChunk entriesOf isStart placeOf refOf _then_ check headFault chunkFault walkFault secondIndex indexFault pairIn lastPlace refFault entriesFault restFault layoutFault verdict oneOf plainAllows picture typeIn single chunkRule chunkRules optional plainVerdict base startOf entryOf file modelOf model without find uses shared start frontPlace usageOf with-at lower raise entered inserted added replaced removedBoth removedEntry removed givenChunk edited recBody recBytes removal recOf trailer recIn lastBody lastRec zeros wellFormed fits1 fits2 fits3 fits4 fits undo1 undo2 undo3 undo4 undone targetFault editedFile editRecord undoneFile editFault undoFault indexOf readOf askedOf hitIn lookupOf written noted afterEdit afterUndo after fault step run answers blanked blankFile
 computed = 0
 
 -- A less its last byte, FORM length 39
@@ -101,9 +101,17 @@ table =
     runs (record { buffer = blank ++ replicate 26 9; L = 24; journal = replicate 60 7; U = 0 })
     (edit (add Data 7 TEXT eel) ∷ (edit (add Pict 1 Rect sides) ∷ (undo ∷ (undo ∷ []))))
     (record { result = accept; L = 48; U = 29 } ∷ (record { result = refuse 24 0; L = 48; U = 29 } ∷ (record { result = accept; L = 24; U = 0 } ∷ (record { result = refuse 26 0; L = 24; U = 0 } ∷ []))))
-    (record { buffer = blank ++ (replicate 24 0 ++ (9 ∷ (9 ∷ []))); L = 24; journal = addedEel ++ replicate 31 7; U = 0 }) ∷ []))))))))))))))))))))))))))))))))))))))))
+    (record { buffer = blank ++ (replicate 24 0 ++ (9 ∷ (9 ∷ []))); L = 24; journal = addedEel ++ replicate 31 7; U = 0 }) ∷ (
+    -- 02, P5: B with its two entries turned; two entries on one start; 16 and 27 in one entry; entry 1 with 27 and entry 2 with 12
+    reads turned (Refused 27 44) ∷ (
+    reads twoNames (Accepted 60 2) ∷ (
+    reads sameTwice (Refused 16 36) ∷ (
+    reads lowThenUnknown (Refused 27 44) ∷ (
+    -- the removal of Data 7 with place 1 in its record: its chunk would go in front of that of the entry before it
+    runs (record { buffer = withoutEel; L = 52; journal = set removedEel 12 1; U = 32 }) (undo ∷ []) (record { result = refuse 21 0; L = 52; U = 32 } ∷ [])
+    (record { buffer = withoutEel; L = 52; journal = set removedEel 12 1; U = 32 }) ∷ [])))))))))))))))))))))))))))))))))))))))))))))
 
 pub samples : All RowHolds table
 unfolding computed table
 samples =
-    ((refl, refl, refl), (refl, ((refl, refl, refl), (refl, (refl, (refl, ((refl, refl), ((refl, refl, refl), (refl, (refl, ((refl, refl), ((refl, refl, refl), (refl, (refl, ((refl, refl), (refl, (refl, (refl, (refl, (refl, (refl, ((refl, refl), ((refl, refl), (refl, (refl, (refl, (refl, (refl, (refl, (refl, (refl, (refl, (refl, (refl, (refl, ((refl, refl), ((refl, refl), ((refl, refl), (refl, (refl, ((refl, refl), tt)))))))))))))))))))))))))))))))))))))))))
+    ((refl, refl, refl), (refl, ((refl, refl, refl), (refl, (refl, (refl, ((refl, refl), ((refl, refl, refl), (refl, (refl, ((refl, refl), ((refl, refl, refl), (refl, (refl, ((refl, refl), (refl, (refl, (refl, (refl, (refl, (refl, ((refl, refl), ((refl, refl), (refl, (refl, (refl, (refl, (refl, (refl, (refl, (refl, (refl, (refl, (refl, (refl, ((refl, refl), ((refl, refl), ((refl, refl), (refl, (refl, ((refl, refl), (refl, (refl, (refl, (refl, ((refl, refl), tt))))))))))))))))))))))))))))))))))))))))))))))

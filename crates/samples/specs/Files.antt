@@ -1,6 +1,9 @@
--- 01's sample files and records, byte by byte.
+-- 01's sample files and records, byte by byte; and some of 02's, made of their parts.
 use Prim.Native.Nat.{ℕ}
-use mathlib.Core.List.{List, [], _∷_}
+use mathlib.Core.List.{List, [], _∷_, _++_}
+use lib.ListN.{take, drop, set}
+use Rattle.blorb.specs.Bytes.{be32}
+use Rattle.blorb.specs.Tags.{Data}
 
 -- 'FORM' 16 'IFRS' 'RIdx' 4 0
 abbrev pub blank : List ℕ
@@ -45,3 +48,26 @@ removedEel = 3 ∷ (68 ∷ (97 ∷ (116 ∷ (97 ∷ (0 ∷ (0 ∷ (0 ∷ (7 ∷ 
 -- the record of its replacement
 abbrev pub replacedEel : List ℕ
 replacedEel = 2 ∷ (68 ∷ (97 ∷ (116 ∷ (97 ∷ (0 ∷ (0 ∷ (0 ∷ (7 ∷ (0 ∷ (0 ∷ (0 ∷ (0 ∷ (0 ∷ (0 ∷ (0 ∷ (48 ∷ (84 ∷ (69 ∷ (88 ∷ (84 ∷ (0 ∷ (0 ∷ (0 ∷ (3 ∷ (101 ∷ (101 ∷ (108 ∷ (0 ∷ (0 ∷ (0 ∷ (28 ∷ [])))))))))))))))))))))))))))))))
+
+-- 02, P5. An entry, and B's 'TEXT' chunk of 12 bytes
+abbrev pub entry : ℕ → ℕ → ℕ → List ℕ
+entry u n s = be32 u ++ (be32 n ++ be32 s)
+
+abbrev pub text : List ℕ
+text = take 12 (drop 48 B)
+
+-- B with its two entries turned
+abbrev pub turned : List ℕ
+turned = take 24 B ++ (take 12 (drop 36 B) ++ (take 12 (drop 24 B) ++ drop 48 B))
+
+-- Data 7 and Data 8 on one start
+abbrev pub twoNames : List ℕ
+twoNames = set (take 24 B) 7 52 ++ (entry Data 7 48 ++ (entry Data 8 48 ++ text))
+
+-- Data 7 on the second chunk, then Data 7 on the first one
+abbrev pub sameTwice : List ℕ
+sameTwice = set (take 24 B) 7 64 ++ (entry Data 7 60 ++ (entry Data 7 48 ++ (text ++ text)))
+
+-- three entries: the second has a lower start than the first, the third an unknown usage
+abbrev pub lowThenUnknown : List ℕ
+lowThenUnknown = set (set (set (take 24 B) 7 76) 19 40) 23 3 ++ (entry Data 7 72 ++ (entry Data 8 60 ++ (entry 0 9 60 ++ (text ++ text))))

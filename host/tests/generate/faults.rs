@@ -4,7 +4,7 @@ use super::{a_picture, data, unknown_usage, unsuited, Draft, DraftEntry, Layout,
 use crate::reference::{Refusal, Tag};
 
 /// The file's refusals in the order in which they are looked for, but 1, which is built elsewhere since it takes a file of 16 MB.
-pub const ORDER: [u64; 20] = [2, 3, 4, 5, 6, 28, 29, 7, 8, 9, 10, 11, 12, 13, 14, 15, 16, 17, 18, 19];
+pub const ORDER: [u64; 21] = [2, 3, 4, 5, 6, 28, 29, 7, 8, 9, 10, 11, 12, 13, 14, 15, 16, 27, 17, 18, 19];
 
 /// A refusal's place in that order.
 fn turn(number: u64) -> usize {
@@ -39,6 +39,8 @@ enum Mark {
     },
     /// A chunk whose type does not suit the entries that have it.
     Unsuited(usize),
+    /// 27: entries out of the order of their chunks.
+    Unordered,
     SecondOptional(Tag),
     /// All optional chunks of this type have the fault, so the first decides.
     Optional {
@@ -78,6 +80,15 @@ impl Mark {
             Mark::Unsuited(id) => {
                 let i = draft.entries.iter().position(|entry| entry.start == Start::Chunk(id))?;
                 at(12, i, 14, 24 + 12 * i)
+            }
+            Mark::Unordered => {
+                let start = |i: usize| match draft.entries[i].start {
+                    Start::Chunk(id) => layout.start_of(id),
+                    Start::Raw(_) => None,
+                };
+                let lower = |i: &usize| matches!((start(i - 1), start(*i)), (Some(before), Some(here)) if here < before);
+                let i = (1..draft.entries.len()).find(lower)?;
+                at(12, i, 27, 24 + 12 * i + 8)
             }
             Mark::SecondOptional(tag) => {
                 let second = draft.chunks.iter().filter(|chunk| chunk.tag == tag).nth(1)?;
@@ -126,6 +137,7 @@ fn inject(rng: &mut Rng, draft: &mut Draft, number: u64) -> Option<Mark> {
         12 | 13 | 15 => inject_entry(rng, draft, number),
         14 => inject_unsuited(rng, draft),
         16 => inject_repeated(rng, draft),
+        27 => inject_unordered(rng, draft),
         17 => Some(inject_second(rng, draft)),
         18 => Some(inject_optional_length(rng, draft)),
         _ => Some(inject_frontispiece(rng, draft)),
@@ -315,6 +327,25 @@ fn inject_repeated(rng: &mut Rng, draft: &mut Draft) -> Option<Mark> {
     let earlier = (!draft.entries.is_empty()).then(|| rng.pick(&draft.entries))?;
     draft.entries.push(earlier);
     Some(Mark::Entry { number: 16, i: draft.entries.len() - 1, offset: 0 })
+}
+
+/// Two entries with different chunks change places, all of them or their starts only where the usage is the same.
+fn inject_unordered(rng: &mut Rng, draft: &mut Draft) -> Option<Mark> {
+    let pairs = draft.entries.len().pow(2);
+    let different = |&(i, j): &(usize, usize)| draft.entries[i].start != draft.entries[j].start;
+    let tries: Vec<(usize, usize)> = (0..8.min(pairs))
+        .map(|_| (rng.below(draft.entries.len()), rng.below(draft.entries.len())))
+        .filter(different)
+        .collect();
+    let &(i, j) = tries.first()?;
+    let (one, other) = (draft.entries[i], draft.entries[j]);
+    if one.usage == other.usage && rng.chance(50) {
+        draft.entries[i].start = other.start;
+        draft.entries[j].start = one.start;
+    } else {
+        draft.entries.swap(i, j);
+    }
+    Some(Mark::Unordered)
 }
 
 /// The optional chunk with this tag, made now if there is none; a frontispiece only where a picture can be named.

@@ -92,18 +92,32 @@ fn record_of_replace(rng: &mut Rng, file: &File) -> Record {
 }
 
 fn record_of_remove(rng: &mut Rng, file: &File, kind: u8) -> Record {
-    let place = rng.between(0, file.entries.len()) as u32;
     let starts = file.starts();
     if kind == 4 && !file.chunks.is_empty() {
         let chunk = rng.below(file.chunks.len());
-        let start = starts[chunk] as u32 + 12;
+        let (place, start) = (place_for(rng, file, kind, chunk), starts[chunk] as u32 + 12);
         let usage = usage_for(rng, file, chunk);
         return Record { kind, usage, number: number(rng, 100), place, start, tag: [0; 4], data: Vec::new() };
     }
-    let start = rng.pick(&starts) as u32 + 12;
+    let position = rng.below(starts.len());
+    let (place, start) = (place_for(rng, file, kind, position), starts[position] as u32 + 12);
     let usage = *rng.pick(&USAGES[..3]);
     let (tag, data) = if kind == 3 { suited(rng, &usage) } else { ([0; 4], Vec::new()) };
     Record { kind, usage, number: number(rng, 100), place, start, tag, data }
+}
+
+/// The place of an entry that goes in for the chunk at this position, or one place off it, or any: most keep the chunks' order.
+fn place_for(rng: &mut Rng, file: &File, kind: u8, position: usize) -> u32 {
+    let before = file.entries.iter().filter(|entry| entry.chunk < position).count();
+    let on = file.entries.iter().filter(|entry| entry.chunk == position).count();
+    let place = before + if kind == 4 { rng.between(0, on) } else { 0 };
+    let place = match rng.below(24) {
+        0 => rng.between(0, file.entries.len()),
+        1 => place + 1,
+        2 => place.saturating_sub(1),
+        _ => place,
+    };
+    place as u32
 }
 
 /// A usage that the chunk suits, where there is one.

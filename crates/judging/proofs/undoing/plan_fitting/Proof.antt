@@ -1,6 +1,6 @@
 use native.Mathlib.Omega.{arith}
 use denote.Ref.{now}
-use Rattle.judging.proofs.UndoAsked.{file-is, record-room, asked-added, asked-replaced, asked-removed, asked-unlisted, asked-begins}
+use Rattle.judging.proofs.UndoAsked.{file-is, record-room, index-inside, asked-added, asked-replaced, asked-removed, asked-unlisted, asked-begins}
 use borrow.Author.Needs.{needs}
 use Rattle.judging.proofs.undoing.plan_fitting.Statement.{statement}
 use Rattle.judging.proofs.undoing.plan_fitting.Tie as tie
@@ -11,81 +11,75 @@ use Rattle.judging.proofs.undoing.plan_removed.Reads as plan-removed-re
 use Rattle.judging.proofs.undoing.plan_replaced.Reads as plan-replaced-reads
 use Rattle.judging.proofs.undoing.plan_unlisted.Reads as plan-unlisted-reads
 
--- src/undoing.rt:225:9
 plan-added-requires : tie.Need-plan-added-requires
 plan-added-requires c κs = search needs
 
--- src/undoing.rt:225:9
 returns : tie.Need-returns
 returns c =
     let a = c .before .before .before .before .args in
     asked-added (now (a .buf)) (a .len) (now (a .jrn)) (a .used) (a .r) (a .facts) (c .before .before .before .before .pre) _ (c .before .if1 .taken) (c .plan-added .ensures)
 
--- src/undoing.rt:228:30
 slice-aggregate-plan-unlisted : tie.Need-slice-aggregate-plan-unlisted
 slice-aggregate-plan-unlisted c =
     let a = c .before .before .before .before .before .args in
     file-is (now (a .buf)) (a .len) (now (a .jrn)) (a .used) (a .r) (a .facts) (c .before .before .before .before .before .pre)
 
--- src/undoing.rt:228:9
 plan-unlisted-requires : tie.Need-plan-unlisted-requires
 plan-unlisted-requires c κs =
     let a = c .before .before .before .before .before .args in
     asked-begins (now (a .buf)) (a .len) (now (a .jrn)) (a .used) (a .r) (a .facts) (c .before .before .before .before .before .pre) (c .before .if2 .taken)
 
--- src/undoing.rt:228:9
 returns-2 : tie.Need-returns-2
 returns-2 c =
     let a = c .before .before .before .before .before .before .args in
     asked-unlisted (now (a .buf)) (a .len) (now (a .jrn)) (a .used) (a .r) (a .facts) (c .before .before .before .before .before .before .pre) _ (c .before .before .if2 .taken) (c .plan-unlisted .ensures)
 
--- src/undoing.rt:230:15
 sub-end : tie.Need-sub-end
 sub-end c =
     let a = c .before .before .before .before .args in
     omega (arith, record-room (now (a .buf)) (a .len) (now (a .jrn)) (a .used) (a .r) (a .facts) (c .before .before .before .before .pre))
 
--- src/undoing.rt:231:22
 cast-from : tie.Need-cast-from
 cast-from c = search needs
 
--- src/undoing.rt:231:16
 sub-from : tie.Need-sub-from
 sub-from c =
     let a = c .before .before .before .before .before .args in
     omega (arith, record-room (now (a .buf)) (a .len) (now (a .jrn)) (a .used) (a .r) (a .facts) (c .before .before .before .before .before .pre))
 
--- src/undoing.rt:232:13
 sub-d : tie.Need-sub-d
 sub-d c = search needs
 
--- src/undoing.rt:232:13
 part-d-start : tie.Need-part-d-start
 part-d-start c = search needs
 
--- src/undoing.rt:232:13
 part-d-end : tie.Need-part-d-end
 part-d-end c = search needs
 
--- src/undoing.rt:234:9
 plan-replaced-requires : tie.Need-plan-replaced-requires
 plan-replaced-requires c κs = search needs
 
--- src/undoing.rt:234:9
 returns-3 : tie.Need-returns-3
 returns-3 c =
     let a = c .before .before .before .before .before .before .before .before .args in
     asked-replaced (now (a .buf)) (a .len) (now (a .jrn)) (a .used) (a .r) (a .facts) (c .before .before .before .before .before .before .before .before .pre) _ (c .before .if3 .taken) (c .plan-replaced .ensures)
 
--- src/undoing.rt:236:5
-plan-removed-requires : tie.Need-plan-removed-requires
-plan-removed-requires c κs = search needs
+slice-aggregate-plan-removed : tie.Need-slice-aggregate-plan-removed
+slice-aggregate-plan-removed c =
+    let a = c .before .before .before .before .before .before .before .before .args in
+    file-is (now (a .buf)) (a .len) (now (a .jrn)) (a .used) (a .r) (a .facts) (c .before .before .before .before .before .before .before .before .pre)
 
--- src/undoing.rt:219:1
+plan-removed-requires : tie.Need-plan-removed-requires
+plan-removed-requires c κs =
+    let a = c .before .before .before .before .before .before .before .before .args in
+    index-inside (now (a .buf)) (a .len) (now (a .jrn)) (a .used) (a .r) (a .facts) (c .before .before .before .before .before .before .before .before .pre)
+
 returns-4 : tie.Need-returns-4
 returns-4 c =
-    let a = c .before .before .before .before .before .before .before .before .args in
-    asked-removed (now (a .buf)) (a .len) (now (a .jrn)) (a .used) (a .r) (a .facts) (c .before .before .before .before .before .before .before .before .pre) _ (c .before .before .before .before .before .if1 .left) (c .before .before .before .before .if2 .left) (c .before .if3 .left) (c .plan-removed .ensures)
+    let a = c .before .before .before .before .before .before .before .before .before .args in
+    asked-removed (now (a .buf)) (a .len) (now (a .jrn)) (a .used) (a .r) (a .facts)
+    (c .before .before .before .before .before .before .before .before .before .pre) _ (c .before .before .before .before .before .before .if1 .left)
+    (c .before .before .before .before .before .if2 .left) (c .before .before .if3 .left) (c .plan-removed .ensures)
 
 pub plan-fitting-spec : {M : Type 1} → statement M
 plan-fitting-spec =
@@ -104,5 +98,6 @@ plan-fitting-spec =
     part-d-end
     plan-replaced-requires
     returns-3
+    slice-aggregate-plan-removed
     plan-removed-requires
     returns-4)

@@ -9,8 +9,8 @@ use Rattle.reader.specs.declared.chunks.Check.the-variants.{Good}
 use Rattle.reader.specs.Walk.{walkFrom, Reached}
 use Rattle.blorb.specs.Verdict.{accept, pairIn}
 use Rattle.reader.proofs.StartLaws.{begun, resume}
-use Rattle.reader.specs.Entries.{usageAt, numberAt, startAt, place, earlier, entriesFrom, entryFault, Below, slotOf}
-use Rattle.reader.proofs.EntryLaws.{judged-at, judged-fault, entry-start, entry-stop, pair-stop, pair-more, pair-hit, entries-next, entries-end, fresh, pair-none, topped, below-next, below-same}
+use Rattle.reader.specs.Entries.{usageAt, numberAt, startAt, place, earlier, entriesFrom, entryFault, Before, Below, slotOf}
+use Rattle.reader.proofs.EntryLaws.{judged-at, judged-fault, entry-start, entry-stop, pair-stop, pair-more, pair-hit, order-stop, entries-next, before-next, before-none, entries-end, fresh, pair-none, topped, below-next, below-same}
 use Rattle.reader.proofs.entries.entries.Statement.{statement}
 use Rattle.reader.proofs.entries.entries.Tie as tie
 use Rattle.reader.proofs.entries.entries.Reads as reads
@@ -21,13 +21,13 @@ use Rattle.reader.proofs.entries.same_pair.Reads as same-pair-reads
 use Rattle.reader.proofs.entries.slot.Reads as slot-reads
 
 abbrev Inv-loop : tie.InvT-loop
-Inv-loop s count base answer₀ tops found j p k number i₀ answer i = (i ≤ j) × (answer ≡ Good) × (pairIn (usageAt s (place j)) (numberAt s (place j)) (earlier s base i) ≡ false)
+Inv-loop s count base answer₀ tops found j p before k number i₀ answer i = (i ≤ j) × (answer ≡ Good) × (pairIn (usageAt s (place j)) (numberAt s (place j)) (earlier s base i) ≡ false)
 
 abbrev μ-loop : tie.MeasureT-loop
-μ-loop s count base answer₀ tops found j p k number i₀ answer i = j - i
+μ-loop s count base answer₀ tops found j p before k number i₀ answer i = j - i
 
 abbrev Inv-entries : tie.InvT-entries
-Inv-entries s count base answer₀ tops₀ found₀ j₀ answer tops found j = (j ≤ count) × (answer ≡ Good) × (length tops ≡ 8) × (walkFrom s found ≡ accept) × Reached s base found × (entriesFrom s base j (count - j) ≡ entriesFrom s base 0 count) × Below s tops j
+Inv-entries s count base answer₀ tops₀ found₀ j₀ answer tops found j = (j ≤ count) × (answer ≡ Good) × (length tops ≡ 8) × (walkFrom s found ≡ accept) × Reached s base found × (entriesFrom s base j (count - j) ≡ entriesFrom s base 0 count) × Below s tops j × Before s base j found
 
 abbrev μ-entries : tie.MeasureT-entries
 μ-entries s count base answer₀ tops₀ found₀ j₀ answer tops found j = count - j
@@ -45,7 +45,7 @@ entries-holds : tie.Need-entries-holds Inv-loop μ-loop Inv-entries μ-entries
 entries-holds c =
     let a = c .before .args in
     let z : a .count - 0 ≡ a .count = omega arith in
-    (search needs, refl, refl, c .before .pre .2, (λ x l. refl), ap (λ (n : ℕ). entriesFrom (now (a .s)) (place (a .count)) 0 n) z, (λ i h. absurd (omega arith)))
+    (search needs, refl, refl, c .before .pre .2, (λ x l. refl), ap (λ (n : ℕ). entriesFrom (now (a .s)) (place (a .count)) 0 n) z, (λ i h. absurd (omega arith)), before-none (now (a .s)) (place (a .count)))
 
 -- src/entries.rt:181:22
 mul-p : tie.Need-mul-p Inv-loop μ-loop Inv-entries μ-entries
@@ -95,6 +95,29 @@ mul-if1 c = search needs
 array-read-if1 : tie.Need-array-read-if1 Inv-loop μ-loop Inv-entries μ-entries
 array-read-if1 c = search needs
 
+-- src/entries.rt:205:24
+unordered-requires : tie.Need-unordered-requires Inv-loop μ-loop Inv-entries μ-entries
+unordered-requires c κs = search needs
+
+-- src/entries.rt:205:17
+returns-2 : tie.Need-returns-2 Inv-loop μ-loop Inv-entries μ-entries
+returns-2 c =
+    let a = c .before .before .before .before .before .before .before .before .before .before .before .before .before .args in
+    let s = now (a .s) in
+    let o = c .before .before .before .before .before .before .before .before .before .before .before .entries in
+    let p : ℕ = place (o .j) in
+    let base : ℕ = place (a .count) in
+    let w = c .before .before .before .before .before .before .before .before .before .before .before .before .before .pre .2 in
+    let g = judged-at (entryFault s base p) (startAt s p) _ (sym (c .before .before .before .before .before .before .before .before .before .judge .ensures) ∙ c .before .before .before .before .before .before .before .start .given .1) in
+    let b = entry-start s base p (g .0) in
+    let k = c .before .before .before .before .slot .result in
+    let q : k ≡ slotOf (usageAt s p) = c .before .before .before .before .slot .ensures .0 ∙ ap slotOf (c .before .before .before .before .before .be32-at .ensures .0) in
+    let m : c .before .before .before .be32-at2 .result ≡ numberAt s p = c .before .before .before .be32-at2 .ensures .0 in
+    let top : ℕ = getD (o .tops) k 0 in
+    let h : top ≤ c .before .before .before .be32-at2 .result = c .before .before .if1 .taken in
+    let x : pairIn (usageAt s p) (numberAt s p) (earlier s base (o .j)) ≡ false = fresh s base (o .j) top (topped s (o .tops) (o .j) k (o .inv .6) q) (omega arith) (o .j) (omega arith) in
+    c .unordered .ensures ∙ order-stop s base (a .count) (o .j) w (omega arith) (g .0) x (o .found) _ (o .inv .7) (g .1) (c .before .if2 .taken) ∙ o .inv .5
+
 -- src/entries.rt:193:23
 add-tops : tie.Need-add-tops Inv-loop μ-loop Inv-entries μ-entries
 add-tops c = search needs
@@ -118,29 +141,30 @@ entries-less c = search needs
 -- src/entries.rt:180:5
 entries-again : tie.Need-entries-again Inv-loop μ-loop Inv-entries μ-entries
 entries-again c =
-    let a = c .before .before .before .before .before .before .before .before .before .before .before .args in
+    let a = c .before .before .before .before .before .before .before .before .before .before .before .before .args in
     let s = now (a .s) in
-    let o = c .before .before .before .before .before .before .before .before .before .entries in
+    let o = c .before .before .before .before .before .before .before .before .before .before .entries in
     let p : ℕ = place (o .j) in
     let base : ℕ = place (a .count) in
-    let w = c .before .before .before .before .before .before .before .before .before .before .before .pre .2 in
-    let g = judged-at (entryFault s base p) (startAt s p) _ (sym (c .before .before .before .before .before .before .before .judge .ensures) ∙ c .before .before .before .before .before .start .given .1) in
+    let w = c .before .before .before .before .before .before .before .before .before .before .before .before .pre .2 in
+    let g = judged-at (entryFault s base p) (startAt s p) _ (sym (c .before .before .before .before .before .before .before .before .judge .ensures) ∙ c .before .before .before .before .before .before .start .given .1) in
     let b = entry-start s base p (g .0) in
-    let k = c .before .before .slot .result in
-    let q : k ≡ slotOf (usageAt s p) = c .before .before .slot .ensures .0 ∙ ap slotOf (c .before .before .before .be32-at .ensures .0) in
-    let m : c .before .be32-at2 .result ≡ numberAt s p = c .before .be32-at2 .ensures .0 in
+    let k = c .before .before .before .slot .result in
+    let q : k ≡ slotOf (usageAt s p) = c .before .before .before .slot .ensures .0 ∙ ap slotOf (c .before .before .before .before .be32-at .ensures .0) in
+    let m : c .before .before .be32-at2 .result ≡ numberAt s p = c .before .before .be32-at2 .ensures .0 in
     let top : ℕ = getD (o .tops) k 0 in
-    let h : top ≤ c .before .be32-at2 .result = c .if1 .taken in
+    let h : top ≤ c .before .before .be32-at2 .result = c .before .if1 .taken in
     let x : pairIn (usageAt s p) (numberAt s p) (earlier s base (o .j)) ≡ false = fresh s base (o .j) top (topped s (o .tops) (o .j) k (o .inv .6) q) (omega arith) (o .j) (omega arith) in
-    let z : k < 8 = c .before .before .slot .ensures .1 in
+    let z : k < 8 = c .before .before .before .slot .ensures .1 in
     let t : length (o .tops) ≡ 8 = o .inv .2 in (
       omega arith,
       o .inv .1,
       simp length-set t,
       rw (← (g .1)) (begun s (startAt s p) base w b .walks),
       rw (← (g .1)) (resume s (startAt s p) base w b),
-      entries-next s base (a .count) (o .j) w (omega arith) (g .0) x ∙ o .inv .5,
-      below-next s (o .tops) (o .j) k (c .before .be32-at2 .result + 1) (o .inv .6) q (omega arith) (omega arith) (omega arith),
+      entries-next s base (a .count) (o .j) w (omega arith) (g .0) x (o .found) _ (o .inv .7) (g .1) (c .if2 .left) ∙ o .inv .5,
+      below-next s (o .tops) (o .j) k (c .before .before .be32-at2 .result + 1) (o .inv .6) q (omega arith) (omega arith) (omega arith),
+      before-next s base (a .count) (o .j) w (omega arith) (g .0) _ (g .1),
     )
 
 -- src/entries.rt:198:9
@@ -163,7 +187,30 @@ loop-less c = search needs
 loop-again : tie.Need-loop-again Inv-loop μ-loop Inv-entries μ-entries
 loop-again c =
     let l = c .before .before .before .loop in
-    (omega arith, l .inv .1, pair-more (now (c .before .before .before .before .before .before .before .before .before .before .before .before .before .before .before .args .s)) _ (l .i) (c .before .before .before .before .before .before .before .before .before .before .before .before .before .entries .j) (l .inv .2) (sym (c .before .same-pair .ensures) ∙ c .if2 .left))
+    (omega arith, l .inv .1, pair-more (now (c .before .before .before .before .before .before .before .before .before .before .before .before .before .before .before .args .s)) _ (l .i) (c .before .before .before .before .before .before .before .before .before .before .before .before .before .entries .j) (l .inv .2) (sym (c .before .same-pair .ensures) ∙ c .if3 .left))
+
+-- src/entries.rt:217:24
+unordered-requires-2 : tie.Need-unordered-requires-2 Inv-loop μ-loop Inv-entries μ-entries
+unordered-requires-2 c κs = search needs
+
+-- src/entries.rt:217:17
+returns-3 : tie.Need-returns-3 Inv-loop μ-loop Inv-entries μ-entries
+returns-3 c =
+    let a = c .before .before .before .before .before .before .before .before .before .before .before .before .before .before .before .args in
+    let s = now (a .s) in
+    let o = c .before .before .before .before .before .before .before .before .before .before .before .before .before .entries in
+    let p : ℕ = place (o .j) in
+    let base : ℕ = place (a .count) in
+    let w = c .before .before .before .before .before .before .before .before .before .before .before .before .before .before .before .pre .2 in
+    let g = judged-at (entryFault s base p) (startAt s p) _ (sym (c .before .before .before .before .before .before .before .before .before .before .before .judge .ensures) ∙ c .before .before .before .before .before .before .before .before .before .start .given .1) in
+    let b = entry-start s base p (g .0) in
+    let k = c .before .before .before .before .before .before .slot .result in
+    let q : k ≡ slotOf (usageAt s p) = c .before .before .before .before .before .before .slot .ensures .0 ∙ ap slotOf (c .before .before .before .before .before .before .before .be32-at .ensures .0) in
+    let m : c .before .before .before .before .before .be32-at2 .result ≡ numberAt s p = c .before .before .before .before .before .be32-at2 .ensures .0 in
+    let l = c .before .before .before .loop in
+    let i : l .i ≡ o .j = omega (arith, l .inv .0, c .before .before .loop-test .left) in
+    let x : pairIn (usageAt s p) (numberAt s p) (earlier s base (o .j)) ≡ false = ap (λ (z : ℕ). pairIn (usageAt s p) (numberAt s p) (earlier s base z)) (sym i) ∙ l .inv .2 in
+    c .unordered2 .ensures ∙ order-stop s base (a .count) (o .j) w (omega arith) (g .0) x (o .found) _ (o .inv .7) (g .1) (c .before .if4 .taken) ∙ o .inv .5
 
 -- src/entries.rt:208:9
 add-j-2 : tie.Need-add-j-2 Inv-loop μ-loop Inv-entries μ-entries
@@ -176,41 +223,42 @@ entries-less-2 c = search needs
 -- src/entries.rt:180:5
 entries-again-2 : tie.Need-entries-again-2 Inv-loop μ-loop Inv-entries μ-entries
 entries-again-2 c =
-    let a = c .before .before .before .before .before .before .before .before .before .before .before .before .before .args in
+    let a = c .before .before .before .before .before .before .before .before .before .before .before .before .before .before .args in
     let s = now (a .s) in
-    let o = c .before .before .before .before .before .before .before .before .before .before .before .entries in
+    let o = c .before .before .before .before .before .before .before .before .before .before .before .before .entries in
     let p : ℕ = place (o .j) in
     let base : ℕ = place (a .count) in
-    let w = c .before .before .before .before .before .before .before .before .before .before .before .before .before .pre .2 in
-    let g = judged-at (entryFault s base p) (startAt s p) _ (sym (c .before .before .before .before .before .before .before .before .before .judge .ensures) ∙ c .before .before .before .before .before .before .before .start .given .1) in
+    let w = c .before .before .before .before .before .before .before .before .before .before .before .before .before .before .pre .2 in
+    let g = judged-at (entryFault s base p) (startAt s p) _ (sym (c .before .before .before .before .before .before .before .before .before .before .judge .ensures) ∙ c .before .before .before .before .before .before .before .before .start .given .1) in
     let b = entry-start s base p (g .0) in
-    let k = c .before .before .before .before .slot .result in
-    let q : k ≡ slotOf (usageAt s p) = c .before .before .before .before .slot .ensures .0 ∙ ap slotOf (c .before .before .before .before .before .be32-at .ensures .0) in
-    let m : c .before .before .before .be32-at2 .result ≡ numberAt s p = c .before .before .before .be32-at2 .ensures .0 in
-    let l = c .before .loop in
-    let i : l .i ≡ o .j = omega (arith, l .inv .0, c .loop-test .left) in
+    let k = c .before .before .before .before .before .slot .result in
+    let q : k ≡ slotOf (usageAt s p) = c .before .before .before .before .before .slot .ensures .0 ∙ ap slotOf (c .before .before .before .before .before .before .be32-at .ensures .0) in
+    let m : c .before .before .before .before .be32-at2 .result ≡ numberAt s p = c .before .before .before .before .be32-at2 .ensures .0 in
+    let l = c .before .before .loop in
+    let i : l .i ≡ o .j = omega (arith, l .inv .0, c .before .loop-test .left) in
     let x : pairIn (usageAt s p) (numberAt s p) (earlier s base (o .j)) ≡ false = ap (λ (z : ℕ). pairIn (usageAt s p) (numberAt s p) (earlier s base z)) (sym i) ∙ l .inv .2 in
-    let h : c .before .before .before .be32-at2 .result < getD (o .tops) k 0 = c .before .before .if1 .left in (
+    let h : c .before .before .before .before .be32-at2 .result < getD (o .tops) k 0 = c .before .before .before .if1 .left in (
       omega arith,
       l .inv .1,
       o .inv .2,
       rw (← (g .1)) (begun s (startAt s p) base w b .walks),
       rw (← (g .1)) (resume s (startAt s p) base w b),
-      entries-next s base (a .count) (o .j) w (omega arith) (g .0) x ∙ o .inv .5,
+      entries-next s base (a .count) (o .j) w (omega arith) (g .0) x (o .found) _ (o .inv .7) (g .1) (c .if4 .left) ∙ o .inv .5,
       below-same s (o .tops) (o .j) k (o .inv .6) q (omega arith),
+      before-next s base (a .count) (o .j) w (omega arith) (g .0) _ (g .1),
     )
 
 -- src/entries.rt:171:1
-returns-2 : tie.Need-returns-2 Inv-loop μ-loop Inv-entries μ-entries
-returns-2 c =
+returns-4 : tie.Need-returns-4 Inv-loop μ-loop Inv-entries μ-entries
+returns-4 c =
     let a = c .before .before .before .args in
     let o = c .before .entries in
     let z : a .count - o .j ≡ 0 = omega arith in
     rw (o .inv .1) (sym (ap (λ (n : ℕ). entriesFrom (now (a .s)) (place (a .count)) (o .j) n) z ∙ entries-end (now (a .s)) (place (a .count)) (c .before .before .before .pre .2) (o .j)) ∙ o .inv .5)
 
 -- src/entries.rt:171:1
-returns-3 : tie.Need-returns-3 Inv-loop μ-loop Inv-entries μ-entries
-returns-3 c =
+returns-5 : tie.Need-returns-5 Inv-loop μ-loop Inv-entries μ-entries
+returns-5 c =
     let a = c .before .before .before .before .before .before .before .before .before .before .before .before .before .before .before .args in
     let s = now (a .s) in
     let o = c .before .before .before .before .before .before .before .before .before .before .before .before .before .entries in
@@ -218,7 +266,7 @@ returns-3 c =
     let p : ℕ = place (o .j) in
     let base : ℕ = place (a .count) in
     let g = judged-at (entryFault s base p) (startAt s p) _ (sym (c .before .before .before .before .before .before .before .before .before .before .before .judge .ensures) ∙ c .before .before .before .before .before .before .before .before .before .start .given .1) in
-    pair-stop s base (a .count) (o .j) (c .before .before .before .before .before .before .before .before .before .before .before .before .before .before .before .pre .2) (omega arith) (g .0) (pair-hit s base (l .i) (o .j) (o .j) (c .before .before .loop-test .taken) (sym (c .before .same-pair .ensures) ∙ c .if2 .taken)) ∙ o .inv .5
+    pair-stop s base (a .count) (o .j) (c .before .before .before .before .before .before .before .before .before .before .before .before .before .before .before .pre .2) (omega arith) (g .0) (pair-hit s base (l .i) (o .j) (o .j) (c .before .before .loop-test .taken) (sym (c .before .same-pair .ensures) ∙ c .if3 .taken)) ∙ o .inv .5
 
 pub entries-spec : {M : Type 1} → statement M
 entries-spec =
@@ -243,6 +291,8 @@ entries-spec =
     be32-at-requires-2
     mul-if1
     array-read-if1
+    unordered-requires
+    returns-2
     add-tops
     mul-tops
     array-write-tops
@@ -254,8 +304,10 @@ entries-spec =
     add-i
     loop-less
     loop-again
+    unordered-requires-2
+    returns-3
     add-j-2
     entries-less-2
     entries-again-2
-    returns-2
-    returns-3)
+    returns-4
+    returns-5)
