@@ -99,28 +99,26 @@ module _ (f : List ℕ) (at : ℕ) where
       chunks-same (length f) (suc (length f)) (drop at f) dropped l ∙ chunks-one (length f) (drop at f) z
       ∙ ap (λ (d : List ℕ). chunkIn (drop at f) ∷ chunksIn (length f) d) (drop-drop n at f)
 
--- a chunk without fault
-pub record Fine (f : List ℕ) (at : ℕ) : Type 0 where
+-- a chunk without fault, whatever stands behind it
+pub record Whole (f : List ℕ) (at : ℕ) : Type 0 where
   pub header : at + 8 ≤ length f
   pub past : at + 8 ≤ nextAt f at
   pub inside : nextAt f at ≤ length f
   pub bodied : length (chunkFrom f at .body) ≡ rd32 (drop (at + 4) f)
   pub next : skipAt f at ≡ nextAt f at
-  pub rest : walkFrom f (nextAt f at) ≡ accept
   pub chunks : chunksFrom f at ≡ chunkFrom f at ∷ chunksFrom f (nextAt f at)
 
 body-length : (s : List ℕ) (m : ℕ) → m ≡ rd32 (drop 4 s) → 8 + m ≤ length s → length (chunkIn s .body) ≡ m
 unfolding chunkIn
 body-length s m e h = rw (← e) (length-take-le m (drop 8 s) (simp length-drop (omega arith)))
 
-pub fine : (f : List ℕ) (at : ℕ) → at < length f → walkFrom f at ≡ accept → Fine f at
+pub whole : (f : List ℕ) (at : ℕ) → at < length f → chunkFault at (drop at f) ≡ accept → Whole f at
 unfolding chunkFault sized size
-fine f at h w =
+whole f at h w =
     let m : ℕ = rd32 (drop 4 (drop at f)) in
     let d : drop 4 (drop at f) ≡ drop (at + 4) f = drop-drop 4 at f in
     let e : m ≡ rd32 (drop (at + 4) f) = ap rd32 d in
-    let p = then-accept _ _ (sym (walk-on f at h) ∙ w) in
-    let q = then-accept _ _ (p .0) in
+    let q = then-accept _ _ w in
     let r = then-accept _ _ (then-accept _ _ (q .1) .1) in
     let l8 : 8 ≤ length (drop at f) = leb-true _ _ (check-accept _ _ _ (q .0)) in
     let lm : 8 + (m + m % 2) ≤ length (drop at f) = leb-true _ _ (check-accept _ _ _ (r .0)) in
@@ -133,8 +131,37 @@ fine f at h w =
       inside = omega arith;
       bodied = b ∙ e;
       next = rw (← e) n2;
-      rest = rw n2 at (p .1);
       chunks = chunks-on f at h ∙ ap (λ (k : ℕ). chunkFrom f at ∷ chunksFrom f k) n2;
+    }
+
+-- an accepted walk's first chunk, and the rest of the walk
+pub walk-chunk : (f : List ℕ) (at : ℕ) → at < length f → walkFrom f at ≡ accept
+    → (chunkFault at (drop at f) ≡ accept) × (walkFrom f (at + sized (rd32 (drop 4 (drop at f)))) ≡ accept)
+walk-chunk f at h w = then-accept _ _ (sym (walk-on f at h) ∙ w)
+
+-- a chunk without fault in an accepted walk
+pub record Fine (f : List ℕ) (at : ℕ) : Type 0 where
+  pub header : at + 8 ≤ length f
+  pub past : at + 8 ≤ nextAt f at
+  pub inside : nextAt f at ≤ length f
+  pub bodied : length (chunkFrom f at .body) ≡ rd32 (drop (at + 4) f)
+  pub next : skipAt f at ≡ nextAt f at
+  pub rest : walkFrom f (nextAt f at) ≡ accept
+  pub chunks : chunksFrom f at ≡ chunkFrom f at ∷ chunksFrom f (nextAt f at)
+
+pub fine : (f : List ℕ) (at : ℕ) → at < length f → walkFrom f at ≡ accept → Fine f at
+unfolding sized
+fine f at h w =
+    let p = walk-chunk f at h w in
+    let i = whole f at h (p .0) in
+    record {
+      header = i .header;
+      past = i .past;
+      inside = i .inside;
+      bodied = i .bodied;
+      next = i .next;
+      rest = rw (drop-drop 4 at f, i .next) at (p .1);
+      chunks = i .chunks;
     }
 
 -- 1 to 5, by facts on the bytes

@@ -4,4 +4,5 @@ pub mod Entries
 pub mod Optional
 pub mod Reading
 pub mod Passed
+pub mod Straight
 pub mod Inspecting

@@ -52,7 +52,7 @@ pub(crate) fn head(s: &[u8]) -> Check
 }
 
 // Refusals 6, 28, 29 and 7 of the chunk at `at`.
-fn chunk(s: &[u8], at: usize) -> Check
+pub(crate) fn chunk(s: &[u8], at: usize) -> Check
     requires { ⌜ at < length (now s) ⌝ }
     ensures { λ r. ⌜ verdictOf r ≡ chunkFault at (drop at (now (s .entry))) ⌝ }
 {
@@ -104,48 +104,17 @@ pub struct Walked {
     pub ordinary: bool,
 }
 
-fn is_ordinary(t: u64) -> bool
+pub(crate) fn is_ordinary(t: u64) -> bool
     ensures { λ r. ⌜ r ≡ ordinaryType t ⌝ }
 {
     !((t == blorb::RIDX) | ((t == blorb::RELN) | (t == blorb::FSPC)))
-}
-
-// The walk from `from` on over ordinary chunks, as long as each next one begins where the next entry of the index says; how far it came.
-// That tells nothing more, but lets the processor read on along the index instead of waiting for each length.
-fn walk_along(s: &[u8], from: usize) -> usize
-    ensures { λ r. ⌜ Along (now (s .entry)) from r true ⌝ }
-{
-    let mut at = from;
-    let mut p: usize = 44;
-    while p + 4 <= s.len() {
-        let guess = blorb::be32_at(s, p) as usize;
-        if s.len() <= at {
-            return at;
-        }
-        if let Check::Refused {
-            number: _,
-            place: _,
-        } = chunk(s, at) {
-            return at;
-        }
-        if !is_ordinary(blorb::be32_at(s, at)) {
-            return at;
-        }
-        let next = skip(s, at);
-        if next != guess {
-            return next;
-        }
-        at = guess;
-        p += 12;
-    }
-    at
 }
 
 // Refusals 6, 28, 29 and 7: the walk over the chunks from `from` on.
 fn walk_rest(s: &[u8], from: usize) -> Walked
     ensures { λ r. ⌜ (verdictOf (r .check) ≡ walkFrom (now (s .entry)) from) × (r .ordinary ≡ true → allOrdinary (chunksFrom (now (s .entry)) from) ≡ true) ⌝ }
 {
-    let mut at = walk_along(s, from);
+    let mut at = from;
     let mut ordinary = true;
     while at < s.len() {
         match chunk(s, at) {

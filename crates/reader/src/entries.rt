@@ -8,7 +8,7 @@ ghost use Prim.Native.Nat.{_+_, _*_, _≤_, _<_};
 ghost use mathlib.Core.Bool.{_||_, not};
 ghost use lib.ListN.{length, drop};
 ghost use lib.Dec.{eqb};
-ghost use Rattle.blorb.specs.Verdict.{accept, refuse, indexFault};
+ghost use Rattle.blorb.specs.Verdict.{accept, refuse, chunkFault, indexFault};
 ghost use Rattle.blorb.specs.Format.{isStart, entriesIn};
 ghost use Rattle.blorb.specs.Usages.{codeOf};
 ghost use Rattle.blorb.specs.declared.Usage.the-variants.{Exec};
@@ -83,7 +83,7 @@ pub(crate) fn find(s: &[u8], count: usize, code: u64, number: u64) -> Hit
     Hit::Nothing
 }
 
-fn numbered(code: u64, number: u64) -> bool
+pub(crate) fn numbered(code: u64, number: u64) -> bool
     ensures { λ r. ⌜ r ≡ (not (eqb code (codeOf Exec)) || eqb number 0) ⌝ }
 {
     (code != Usage::EXEC) | (number == 0)
@@ -97,7 +97,7 @@ fn pair_key(s: &[u8], p: usize) -> u64
     blorb::be32_at(s, p) * 4294967296 + blorb::be32_at(s, p + 4)
 }
 
-fn same_pair(s: &[u8], i: usize, j: usize) -> bool
+pub(crate) fn same_pair(s: &[u8], i: usize, j: usize) -> bool
     requires { ⌜ (place i + 8 ≤ length (now s)) × (place j + 8 ≤ length (now s)) ⌝ }
     ensures { λ r. ⌜ r ≡ samePair (now (s .entry)) i j ⌝ }
 {
@@ -105,15 +105,15 @@ fn same_pair(s: &[u8], i: usize, j: usize) -> bool
 }
 
 // The place of a usage among the eight tops.
-fn slot(code: u64) -> usize
+pub(crate) fn slot(code: u64) -> usize
     ensures { λ r. ⌜ (r ≡ slotOf code) × (r < 8) ⌝ }
 {
     (code / 16777216 % 8) as usize
 }
 
 // Rule 5: the chunk at `at` has a type that the usage allows.
-fn typed(s: &[u8], usage: Usage, at: usize) -> bool
-    requires { ⌜ (at < length (now s)) × (walkFrom (now s) at ≡ accept) ⌝ }
+pub(crate) fn typed(s: &[u8], usage: Usage, at: usize) -> bool
+    requires { ⌜ (at < length (now s)) × (chunkFault at (drop at (now s)) ≡ accept) ⌝ }
     ensures { λ r. ⌜ r ≡ typedAt (now (s .entry)) (codeOf usage) at ⌝ }
 {
     let from = at + 8;

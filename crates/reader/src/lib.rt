@@ -4,11 +4,13 @@ use blorb::Known;
 use blorb::Usage;
 use chunks::Check;
 use entries::Hit;
+use straight::Straight;
 
 mod chunks;
 mod entries;
 mod optional;
 mod parts;
+mod straight;
 
 ghost use mathlib.Core.Path.{_≡_};
 ghost use Rattle.blorb.specs.Bytes.{rd32};
@@ -79,8 +81,8 @@ enum Judgement {
     Refused { number: u64, place: usize },
 }
 
-// Refusals 1 to 16; `Good` where only 17 to 19 are left to judge.
-fn judge_entries(file: &[u8]) -> Judgement
+// Refusals 1 to 16, each in its turn; `Good` where only 17 to 19 are left to judge.
+fn judge_in_turn(file: &[u8]) -> Judgement
     ensures { λ r. ⌜ JudgesEntries r (now (file .entry)) ⌝ }
 {
     if let Check::Refused { number, place } = chunks::head(file) {
@@ -114,7 +116,17 @@ fn judge_entries(file: &[u8]) -> Judgement
     }
 }
 
-// The whole table: 1 to 19, 28 and 29.
+// The same. An accepted file is known by the straight way; only a refused one is judged in turn, for its first refusal.
+fn judge_entries(file: &[u8]) -> Judgement
+    ensures { λ r. ⌜ JudgesEntries r (now (file .entry)) ⌝ }
+{
+    match straight::in_one_pass(file) {
+        Straight::Good { count, ordinary } => Judgement::Good { count, ordinary },
+        Straight::Unsure => judge_in_turn(file),
+    }
+}
+
+// The whole table: 1 to 19, 27, 28 and 29.
 fn judge_file(file: &[u8]) -> Judgement
     ensures { λ r. ⌜ Judges r (now (file .entry)) ⌝ }
 {

@@ -1,7 +1,7 @@
 use borrow.Author.Needs.{needs}
 use native.Mathlib.Omega.{arith}
 use Prim.Native.Nat.{_-_}
-use mathlib.Core.Path.{sym, ap, _∙_}
+use mathlib.Core.Path.{refl, sym, ap, _∙_}
 use lib.ListN.{length}
 use Rattle.reader.specs.Ordinary.{Along}
 use Rattle.reader.specs.Walk.{verdictOf}
@@ -14,7 +14,6 @@ use Rattle.blorb.proofs.be32_at.Reads as be32-at-reads
 use Rattle.reader.proofs.chunks.chunk.Reads as chunk-reads
 use Rattle.reader.proofs.chunks.is_ordinary.Reads as is-ordinary-reads
 use Rattle.reader.proofs.chunks.skip.Reads as skip-reads
-use Rattle.reader.proofs.chunks.walk_along.Reads as walk-along-reads
 
 abbrev Inv-loop : tie.InvT-loop
 Inv-loop s from at₀ ordinary₀ at ordinary = Along s from at ordinary
@@ -22,13 +21,9 @@ Inv-loop s from at₀ ordinary₀ at ordinary = Along s from at ordinary
 abbrev μ-loop : tie.MeasureT-loop
 μ-loop s from at₀ ordinary₀ at ordinary = length s - at
 
--- src/chunks.rt:152:9
-walk-along-requires : tie.Need-walk-along-requires Inv-loop μ-loop
-walk-along-requires c κs = search needs
-
 -- src/chunks.rt:155:5
 loop-holds : tie.Need-loop-holds Inv-loop μ-loop
-loop-holds c = c .walk-along .ensures
+loop-holds c = record { rest = refl; ordinary = λ e. refl }
 
 -- src/chunks.rt:156:15
 chunk-requires : tie.Need-chunk-requires Inv-loop μ-loop
@@ -76,7 +71,6 @@ walk-rest-spec =
     (tie.spec
     Inv-loop
     μ-loop
-    walk-along-requires
     loop-holds
     chunk-requires
     enum-told

@@ -1,5 +1,6 @@
 use mathlib.Core.Path.{sym, _∙_}
 use borrow.Author.Tests.{not-true, not-false}
+use Rattle.reader.proofs.ChunkLaws.{walk-chunk}
 use Rattle.reader.proofs.StartLaws.{begun}
 use Rattle.reader.proofs.EntryLaws.{unstarted, by-12, by-14, by-15, by-good}
 use borrow.Author.Needs.{needs}
@@ -56,7 +57,7 @@ returns-2 c = by-12 _ _ _ _ 0 (c .before .before .before .be32-at2 .ensures .0) 
 
 -- src/entries.rt:168:9
 typed-requires : tie.Need-typed-requires
-typed-requires c κs = let b = begun _ _ _ (c .before .before .before .before .before .before .before .before .before .pre .1) (sym (c .before .before .before .before .before .before .begins-behind .ensures) ∙ not-false (c .before .before .before .before .before .before .begins-behind .result) (c .before .before .before .before .before .if1 .left)) in (b .below, b .walks)
+typed-requires c κs = let b = begun _ _ _ (c .before .before .before .before .before .before .before .before .before .pre .1) (sym (c .before .before .before .before .before .before .begins-behind .ensures) ∙ not-false (c .before .before .before .before .before .before .begins-behind .result) (c .before .before .before .before .before .if1 .left)) in (b .below, walk-chunk _ _ (b .below) (b .walks) .0)
 
 -- src/entries.rt:169:9
 returns-3 : tie.Need-returns-3

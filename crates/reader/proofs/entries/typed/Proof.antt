@@ -2,7 +2,7 @@ use Prim.Native.Nat.{ℕ, _+_}
 use denote.Ref.{now}
 use native.Mathlib.Omega.{arith}
 use mathlib.Core.Path.{refl, ap, _∙_}
-use Rattle.reader.proofs.ChunkLaws.{fine}
+use Rattle.reader.proofs.ChunkLaws.{whole}
 use Rattle.reader.proofs.EntryLaws.{typed-at}
 use borrow.Author.Needs.{needs}
 use Rattle.reader.proofs.entries.typed.Statement.{statement}
@@ -22,7 +22,7 @@ add-be32-at c = search needs
 
 -- src/entries.rt:131:21
 be32-at-requires : tie.Need-be32-at-requires
-be32-at-requires c κs = omega (arith, fine _ _ (c .before .pre .0) (c .before .pre .1) .header)
+be32-at-requires c κs = omega (arith, whole _ _ (c .before .pre .0) (c .before .pre .1) .header)
 
 -- src/entries.rt:131:14
 add-to : tie.Need-add-to
@@ -30,7 +30,7 @@ add-to c = search needs
 
 -- src/entries.rt:132:18
 be32-at-requires-2 : tie.Need-be32-at-requires-2
-be32-at-requires-2 c κs = omega (arith, fine _ _ (c .before .before .pre .0) (c .before .before .pre .1) .header)
+be32-at-requires-2 c κs = omega (arith, whole _ _ (c .before .before .pre .0) (c .before .before .pre .1) .header)
 
 -- src/entries.rt:132:41
 sub-allows : tie.Need-sub-allows
@@ -42,7 +42,7 @@ part-allows-start c = search needs
 
 -- src/entries.rt:132:41
 part-allows-end : tie.Need-part-allows-end
-part-allows-end c = let i = fine _ _ (c .before .before .before .pre .0) (c .before .before .before .pre .1) in omega (arith, i .inside, i .next, c .before .be32-at .ensures .0)
+part-allows-end c = let i = whole _ _ (c .before .before .before .pre .0) (c .before .before .before .pre .1) in omega (arith, i .inside, i .next, c .before .be32-at .ensures .0)
 
 -- src/entries.rt:132:5
 allows-requires : tie.Need-allows-requires

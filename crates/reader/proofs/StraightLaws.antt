@@ -1,0 +1,178 @@
+-- Why the straight way is enough: each step over a good chunk that is no index leaves the walk, the second index, the ordinary chunks and the
+-- starts to what stands behind it, and each entry on the chunk that the walk has come to leaves the index's faults to the entries behind it.
+use mathlib.Core.Path.{_≡_, refl, sym, ap, _∙_}
+use Prim.Native.Nat.{ℕ, _+_, _*_, _-_, _%_, _≤_, _<_}
+use mathlib.Core.List.{List, [], _∷_}
+use mathlib.Core.Bool.{Bool, true, false, _&&_, _||_, not, and-true, and-assoc}
+use native.Mathlib.Omega.{arith}
+use lib.ListN.{length, drop}
+use lib.Dec.{eqb}
+use borrow.Author.Tests.{eq-eqb, ne-eqb, eqb-true, eqb-false}
+use Rattle.blorb.specs.Tags.{RIdx}
+use Rattle.blorb.specs.Bytes.{rd32}
+use Rattle.blorb.specs.Format.{chunkIn, isStart}
+use Rattle.blorb.specs.Usages.{codeOf, usageOf}
+use Rattle.blorb.specs.Verdict.{accept, headFault, chunkFault, secondIndex, pairIn}
+use Rattle.blorb.specs.declared.Usage.{Usage}
+use Rattle.blorb.specs.declared.Usage.the-variants.{Exec}
+use Rattle.blorb.specs.declared.Known.the-variants.{Is}
+use Rattle.blorb.proofs.Checks.{pass, and-both}
+use Rattle.reader.specs.declared.Judgement.the-variants as judgement
+use Rattle.reader.specs.declared.straight.Step.the-variants.{To}
+use Rattle.reader.specs.declared.straight.Straight.{Straight}
+use Rattle.reader.specs.declared.straight.Straight.the-variants.{Good, Unsure}
+use Rattle.reader.specs.Walk.{chunksFrom, walkFrom, skipAt, Reached}
+use Rattle.reader.specs.Ordinary.{ordinaryType, allOrdinary}
+use Rattle.reader.specs.Entries.{usageAt, numberAt, startAt, place, typedAt, entryFault, earlier, entriesFrom}
+use Rattle.reader.specs.Passed.{JudgesEntries}
+use Rattle.reader.specs.Straight.{CameTo, ChunkAt, Stands, Stepped, Suits, SoFar, Alongside, Straightly}
+use Rattle.reader.proofs.ChunkLaws.{whole, walk-end, walk-next, chunk-even, chunks-end, ordinary-end, second-end, along-next, first-good, chunks-on}
+use Rattle.reader.proofs.EntryLaws.{by-good, judged-at, entries-next, entries-end, before-next, before-none}
+use Rattle.reader.proofs.IndexLaws.{shape-good}
+use Rattle.reader.proofs.ReadLaws.{is-judged, read-rest, ordinary-behind}
+
+pub came-none : (f : List ℕ) (at : ℕ) → CameTo f at at true
+came-none f at =
+    record { along = record { rest = refl; ordinary = λ e. refl }; second = refl; reached = λ x h. refl; past = omega arith }
+
+-- over one more chunk
+module _ (f : List ℕ) (from at n t : ℕ) (p o : Bool) (h : at < length f) (good : chunkFault at (drop at f) ≡ accept) (et : t ≡ rd32 (drop at f))
+    (no-index : t ≡ RIdx → ⊥) (eo : o ≡ ordinaryType t) (en : n ≡ skipAt f at) where
+  second-on : secondIndex (skipAt f at) (chunksFrom f (skipAt f at)) ≡ secondIndex at (chunksFrom f at)
+  unfolding secondIndex chunkIn
+  second-on =
+      let i = whole f at h good in
+      rw (i .chunks, i .next) (sym (pass _ _ _ _ (rw (ne-eqb (rd32 (drop at f)) RIdx (λ e. no-index (et ∙ e))))))
+
+  start-on : (x : ℕ) → skipAt f at ≤ x → isStart x at (chunksFrom f at) ≡ isStart x (skipAt f at) (chunksFrom f (skipAt f at))
+  unfolding isStart
+  start-on x l =
+      let i = whole f at h good in
+      let q : eqb x at ≡ false = ne-eqb x at (λ e. omega (arith, i .past, i .next)) in
+      rw (i .chunks, i .next, q)
+
+  pub came-next : CameTo f from at p → CameTo f from n (p && o)
+  came-next c =
+      let i = whole f at h good in
+      record {
+        along = along-next f from at n t p o h good et eo en (c .along);
+        second = rw en (second-on ∙ c .second);
+        reached = λ x l. c .reached x (omega (arith, i .past, i .next)) ∙ rw en (start-on x (omega arith));
+        past = omega (arith, i .past, i .next, c .past);
+      }
+
+pub came-then : (f : List ℕ) (a b d : ℕ) (p q : Bool) → CameTo f a b p → CameTo f b d q → CameTo f a d (p && q)
+came-then f a b d p q x y = record {
+  along = record {
+    rest = y .along .rest ∙ x .along .rest;
+    ordinary = λ e. let o = and-both p q e in y .along .ordinary (o .1) ∙ x .along .ordinary (o .0);
+  };
+  second = y .second ∙ x .second;
+  reached = λ z l. x .reached z (omega (arith, y .past)) ∙ y .reached z l;
+  past = omega (arith, x .past, y .past);
+}
+
+-- where the walk has come to a good chunk, one begins
+pub came-begins : (f : List ℕ) (base x : ℕ) (p : Bool) → CameTo f base x p → x < length f → chunkFault x (drop x f) ≡ accept → ChunkAt f base x
+unfolding isStart
+came-begins f base x p c h good =
+    let i = whole f x h good in
+    record { inside = h; good = good; begins = c .reached x (omega arith) ∙ rw (i .chunks, eq-eqb x x refl) }
+
+-- to the chunk of the last entry again
+pub step-same : (f : List ℕ) (base found at start : ℕ) (q : Bool) → start ≡ found → Stands f base found at q → Stepped (To at true) f base found at start q
+step-same f base found at start q e s = ((λ l. rw (e, and-true q) s), λ n. absurd (n e))
+
+-- to another one
+pub step-on : (f : List ℕ) (base found at start n t : ℕ) (q p o : Bool) → CameTo f at start p → start < length f → chunkFault start (drop start f) ≡ accept
+    → t ≡ rd32 (drop start f) → (t ≡ RIdx → ⊥) → o ≡ ordinaryType t → n ≡ skipAt f start → Stands f base found at q → Stepped (To n
+    (p && o)) f base found at start q
+step-on f base found at start n t q p o c h good et no-index eo en s =
+    let there = came-then f base at start q p (s .came) c in
+    let i = whole f start h good in
+    let l : start ≤ n = omega (arith, i .past, i .next) in (
+      (λ z. record {
+        came = rw (and-assoc q p o) at (came-next f base start n t (q && p) o h good et no-index eo en there);
+        chunk = λ y. (came-begins f base start (q && p) there h good, l);
+      }),
+      λ z. c .past,
+    )
+
+-- the walk has come to the file's end
+pub came-end : (f : List ℕ) (base at : ℕ) (p : Bool) → at ≡ length f → CameTo f base at p
+    → (walkFrom f base ≡ accept) × (secondIndex base (chunksFrom f base) ≡ accept) × (p ≡ true → allOrdinary (chunksFrom f base) ≡ true)
+came-end f base at p e c =
+    let l : length f ≤ at = omega arith in
+    (sym (c .along .rest) ∙ walk-end f at l, sym (c .second) ∙ second-end f at l, λ o. sym (c .along .ordinary o) ∙ ordinary-end f at l)
+
+-- 12, 14 and 15 by the numbers that the code has read
+pub suits-good : (f : List ℕ) (p u x n : ℕ) (k : Usage) → u ≡ usageAt f p → usageOf u ≡ Is k → x ≡ startAt f p → typedAt f (codeOf k) x ≡ true
+    → n ≡ numberAt f p → not (eqb u (codeOf Exec)) || eqb n 0 ≡ true → (base : ℕ) → isStart (startAt f p) base (chunksFrom f base) ≡ true
+    → entryFault f base p ≡ accept
+suits-good f p u x n k eu e ex t en h base b = judged-at _ _ _ (sym (by-good f base p u x eu k e ex (rw ex b) t n en h)) .0
+
+pub suits-not : (f : List ℕ) (p : ℕ) → Suits false f p
+suits-not f p e = let z : _≡_ {A = ℕ} 0 1 = cc in absurd (omega arith)
+
+-- before the first entry
+pub sofar-none : (f : List ℕ) (base count found : ℕ) → (found < 4294967296 → ⊥) → SoFar f base count 0 found base
+sofar-none f base count found n =
+    let z : count - 0 ≡ count = omega arith in
+    record { entries = ap (entriesFrom f base 0) z; last = base; before = before-none f base; behind = omega arith; level = λ l. absurd (n l) }
+
+-- an entry more
+pub sofar-next : (f : List ℕ) (base count j found at start behind : ℕ) → walkFrom f base ≡ accept → j < count → entryFault f base (place j) ≡ accept
+    → pairIn (usageAt f (place j)) (numberAt f (place j)) (earlier f base j) ≡ false → startAt f (place j) ≡ start → start < 4294967296
+    → ((start ≡ found → ⊥) → at ≤ start) → start ≤ behind → SoFar f base count j found at → SoFar f base count (j + 1) start behind
+sofar-next f base count j found at start behind w h good fresh es small onward l s = record {
+  entries = entries-next f base count j w h good fresh (s .last) start (s .before) es (order (eqb start found) refl) ∙ s .entries;
+  last = start;
+  before = before-next f base count j w h good start es;
+  behind = l;
+  level = λ z. omega arith;
+}
+  where
+    order : (b : Bool) → eqb start found ≡ b → s .last ≤ start
+    order true e = let q : start ≡ found = eqb-true start found e in let v = s .level (omega arith) in omega arith
+    order false e = let v = onward (eqb-false start found e) in omega (arith, s .behind)
+
+pub sofar-end : (f : List ℕ) (base count j found at : ℕ) → walkFrom f base ≡ accept → j ≡ count → SoFar f base count j found at
+    → entriesFrom f base 0 count ≡ accept
+sofar-end f base count j found at w e s =
+    let z : count - j ≡ 0 = omega arith in sym (s .entries) ∙ ap (entriesFrom f base j) z ∙ entries-end f base w j
+
+-- the file's head and the index's length; the rest by the pass
+module _ (f : List ℕ) (count m : ℕ) (head : headFault f ≡ accept) (room : 24 ≤ length f) (index : rd32 (drop 12 f) ≡ RIdx) (em : m ≡ rd32 (drop 16 f))
+    (ec : count ≡ rd32 (drop 20 f)) (shape : m ≡ 4 + 12 * count) (few : count ≤ 4096) (all : place count ≤ length f) where
+  even : m % 2 ≡ 0
+  even = omega arith
+
+  long : 12 < length f
+  long = omega arith
+
+  behind : skipAt f 12 ≡ place count
+  behind = let e : rd32 (drop 16 f) ≡ 4 + 12 * count = sym em ∙ shape in rw e (omega arith)
+
+  module _ (walks : walkFrom f (place count) ≡ accept) (second : secondIndex (place count) (chunksFrom f (place count)) ≡ accept)
+      (entries : entriesFrom f (place count) 0 count ≡ accept) where
+    walk : walkFrom f 12 ≡ accept
+    walk = sym (walk-next f 12 long (sym (chunk-even f 12 m long em (omega arith) (omega arith) even))) ∙ ap (walkFrom f) behind ∙ walks
+
+    second-12 : secondIndex (skipAt f 12) (chunksFrom f (skipAt f 12)) ≡ accept
+    second-12 = rw behind second
+
+    shaped : 4 ≤ rd32 (drop 16 f)
+    shaped = omega arith
+
+    straight-good : (ordinary : Bool) → (ordinary ≡ true → allOrdinary (chunksFrom f (place count)) ≡ true) → JudgesEntries (judgement.Good count ordinary) f
+    straight-good ordinary o =
+        let first = sym (first-good f long index) in
+        let i = sym (shape-good f long walk shaped (sym em ∙ shape ∙ ap (λ (n : ℕ). 4 + 12 * n) ec) (omega arith)) in (
+          is-judged f head walk first (skipAt f 12) refl second-12 i count ec entries,
+          read-rest f head walk first (skipAt f 12) refl second-12 i count ec entries,
+          o,
+        )
+
+  pub straight-told : (r : Straight) → Alongside r f count → Straightly r f
+  straight-told (Good n ordinary) a = rw (a .0) (straight-good (a .1) (a .2) (a .4) ordinary (a .3))
+  straight-told Unsure a = tt

@@ -1,0 +1,65 @@
+-- What is known along the straight way through a file, where chunks and entries are gone through side by side.
+use Prim.Native.Nat.{ℕ, _+_, _-_, _≤_, _<_}
+use mathlib.Core.Path.{_≡_}
+use mathlib.Core.List.{List}
+use mathlib.Core.Bool.{Bool, true, _&&_}
+use lib.ListN.{length, drop}
+use Rattle.blorb.specs.Format.{isStart}
+use Rattle.blorb.specs.Verdict.{accept, chunkFault, secondIndex}
+use Rattle.reader.specs.Walk.{chunksFrom, walkFrom, Reached}
+use Rattle.reader.specs.Ordinary.{allOrdinary, Along}
+use Rattle.reader.specs.Entries.{startAt, place, entryFault, entriesFrom, Before}
+use Rattle.reader.specs.Passed.{JudgesEntries}
+use Rattle.reader.specs.declared.Judgement.the-variants as judgement
+use Rattle.reader.specs.declared.straight.Step.{Step}
+use Rattle.reader.specs.declared.straight.Step.the-variants.{To, Away}
+use Rattle.reader.specs.declared.straight.Straight.{Straight}
+use Rattle.reader.specs.declared.straight.Straight.the-variants.{Good, Unsure}
+
+-- a walk has come from `from` to `at` over good chunks, none of them an index; where p holds, over ordinary ones alone
+pub record CameTo (f : List ℕ) (from at : ℕ) (p : Bool) : Type 0 where
+  pub along : Along f from at p
+  pub second : secondIndex at (chunksFrom f at) ≡ secondIndex from (chunksFrom f from)
+  pub reached : Reached f from at
+  pub past : from ≤ at
+
+-- a good chunk begins at x, one of those from base on
+pub record ChunkAt (f : List ℕ) (base x : ℕ) : Type 0 where
+  pub inside : x < length f
+  pub good : chunkFault x (drop x f) ≡ accept
+  pub begins : isStart x base (chunksFrom f base) ≡ true
+
+-- the walk stands at `at`, behind the last entry's chunk, which begins at found; before the first entry found is no number of 32 bits
+pub record Stands (f : List ℕ) (base found at : ℕ) (p : Bool) : Type 0 where
+  pub came : CameTo f base at p
+  pub chunk : found < 4294967296 → ChunkAt f base found × (found ≤ at)
+
+-- the walk has gone on to the chunk at start, or there is nothing to say
+abbrev pub Stepped : Step → List ℕ → ℕ → ℕ → ℕ → ℕ → Bool → Type 0
+Stepped (To behind ordinary) f base found at start q =
+    (start < 4294967296 → Stands f base start behind (q && ordinary)) × ((start ≡ found → ⊥) → at ≤ start)
+Stepped Away f base found at start q = Unit {0}
+
+-- 12, 14 and 15 are ruled out, so that only 13 is left to judge
+abbrev pub Suits : Bool → List ℕ → ℕ → Type 0
+Suits r f p = r ≡ true → (base : ℕ) → isStart (startAt f p) base (chunksFrom f base) ≡ true → entryFault f base p ≡ accept
+
+-- of an accepted walk: what the first j of count entries leave to judge
+pub record SoFar (f : List ℕ) (base count j found at : ℕ) : Type 0 where
+  pub entries : entriesFrom f base j (count - j) ≡ entriesFrom f base 0 count
+  pub last : ℕ
+  pub before : Before f base j last
+  pub behind : last ≤ at
+  pub level : found < 4294967296 → last ≤ found
+
+-- the whole index and all chunks have been gone through
+abbrev pub Alongside : Straight → List ℕ → ℕ → Type 0
+Alongside (Good n ordinary) f count =
+    (n ≡ count) × (walkFrom f (place count) ≡ accept) × (secondIndex (place count) (chunksFrom f (place count)) ≡ accept)
+    × (ordinary ≡ true → allOrdinary (chunksFrom f (place count)) ≡ true) × (entriesFrom f (place count) 0 count ≡ accept)
+Alongside Unsure f count = Unit {0}
+
+-- refusals 1 to 16 and 27 are ruled out: 17 to 19 decide
+abbrev pub Straightly : Straight → List ℕ → Type 0
+Straightly (Good n ordinary) f = JudgesEntries (judgement.Good n ordinary) f
+Straightly Unsure f = Unit {0}

@@ -1,0 +1,215 @@
+// The straight way through a file that turns out good: chunks and entries side by side, in one pass.
+use crate::chunks;
+use crate::chunks::Check;
+use crate::entries;
+use blorb::Known;
+use blorb::Usage;
+ghost use mathlib.Core.Path.{_≡_};
+ghost use Prim.Native.Nat.{ℕ, _+_, _≤_, _<_};
+ghost use mathlib.Core.Bool.{Bool, true, false};
+ghost use lib.ListN.{length, drop};
+ghost use Rattle.blorb.specs.Verdict.{accept, chunkFault, pairIn};
+ghost use Rattle.reader.specs.Entries.{usageAt, numberAt, startAt, place, earlier, Topped};
+ghost use Rattle.reader.specs.Straight.{CameTo, Suits, Stands, Stepped, Alongside, Straightly};
+
+// How far a walk came; `ordinary` is true only where it met ordinary chunks alone.
+pub struct Came {
+    pub at: usize,
+    pub ordinary: bool,
+}
+
+// The way to an entry's chunk: where the chunk behind it begins.
+pub enum Step {
+    To { behind: usize, ordinary: bool },
+    Away,
+}
+
+// `Unsure`: the file has to be judged in turn.
+pub enum Straight {
+    Good { count: usize, ordinary: bool },
+    Unsure,
+}
+
+// The walk from `from` up to `to`, or to the first chunk that has a fault or is an index.
+fn pass_over(s: &[u8], from: usize, to: usize) -> Came
+    ensures { λ r. ⌜ CameTo (now (s .entry)) from (r .at) (r .ordinary) ⌝ }
+{
+    let mut at = from;
+    let mut ordinary = true;
+    while at < to {
+        if s.len() <= at {
+            return Came { at, ordinary };
+        }
+        if let Check::Refused {
+            number: _,
+            place: _,
+        } = chunks::chunk(s, at) {
+            return Came { at, ordinary };
+        }
+        let kind = blorb::be32_at(s, at);
+        if kind == blorb::RIDX {
+            return Came { at, ordinary };
+        }
+        ordinary = ordinary & chunks::is_ordinary(kind);
+        at = chunks::skip(s, at);
+    }
+    Came { at, ordinary }
+}
+
+// The way from `at`, behind the last entry's chunk `found`, to the chunk at `start`.
+fn step_to(s: &[u8], found: usize, at: usize, start: usize) -> Step
+    ensures { λ r. ⌜ ((base : ℕ) (q : Bool) → Stands (now (s .entry)) base found at q → Stepped r (now (s .entry)) base found at start q) ⌝ }
+{
+    if start == found {
+        return Step::To {
+            behind: at,
+            ordinary: true,
+        };
+    }
+    let came = pass_over(s, at, start);
+    if came.at != start {
+        return Step::Away;
+    }
+    if s.len() <= start {
+        return Step::Away;
+    }
+    if let Check::Refused {
+        number: _,
+        place: _,
+    } = chunks::chunk(s, start) {
+        return Step::Away;
+    }
+    let kind = blorb::be32_at(s, start);
+    if kind == blorb::RIDX {
+        return Step::Away;
+    }
+    Step::To {
+        behind: chunks::skip(s, start),
+        ordinary: came.ordinary & chunks::is_ordinary(kind),
+    }
+}
+
+// Whether the entry at `p`, whose chunk begins at `start`, gives no cause for 12, 14 and 15.
+fn suits(s: &[u8], p: usize, start: usize) -> bool
+    requires { ⌜ (p + 12 ≤ length (now s)) × (start < length (now s)) × (chunkFault start (drop start (now s)) ≡ accept) × (startAt (now s) p ≡ start) ⌝ }
+    ensures { λ r. ⌜ Suits r (now (s .entry)) p ⌝ }
+{
+    let code = blorb::be32_at(s, p);
+    let Known::Is(usage) = Usage::of_code(code) else {
+        return false;
+    };
+    if !entries::typed(s, usage, start) {
+        return false;
+    }
+    entries::numbered(code, blorb::be32_at(s, p + 4))
+}
+
+// Whether an entry before entry j has its usage and number.
+fn repeats(s: &[u8], j: usize) -> bool
+    requires { ⌜ (j < 4096) × (place j + 8 ≤ length (now s)) ⌝ }
+    ensures { λ r. ⌜ ((base : ℕ) → r ≡ pairIn (usageAt (now (s .entry)) (place j)) (numberAt (now (s .entry)) (place j)) (earlier (now (s .entry)) base j)) ⌝ }
+{
+    let mut i: usize = 0;
+    while i < j {
+        if entries::same_pair(s, i, j) {
+            return true;
+        }
+        i += 1;
+    }
+    false
+}
+
+// Whether no entry before entry j has its usage and number; all of its usage have numbers below `top`.
+fn is_fresh(s: &[u8], j: usize, top: u64) -> bool
+    requires { ⌜ (j < 4096) × (place j + 8 ≤ length (now s)) × Topped (now s) j top ⌝ }
+    ensures { λ r. ⌜ (r ≡ true → (base : ℕ) → pairIn (usageAt (now (s .entry)) (place j)) (numberAt (now (s .entry)) (place j)) (earlier (now (s .entry)) base j) ≡ false) ⌝ }
+{
+    if top <= blorb::be32_at(s, 24 + 12 * j + 4) {
+        return true;
+    }
+    !repeats(s, j)
+}
+
+// A number above `number` and not below `top`.
+fn above(top: u64, number: u64) -> u64
+    requires { ⌜ number < 4294967296 ⌝ }
+    ensures { λ r. ⌜ (number < r) × (top ≤ r) ⌝ }
+{
+    if number < top {
+        return top;
+    }
+    number + 1
+}
+
+// The entries with their chunks, which stand from the index's end on, and the chunks behind the last of them.
+fn side_by_side(s: &[u8], count: usize) -> Straight
+    requires { ⌜ (count ≤ 4096) × (place count ≤ length (now s)) ⌝ }
+    ensures { λ r. ⌜ Alongside r (now (s .entry)) count ⌝ }
+{
+    let mut tops = [0u64; 8];
+    let mut found: usize = 4294967296;
+    let mut at = 24 + 12 * count;
+    let mut ordinary = true;
+    let mut j: usize = 0;
+    while j < count {
+        let p = 24 + 12 * j;
+        let start = blorb::be32_at(s, p + 8) as usize;
+        let Step::To {
+            behind,
+            ordinary: also,
+        } = step_to(s, found, at, start)
+        else {
+            return Straight::Unsure;
+        };
+        if !suits(s, p, start) {
+            return Straight::Unsure;
+        }
+        let k = entries::slot(blorb::be32_at(s, p));
+        let top = tops[k];
+        if !is_fresh(s, j, top) {
+            return Straight::Unsure;
+        }
+        tops[k] = above(top, blorb::be32_at(s, p + 4));
+        found = start;
+        at = behind;
+        ordinary = ordinary & also;
+        j += 1;
+    }
+    let rest = pass_over(s, at, s.len());
+    if rest.at != s.len() {
+        return Straight::Unsure;
+    }
+    Straight::Good {
+        count,
+        ordinary: ordinary & rest.ordinary,
+    }
+}
+
+// Whether a file keeps all rules but rule 7, told only where the straight way shows it.
+pub(crate) fn in_one_pass(file: &[u8]) -> Straight
+    ensures { λ r. ⌜ Straightly r (now (file .entry)) ⌝ }
+{
+    if let Check::Refused {
+        number: _,
+        place: _,
+    } = chunks::head(file) {
+        return Straight::Unsure;
+    }
+    if file.len() < 24 {
+        return Straight::Unsure;
+    }
+    if blorb::be32_at(file, 12) != blorb::RIDX {
+        return Straight::Unsure;
+    }
+    let count = blorb::be32_at(file, 20) as usize;
+    if blorb::be32_at(file, 16) as usize != 4 + 12 * count {
+        return Straight::Unsure;
+    }
+    if 4096 < count {
+        return Straight::Unsure;
+    }
+    if file.len() < 24 + 12 * count {
+        return Straight::Unsure;
+    }
+    side_by_side(file, count)
+}
