@@ -2,8 +2,8 @@
  * blorb.h: the C interface of the Blorb library.
  *
  * A Blorb file is one IFF file with the pictures, sounds, data and code of a text adventure. These calls read it, look a
- * resource up, edit it in place, and take edits back. docs/RULES.md of the library's source says what a file must keep and what each
- * call makes of it.
+ * resource up, edit it in place, take edits back, and keep a finding table beside it. docs/RULES.md of the library's source says what a
+ * file must keep and what each call makes of it.
  *
  * What is promised of every call, for all bytes, lengths and numbers that can be given to it:
  *
@@ -18,8 +18,8 @@
  * These promises are proved of the library's code. That this header declares that code is not proved but tested (host/test). The library
  * is made for x86-64 only, and the header for machines where size_t has 64 bits. The promises rest on what the caller lends:
  *
- *   - A pointer and the size_t that follows it name one array of that many bytes, which nothing else writes during the call. A
- *     pointer may be null where its size is 0 (this is tested, not proved).
+ *   - A pointer and the size_t that follows it name one array of that many bytes (of a table: of that many numbers of 32 bits), which
+ *     nothing else writes during the call. A pointer may be null where its size is 0 (this is tested, not proved).
  *   - Buffers that a call may write (no const) overlap no other buffer of the same call.
  *   - `usage` and `type` point at four bytes, such as "Pict" or "TEXT". No closing zero is needed.
  *
@@ -56,7 +56,8 @@ enum {
     BLORB_BLANK_SIZE = 24,     /* bytes in a blank file */
     BLORB_ENTRY_SIZE = 12,     /* bytes that an entry takes in the index */
     BLORB_HEADER_SIZE = 8,     /* bytes before a chunk's data */
-    BLORB_RECORD_SIZE = 29     /* bytes of a journal record besides the old data that it keeps */
+    BLORB_RECORD_SIZE = 29,    /* bytes of a journal record besides the old data that it keeps */
+    BLORB_ROW_NUMBERS = 3      /* numbers of 32 bits in a row of a finding table */
 };
 
 /* Usages and types as numbers: the four bytes, the first one highest. */
@@ -107,6 +108,10 @@ enum {
     BLORB_JOURNAL_ROOM = 25,    /* the journal is too small for the record */
     BLORB_NOTHING_TO_UNDO = 26, /* `used` is 0 */
 
+    /* The finding table. */
+    BLORB_TABLE_ROOM = 34,      /* the slice is too small for the table; place 0 */
+    BLORB_TABLE_STALE = 35,     /* the table is not this file's; place: the first differing row from 0, or the smaller row count */
+
     /* The file that the edit would make; place as in that file. */
     BLORB_RESULT = 100,         /* 100 + k: it would be refused with k. These can occur: */
     BLORB_RESULT_TOO_LONG = BLORB_RESULT + BLORB_TOO_LONG,
@@ -155,6 +160,46 @@ typedef struct blorb_lookup_answer {
 
 /* The resource with this usage and number. The file's refusals, then 22 exactly where the index has no such entry. */
 blorb_lookup_answer blorb_lookup(const uint8_t *file, size_t size, const char usage[4], uint32_t number);
+
+/*
+ * The finding table. Three numbers of 32 bits to a row: usage (BLORB_PICT .. BLORB_EXEC), number, start of the chunk; a row for each
+ * entry, rising by usage, then number. A file of n entries has a table of BLORB_ROW_NUMBERS * n numbers. `table` points at
+ * `numbers` numbers, aligned as uint32_t.
+ *
+ * A program that looks up much checks its table once, when it opens the file, and then searches: blorb_table_search finds in
+ * an accepted table just what blorb_lookup finds in the file, and reads nothing but the table. Every edit or undo makes the
+ * old table stale, unless it is a replacement, or the undo of one, that moves no start (of the same size, or with no entry's chunk
+ * behind it); a stale table is refused with 35, for every file that differs in an entry.
+ */
+
+/* Of a refused call: rows 0. */
+typedef struct blorb_build_answer {
+    uint64_t refusal;
+    uint64_t place;
+    uint64_t rows; /* rows at the front of the slice */
+} blorb_build_answer;
+
+/* The file's table at the front of the slice; the numbers behind its last row stay. The file's refusals, then 34. */
+blorb_build_answer blorb_table_build(const uint8_t *file, size_t size, uint32_t *table, size_t numbers);
+
+typedef struct blorb_check_answer {
+    uint64_t refusal;
+    uint64_t place;
+} blorb_check_answer;
+
+/* Is the whole slice just this file's table, with nothing behind the last row? The file's refusals, then 35. */
+blorb_check_answer blorb_table_check(const uint8_t *file, size_t size, const uint32_t *table, size_t numbers);
+
+/* Of a refused call: start 0; probes are told in both cases. */
+typedef struct blorb_search_answer {
+    uint64_t refusal;
+    uint64_t place;
+    uint64_t start;  /* where the resource's chunk begins: its header, BLORB_HEADER_SIZE bytes before its data */
+    uint64_t probes; /* rows looked at: at most 13 in a table of BLORB_MAX_ENTRIES rows, 0 in an empty one */
+} blorb_search_answer;
+
+/* The row with this usage and number, by halving. Any slice will do, checked or not; a partial last row is not looked at. Refusal 22. */
+blorb_search_answer blorb_table_search(const uint32_t *table, size_t numbers, const char usage[4], uint32_t number);
 
 /*
  * Editing. The file is the first `length` bytes of a buffer of `size` bytes; the journal's records are the first `used` bytes of

@@ -5,6 +5,7 @@
  *     places in their tables; the calls are the four questions, then the edits.
  */
 #include "check.h"
+#include "tables.h"
 #include "timing.h"
 
 #include <stdio.h>
@@ -185,6 +186,8 @@ static int print_times(void)
     table_by_entries();
     puts("\n## Growth with the bytes\n");
     table_by_bytes();
+    puts("\n## Finding tables\n");
+    print_tables();
     return 0;
 }
 

@@ -22,6 +22,8 @@ typedef struct request {
 
 int run_list(const request *r);
 int run_check(const request *r);
+int run_table(const request *r);
+int run_find(const request *r);
 int run_get(const request *r);
 int run_new(const request *r);
 int run_add(const request *r);

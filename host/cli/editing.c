@@ -15,6 +15,7 @@
 #include "files.h"
 #include "journals.h"
 #include "kinds.h"
+#include "tables.h"
 #include "undo_file.h"
 #include "undo_store.h"
 #include "words.h"
@@ -110,16 +111,33 @@ static bytes new_file(const editing *e)
     return (bytes){e->c.file, e->c.length};
 }
 
+/*
+ * The new file with its journal's step, or without a journal. The table beside it, if one stands there, is on the disk before the file
+ * changes and takes its place right behind it.
+ */
+static int store(editing *e, step *s)
+{
+    int staged = stage_table(&e->p, new_file(e), &e->c.status);
+    if (staged < 0)
+        return say_edited(e->r->file, OLD_IN_PLACE);
+    in_place answer = s != NULL ? store_pair(&e->p, &e->c.status, new_file(e), &e->j, s)
+                                : replace_file(&e->p, new_file(e), &e->c.status);
+    int error = errno;
+    int settled = staged ? settle_table(&e->p, answer) : CARRIED_OUT;
+    if (s == NULL && answer == NEW_IN_PLACE && e->found == JOURNAL_READY)
+        discard(&e->p, e->p.undo);
+    errno = error;
+    int status = say_edited(e->r->file, answer);
+    return status == CARRIED_OUT ? settled : status;
+}
+
 /* Without a journal. One that knows the present file would not know the new one. */
 static int store_alone(editing *e)
 {
     if (e->found == JOURNAL_READY && e->j.now.edits > 0)
         return say_cannot(e->r->file, "after an edit with --no-undo the earlier edits could not be undone any more",
                           "Leave --no-undo out, or give undoing up first with `blorb forget FILE`.");
-    in_place answer = replace_file(&e->p, new_file(e), &e->c.status);
-    if (answer == NEW_IN_PLACE && e->found == JOURNAL_READY)
-        discard(&e->p, e->p.undo);
-    return say_edited(e->r->file, answer);
+    return store(e, NULL);
 }
 
 static int edit_contents(editing *e, call *carry_out, const data *d, uint8_t *room, size_t size)
@@ -133,7 +151,7 @@ static int edit_contents(editing *e, call *carry_out, const data *d, uint8_t *ro
         return store_alone(e);
     file_id id = id_of(e->c.file, e->c.length);
     step s = edit_step(&e->j, room, (size_t)a.used, &id);
-    return say_edited(e->r->file, store_pair(&e->p, &e->c.status, new_file(e), &e->j, &s));
+    return store(e, &s);
 }
 
 static int edit(const request *r, call *carry_out, const data *d)
@@ -240,7 +258,7 @@ static int undo_contents(editing *e)
     if (at.file.length != 0 && !same_file(&at.file, &id))
         return say_unusable(e->r->file, &e->p, JOURNAL_DAMAGED, 1);
     step s = undo_step(&e->j, room, &at, &id);
-    return say_edited(e->r->file, store_pair(&e->p, &e->c.status, new_file(e), &e->j, &s));
+    return store(e, &s);
 }
 
 int run_undo(const request *r)

@@ -15,8 +15,9 @@
 /* The program's own names end so. A new kind of file beside FILE gets its ending here. */
 #define TEMPORARY ".blorb-temp"
 #define JOURNAL ".undo"
+#define TABLE ".table"
 enum { PRIVATE = 0600 }; /* a temporary file's permissions until it gets the file's */
-static const char *const own_endings[] = {TEMPORARY, JOURNAL};
+static const char *const own_endings[] = {TEMPORARY, JOURNAL, TABLE};
 
 static char *joined(const char *a, const char *b)
 {
@@ -87,6 +88,14 @@ int is_undo_of(const char *path, const char *file)
     return same;
 }
 
+char *table_beside(const char *file)
+{
+    char *real = resolved(file);
+    char *path = real == NULL ? NULL : joined(real, TABLE);
+    free(real);
+    return path;
+}
+
 static int set_names(place *p, const char *path)
 {
     const char *name = strrchr(path, '/') + 1;
@@ -95,7 +104,13 @@ static int set_names(place *p, const char *path)
     p->temp = joined(name, TEMPORARY);
     p->undo = joined(name, JOURNAL);
     p->undo_temp = joined(name, JOURNAL TEMPORARY);
-    return p->undo_path != NULL && p->name != NULL && p->temp != NULL && p->undo != NULL && p->undo_temp != NULL ? 0 : -1;
+    p->table_path = joined(path, TABLE);
+    p->table = joined(name, TABLE);
+    p->table_temp = joined(name, TABLE TEMPORARY);
+    return p->undo_path != NULL && p->name != NULL && p->temp != NULL && p->undo != NULL && p->undo_temp != NULL
+            && p->table_path != NULL && p->table != NULL && p->table_temp != NULL
+        ? 0
+        : -1;
 }
 
 /* One lock for the folder: the file itself is another one after each edit. It ends with the program. */
@@ -149,6 +164,9 @@ void close_place(place *p)
     free(p->undo);
     free(p->undo_temp);
     free(p->undo_path);
+    free(p->table);
+    free(p->table_temp);
+    free(p->table_path);
 }
 
 int read_all(int fd, uint8_t *to, size_t limit, size_t *length)

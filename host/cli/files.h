@@ -17,7 +17,13 @@ typedef struct place {
     char *undo;        /* FILE.undo */
     char *undo_temp;   /* FILE.undo.blorb-temp */
     char *undo_path;   /* FILE.undo with its folder, for messages */
+    char *table;       /* FILE.table */
+    char *table_temp;  /* FILE.table.blorb-temp */
+    char *table_path;  /* FILE.table with its folder, for messages */
 } place;
+
+/* FILE.table, beside the file itself where FILE is a link to it. Gives NULL and errno; ENOENT where FILE has no name, as a pipe. */
+char *table_beside(const char *file);
 
 typedef struct bytes {
     const uint8_t *at;

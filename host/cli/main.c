@@ -28,7 +28,11 @@ static const command commands[] = {
     {"list", "f", "jl", "list FILE [--long | --json]",
      "print the file's length and its resources, in the order of the index; --long and --json print all that is known", run_list},
     {"check", "f", "", "check FILE",
-     "say whether the file keeps every rule, or which one it breaks and where; warn of what is likely to be wrong", run_check},
+     "say whether the file keeps every rule, or which one it breaks and where; warn of what is likely to be wrong; check FILE.table too", run_check},
+    {"table", "f", "", "table FILE",
+     "write the file's finding table to FILE.table; from then on every edit and undo brings it up to date", run_table},
+    {"find", "fun", "", "find FILE USAGE NUMBER",
+     "check FILE.table, and find the start of a resource's chunk by it", run_find},
     {"get", "fun", "oa", "get FILE USAGE NUMBER [-o OUT], or get FILE --all FOLDER",
      "write a resource's data to OUT; without it, or with -, to standard output; --all writes every resource to FOLDER", run_get},
     {"new", "f", "", "new FILE", "make a file with no resources", run_new},
@@ -73,7 +77,7 @@ static void print_help(void)
          "  --as-is    put the data in although its first bytes contradict TYPE\n"
          "  --no-undo  keep nothing for undo\n"
          "  --         what follows are names, also where they begin with -\n"
-         "What undo needs is kept beside the file, in FILE.undo. Names that end in .undo or .blorb-temp are the program's own.\n"
+         "What undo needs is kept beside the file, in FILE.undo. Names that end in .undo, .table or .blorb-temp are the program's own.\n"
          "Exit status: 0 done; 1 the library refused, with its number, place and reason; 2 wrong use, data that contradicts TYPE,\n"
          "or the system failed.");
 }
@@ -255,8 +259,8 @@ static int read_operands(const command *c, const char *wanted, const words *left
 static int refuse_own_names(const request *r)
 {
     if (own_ending(r->file) != NULL)
-        return say_cannot(r->file, "names that end in .undo or .blorb-temp are this program's own, for the journal of a file and for"
-                          " what is being written", "Give the name of the Blorb file itself; if this is one, rename it.");
+        return say_cannot(r->file, "names that end in .undo, .table or .blorb-temp are this program's own, for the journal and the finding"
+                          " table of a file and for what is being written", "Give the name of the Blorb file itself; if this is one, rename it.");
     if (r->data != NULL && is_temporary(r->data))
         return say_cannot(r->data, "names that end in .blorb-temp are this program's own, and the next edit may delete such a file",
                           "Rename it first.");

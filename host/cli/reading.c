@@ -13,6 +13,7 @@
 #include "commands.h"
 #include "contents.h"
 #include "files.h"
+#include "tables.h"
 #include "undo_file.h"
 #include "warnings.h"
 #include "words.h"
@@ -29,6 +30,7 @@ int run_check(const request *r)
     if (status == CARRIED_OUT) {
         printf("accepted %" PRIu64 " bytes %" PRIu64 " resources\n", c.read.length, c.read.count);
         warn_of(&c, r->file);
+        status = check_table(&c, r->file);
     }
     free_contents(&c);
     return status;

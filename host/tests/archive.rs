@@ -40,8 +40,32 @@ mod raw {
         pub used: u64,
     }
 
+    #[repr(C)]
+    pub struct Build {
+        pub refusal: u64,
+        pub place: u64,
+        pub rows: u64,
+    }
+
+    #[repr(C)]
+    pub struct Check {
+        pub refusal: u64,
+        pub place: u64,
+    }
+
+    #[repr(C)]
+    pub struct Search {
+        pub refusal: u64,
+        pub place: u64,
+        pub start: u64,
+        pub probes: u64,
+    }
+
     #[rustfmt::skip]
     extern "C" {
+        pub fn blorb_table_build(file: *const u8, size: usize, table: *mut u32, numbers: usize) -> Build;
+        pub fn blorb_table_check(file: *const u8, size: usize, table: *const u32, numbers: usize) -> Check;
+        pub fn blorb_table_search(table: *const u32, numbers: usize, usage: *const u8, number: u32) -> Search;
         pub fn blorb_read(file: *const u8, size: usize) -> Read;
         pub fn blorb_entry(file: *const u8, size: usize, i: usize) -> Entry;
         pub fn blorb_lookup(file: *const u8, size: usize, usage: *const u8, number: u32) -> Lookup;
@@ -181,6 +205,34 @@ pub fn lookup(file: &mut Lent, usage: &Tag, number: u32) -> Reading<3> {
         return Err(complaint);
     }
     reading(answer.refusal, answer.place, [answer.tag as u64, answer.start, answer.length])
+}
+
+/// A table's slice as it is lent: numbers of four bytes each.
+fn numbers(table: &mut Lent) -> *mut u32 {
+    let pointer = table.pointer() as *mut u32;
+    assert!(pointer as usize % 4 == 0, "a slice of numbers lies at a multiple of four");
+    pointer
+}
+
+pub fn table_build(file: &mut Lent, table: &mut Lent, count: usize) -> Reading<1> {
+    let answer = unsafe { raw::blorb_table_build(file.pointer(), file.size, numbers(table), count) };
+    reading(answer.refusal, answer.place, [answer.rows])
+}
+
+pub fn table_check(file: &mut Lent, table: &mut Lent, count: usize) -> Reading<0> {
+    let answer = unsafe { raw::blorb_table_check(file.pointer(), file.size, numbers(table), count) };
+    reading(answer.refusal, answer.place, [])
+}
+
+/// The start or the refusal, and the probes in both cases.
+pub fn table_search(table: &mut Lent, count: usize, usage: &Tag, number: u32) -> Result<(Result<u64, Refusal>, u64), String> {
+    let mut lent_usage = Lent::new(usage, table.shift + 1);
+    let answer = unsafe { raw::blorb_table_search(numbers(table), count, lent_usage.pointer(), number) };
+    if let Some(complaint) = lent_usage.complaint("usage", usage) {
+        return Err(complaint);
+    }
+    let found = reading(answer.refusal, answer.place, [answer.start])?;
+    Ok((found.map(|[start]| start), answer.probes))
 }
 
 fn edited(answer: raw::Edit) -> Answer {

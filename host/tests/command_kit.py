@@ -80,6 +80,7 @@ SAID = {
     27: ("not in the order of the chunks", "by their starts"), 17: ("second 'RelN' or 'Fspc'", "Pack"),
     18: ("not 2 bytes long", "Pack"), 19: ("not in the index or is a Rect", "Pack"), 21: ("cannot be undone", "journal"),
     22: ("no such resource", "blorb list"), 23: ("shares the chunk", "add it again"), 26: ("nothing to undo", "FILE.undo"),
+    35: ("finding table is not this file's", "blorb table FILE"),
     101: ("would be longer", "smaller data"), 109: ("index's type 'RIdx'", "Pict takes"), 111: ("would have more", "Remove"),
     112: ("no such usage", "Pict, Snd, Data or Exec"), 114: ("does not suit the usage", "Pict takes"),
     115: ("number 0 and no other", "number 0"), 116: ("has a resource with this", "blorb replace"),

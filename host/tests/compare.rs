@@ -8,6 +8,7 @@ mod generate;
 mod large;
 mod reference;
 mod samples;
+mod tables;
 
 use archive::{first_difference, Buffers, Lent};
 use generate::{Rng, PART};
@@ -44,7 +45,7 @@ impl Tally {
         *self.table.entry((row, number)).or_default() += 1;
     }
 
-    fn count_call(&mut self, row: &'static str, number: u64) {
+    pub fn count_call(&mut self, row: &'static str, number: u64) {
         self.calls += 1;
         self.count(row, number);
     }
@@ -59,7 +60,7 @@ impl Tally {
     }
 }
 
-fn hex(bytes: &[u8]) -> String {
+pub fn hex(bytes: &[u8]) -> String {
     if bytes.len() > 20_000 {
         return format!("({} bytes, see the case)", bytes.len());
     }
@@ -136,6 +137,7 @@ pub fn check_file(tally: &mut Tally, rng: &mut Rng, file: &[u8]) {
             found,
         );
     }
+    tables::check(tally, rng, file, &mut lent, &view);
     if let Some(complaint) = lent.complaint("file", file) {
         tally.fail(&format!("reading file={}", hex(file)), &complaint);
     }
@@ -526,6 +528,9 @@ fn rows() -> Vec<(&'static str, Vec<u64>)> {
         ("read", file.clone()),
         ("entry", with(&[22])),
         ("lookup", with(&[22])),
+        ("table_build", with(&[34])),
+        ("table_check", with(&[35])),
+        ("table_search", vec![0, 22]),
         ("blank", vec![0, 24]),
         ("add", with(&[20, 24, 25, 101, 109, 111, 112, 114, 115, 116])),
         ("replace", with(&[20, 22, 23, 24, 25, 101, 109, 114, 119])),

@@ -26,6 +26,7 @@ IS(BLORB_BLANK_SIZE, 24);
 IS(BLORB_ENTRY_SIZE, 12);
 IS(BLORB_HEADER_SIZE, 4 + 4);
 IS(BLORB_RECORD_SIZE, 25 + 4);
+IS(BLORB_ROW_NUMBERS, 3);
 
 /* Usages as numbers: four bytes, big-endian. */
 IS(BLORB_PICT, 0x50696374);
@@ -67,6 +68,10 @@ IS(BLORB_FILE_ROOM, 24);       /* no room in the file buffer */
 IS(BLORB_JOURNAL_ROOM, 25);    /* no room in the journal */
 IS(BLORB_NOTHING_TO_UNDO, 26); /* U is 0, nothing to undo */
 
+/* The refusals of the finding table (02, P2). */
+IS(BLORB_TABLE_ROOM, 34);      /* slice too small */
+IS(BLORB_TABLE_STALE, 35);     /* table isn't this file's */
+
 /* 100 + k: the reader would refuse the resulting file with k. */
 IS(BLORB_RESULT, 100);
 IS(BLORB_RESULT_TOO_LONG, 101);
@@ -107,6 +112,21 @@ LIES_AT(blorb_edit_answer, refusal, 0, uint64_t);
 LIES_AT(blorb_edit_answer, place, 8, uint64_t);
 LIES_AT(blorb_edit_answer, length, 16, uint64_t);
 LIES_AT(blorb_edit_answer, used, 24, uint64_t);
+
+_Static_assert(sizeof(blorb_build_answer) == 24, "blorb_build_answer");
+LIES_AT(blorb_build_answer, refusal, 0, uint64_t);
+LIES_AT(blorb_build_answer, place, 8, uint64_t);
+LIES_AT(blorb_build_answer, rows, 16, uint64_t);
+
+_Static_assert(sizeof(blorb_check_answer) == 16, "blorb_check_answer");
+LIES_AT(blorb_check_answer, refusal, 0, uint64_t);
+LIES_AT(blorb_check_answer, place, 8, uint64_t);
+
+_Static_assert(sizeof(blorb_search_answer) == 32, "blorb_search_answer");
+LIES_AT(blorb_search_answer, refusal, 0, uint64_t);
+LIES_AT(blorb_search_answer, place, 8, uint64_t);
+LIES_AT(blorb_search_answer, start, 16, uint64_t);
+LIES_AT(blorb_search_answer, probes, 24, uint64_t);
 
 /* ---- what every test uses */
 
@@ -739,6 +759,84 @@ static void test_lengths(void)
     }
 }
 
+/* ---- the finding table */
+
+static uint32_t *numbers_in(const lent *l)
+{
+    return (uint32_t *)(void *)l->at;
+}
+
+/* Builds in a slice of that many numbers, which must then hold these rows and filler behind them. */
+static void builds(const image *f, size_t numbers, uint64_t refusal, uint64_t place, const uint32_t *rows, uint64_t count)
+{
+    uint32_t filler;
+    memset(&filler, FILLER, sizeof filler);
+    lent l = lend(f->at, f->length, f->length), t = lend(NULL, 0, 4 * numbers);
+    blorb_build_answer b = blorb_table_build(l.at, l.size, numbers_in(&t), numbers);
+    expect(b.refusal == refusal && b.place == place && b.rows == count, "table: build");
+    for (size_t i = 0; i < numbers; i++)
+        expect(numbers_in(&t)[i] == (i < 3 * count ? rows[i] : filler), "table: the slice after build");
+    expect(f->length == 0 || memcmp(l.at, f->at, f->length) == 0, "table: build leaves the file");
+    give_back(&l);
+    give_back(&t);
+}
+
+static void checks_table(const image *f, const uint32_t *from, size_t numbers, uint64_t refusal, uint64_t place)
+{
+    lent l = lend(f->at, f->length, f->length), t = lend((const uint8_t *)from, 4 * numbers, 4 * numbers);
+    blorb_check_answer c = blorb_table_check(l.at, l.size, numbers_in(&t), numbers);
+    expect(c.refusal == refusal && c.place == place, "table: check");
+    expect(numbers == 0 || memcmp(t.at, from, 4 * numbers) == 0, "table: check leaves the slice");
+    give_back(&l);
+    give_back(&t);
+}
+
+static void searches(const uint32_t *from, size_t numbers, const char *usage, uint32_t number, uint64_t start, uint64_t probes)
+{
+    lent t = lend((const uint8_t *)from, 4 * numbers, 4 * numbers);
+    blorb_search_answer s = blorb_table_search(numbers_in(&t), numbers, usage, number);
+    expect(s.refusal == (start == 0 ? BLORB_NOT_THERE : BLORB_DONE) && s.place == 0 && s.start == start, "table: search");
+    expect(s.probes == probes, "table: probes");
+    give_back(&t);
+}
+
+static void test_table(void)
+{
+    image none = blank(), a = sample_a(), b = sample_b(), s = shared(), empty = {.length = 0};
+    uint32_t rows[] = {BLORB_DATA, 7, 48, BLORB_PICT, 1, 60, 5};
+    uint32_t on_one[] = {BLORB_PICT, 1, 60, BLORB_PICT, 2, 60, BLORB_PICT, 3, 72};
+    builds(&none, 0, 0, 0, rows, 0);
+    builds(&b, 6, 0, 0, rows, 2);
+    builds(&b, 8, 0, 0, rows, 2);
+    builds(&b, 5, 34, 0, rows, 0);
+    builds(&b, 0, 34, 0, rows, 0);
+    builds(&s, 9, 0, 0, on_one, 3);
+    builds(&empty, 9, 2, 0, rows, 0);
+    checks_table(&none, rows, 0, 0, 0);
+    checks_table(&none, rows, 1, 35, 0);
+    checks_table(&b, rows, 6, 0, 0);
+    checks_table(&b, rows, 7, 35, 2);
+    checks_table(&b, rows, 5, 35, 1);
+    checks_table(&b, rows, 0, 35, 0);
+    checks_table(&a, rows, 6, 35, 0);
+    checks_table(&empty, rows, 6, 2, 0);
+    for (size_t i = 0; i < 6; i++)
+        for (int bit = 0; bit < 32; bit++) {
+            uint32_t wrong[6];
+            memcpy(wrong, rows, sizeof wrong);
+            wrong[i] ^= (uint32_t)1 << bit;
+            checks_table(&b, wrong, 6, 35, i / 3);
+        }
+    searches(rows, 0, "Data", 7, 0, 0);
+    searches(rows, 2, "Data", 7, 0, 0);
+    searches(rows, 6, "Data", 7, 48, 2);
+    searches(rows, 6, "Pict", 1, 60, 1);
+    searches(rows, 7, "Pict", 2, 0, 1);
+    searches(rows, 6, "Aaaa", 7, 0, 2);
+    searches(on_one, 9, "Pict", 2, 60, 1);
+    searches(on_one, 9, "Pict", 3, 72, 2);
+}
+
 int main(void)
 {
     for (lending = FROM_MALLOC; lending < LENDINGS; lending++) {
@@ -757,6 +855,7 @@ int main(void)
         test_broken_off();
         test_order();
         test_lengths();
+        test_table();
     }
     printf("interface: %lu checks\ninterface: ok\n", checks);
     return 0;

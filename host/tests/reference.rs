@@ -730,3 +730,59 @@ impl Ledger {
         }
     }
 }
+
+// ---- The finding table ---------------------------------------------------------------------------------------------
+
+/// A row: usage (its four bytes as a number), number, start.
+pub type Row = [u32; 3];
+
+/// The rows of an accepted file's table: they rise by usage, then number.
+pub fn table_rows(view: &Result<View, Refusal>) -> Result<Vec<Row>, Refusal> {
+    let view = view.as_ref().map_err(|&refusal| refusal)?;
+    let row = |entry: &Entry| [u32::from_be_bytes(entry.usage), entry.number, view.spans[entry.chunk].start as u32];
+    let mut rows: Vec<Row> = view.entries.iter().map(row).collect();
+    rows.sort();
+    Ok(rows)
+}
+
+/// The answer of building in this slice, and the slice afterwards. Refusal 34 after the reader's own.
+pub fn table_build(rows: &Result<Vec<Row>, Refusal>, table: &[u32]) -> (Result<[u64; 1], Refusal>, Vec<u32>) {
+    let mut after = table.to_vec();
+    let rows = match rows {
+        Ok(rows) => rows,
+        Err(refusal) => return (Err(*refusal), after),
+    };
+    if table.len() < 3 * rows.len() {
+        return (refuse(34, 0), after);
+    }
+    let numbers = rows.iter().flatten();
+    after.iter_mut().zip(numbers).for_each(|(place, number)| *place = *number);
+    (Ok([rows.len() as u64]), after)
+}
+
+/// The answer of checking this slice. Refusal 35 after the reader's own: the first differing row, or the smaller whole-row count.
+pub fn table_check(rows: &Result<Vec<Row>, Refusal>, table: &[u32]) -> Result<[u64; 0], Refusal> {
+    let rows = rows.as_ref().map_err(|&refusal| refusal)?;
+    if rows.concat() == table {
+        return Ok([]);
+    }
+    let given: Vec<&[u32]> = table.chunks_exact(3).collect();
+    let both = given.len().min(rows.len());
+    refuse(35, (0..both).find(|&i| given[i] != rows[i]).unwrap_or(both))
+}
+
+/// The start, or 22, and the number of rows looked at.
+pub fn table_search(table: &[u32], usage: &Tag, number: u32) -> (Result<u64, Refusal>, u64) {
+    let sought = (u32::from_be_bytes(*usage), number);
+    let (mut low, mut high, mut probes) = (0, table.len() / 3, 0);
+    while low < high {
+        let middle = (low + high) / 2;
+        probes += 1;
+        match (table[3 * middle], table[3 * middle + 1]).cmp(&sought) {
+            std::cmp::Ordering::Equal => return (Ok(table[3 * middle + 2] as u64), probes),
+            std::cmp::Ordering::Less => low = middle + 1,
+            std::cmp::Ordering::Greater => high = middle,
+        }
+    }
+    (refuse(22, 0), probes)
+}

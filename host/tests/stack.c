@@ -13,6 +13,7 @@
 
 enum { PAGE = 4096, STACK = 2 * PAGE, ROOM = 200000, DATA = 40001 };
 static uint8_t file[ROOM], wrong[ROOM], journal[ROOM], data[DATA];
+static uint32_t table[6];
 static ucontext_t outside, inside;
 static int calls;
 
@@ -75,6 +76,9 @@ static void every_call(void)
     done(blorb_read(file, a.length).refusal);
     done(blorb_entry(file, a.length, 1).refusal);
     done(blorb_lookup(file, a.length, "Data", 2).refusal);
+    done(blorb_table_build(file, a.length, table, 6).refusal);
+    done(blorb_table_check(file, a.length, table, 6).refusal);
+    done(blorb_table_search(table, 6, "Data", 2).refusal);
     broken(a.length, 1, a.used, BLORB_NO_PADDING); /* Data 2 is last, with an odd length */
     broken(a.length, 2, a.used, BLORB_CHUNK_LENGTH);
     broken(a.length, DATA, a.used, BLORB_CHUNK_CUT);

@@ -1,3 +1,4 @@
 pub mod Numbers
+pub mod TableNumbers
 pub mod Answered
 pub mod Numbered

@@ -1,21 +1,27 @@
-// The calls of reader and editor for programs in C; include/blorb.h declares them.
+// The calls of reader, editor and table for programs in C; include/blorb.h declares them.
 use blorb::Usage;
 use editor::Answer;
 use editor::Outcome;
 use reader::Asked;
 use reader::Looked;
 use reader::Reading;
+use table::Built;
+use table::Checked;
+use table::Found;
 ghost use mathlib.Core.Path.{_≡_};
 ghost use lib.ListN.{length};
 ghost use lib.Dec.{leb};
 ghost use Rattle.blorb.specs.Bytes.{rd32};
 ghost use Rattle.reader.specs.Reading.{readOf, askedOf, lookupOf};
+ghost use Rattle.rows.specs.Rows.{rowsOf, flat};
+ghost use Rattle.table.specs.Answers.{tableOf, buildOf, written, checkOf, searchOf};
 ghost use Rattle.edits.specs.Edit.{add, replace, remove};
 ghost use Rattle.edits.specs.Run.{edit, undo};
 ghost use Rattle.edits.specs.Blank.{blanked};
 ghost use Rattle.edits.specs.Run.{state};
 ghost use Rattle.editor.specs.Called.{blankAnswer};
 ghost use Rattle.capi.specs.Numbers.{readNumbers, entryNumbers, lookupNumbers, editNumbers};
+ghost use Rattle.capi.specs.TableNumbers.{buildNumbers, checkNumbers, searchNumbers};
 ghost use Rattle.capi.specs.Answered.{Answered};
 
 // In every answer `refusal` is 0 where the call was carried out; then `place` is 0 too. What a refusal leaves out is 0.
@@ -51,6 +57,27 @@ pub struct EditAnswer {
     pub place: usize,
     pub length: usize,
     pub used: usize,
+}
+
+#[repr(C)]
+pub struct BuildAnswer {
+    pub refusal: u64,
+    pub place: usize,
+    pub rows: usize,
+}
+
+#[repr(C)]
+pub struct CheckAnswer {
+    pub refusal: u64,
+    pub place: usize,
+}
+
+#[repr(C)]
+pub struct SearchAnswer {
+    pub refusal: u64,
+    pub place: usize,
+    pub start: u64,
+    pub probes: usize,
 }
 
 // The verdict: the length and the entry count of an accepted file.
@@ -216,4 +243,66 @@ pub extern "C" fn blorb_undo(
     ensures { λ r. ⌜ Answered (state (now (file .entry)) length (now (journal .entry)) used) undo r (now (file .exit)) (now (journal .entry)) ⌝ }
 {
     numbers(editor::undo(file, length, journal, used))
+}
+
+// The file's finding table at the front of the slice.
+#[no_mangle]
+pub extern "C" fn blorb_table_build(file: &[u8], table: &mut [u32]) -> BuildAnswer
+    ensures { λ r. ⌜ (r ≡ buildNumbers (buildOf (now (file .entry)) (length (now (table .entry))))) × (now (table .exit) ≡ written (buildOf (now (file .entry)) (length (now (table .entry)))) (flat (tableOf (now (file .entry)))) (now (table .entry))) ⌝ }
+{
+    match table::build(file, table) {
+        Built::Rows(rows) => BuildAnswer {
+            refusal: 0,
+            place: 0,
+            rows,
+        },
+        Built::Refused { number, place } => BuildAnswer {
+            refusal: number,
+            place,
+            rows: 0,
+        },
+    }
+}
+
+// Whether the whole slice is just this file's table.
+#[no_mangle]
+pub extern "C" fn blorb_table_check(file: &[u8], table: &[u32]) -> CheckAnswer
+    ensures { λ r. ⌜ r ≡ checkNumbers (checkOf (now (file .entry)) (rowsOf (now (table .entry))) (length (now (table .entry)))) ⌝ }
+{
+    match table::check(file, table) {
+        Checked::Accepted => CheckAnswer {
+            refusal: 0,
+            place: 0,
+        },
+        Checked::Refused { number, place } => CheckAnswer {
+            refusal: number,
+            place,
+        },
+    }
+}
+
+// The start in the row (usage, number), and how many rows were looked at.
+#[no_mangle]
+pub extern "C" fn blorb_table_search(table: &[u32], usage: &[u8; 4], number: u32) -> SearchAnswer
+    ensures { λ r. ⌜ r ≡ searchNumbers (searchOf (rowsOf (now (table .entry))) (rd32 (now (usage .entry))) number) ⌝ }
+{
+    let searched = table::search(table, *usage, number);
+    let found = searched.found;
+    match found {
+        Found::At(start) => SearchAnswer {
+            refusal: 0,
+            place: 0,
+            start: start as u64,
+            probes: searched.probes,
+        },
+        Found::Refused {
+            number: missing,
+            place,
+        } => SearchAnswer {
+            refusal: missing,
+            place,
+            start: 0,
+            probes: searched.probes,
+        },
+    }
 }

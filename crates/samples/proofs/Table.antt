@@ -26,7 +26,7 @@ use Rattle.edits.specs.Journal.{recBody, recBytes, removal, recOf, trailer, rec
 use Rattle.reader.specs.Reading.{indexOf, readOf, askedOf, hitIn, lookupOf}
 
 -- opens every definition that a row computes with: a definition opens what its own line names
-computed : ℕ
+unfoldable pub computed : ℕ
 unfolding be32 rd32 sized size chunkBytes chunksBytes total fileBytes chunkIn chunksIn chunksOf entryIn entriesIn entryBytes entriesBytes indexChunk entriesOf isStart placeOf refOf _then_ check headFault chunkFault walkFault secondIndex indexFault pairIn lastPlace refFault entriesFault restFault layoutFault verdict oneOf plainAllows picture typeIn single chunkRule chunkRules optional plainVerdict base startOf entryOf file modelOf model without find uses shared start frontPlace usageOf with-at lower raise entered inserted added replaced removedBoth removedEntry removed givenChunk edited recBody recBytes removal recOf trailer recIn lastBody lastRec zeros wellFormed fits1 fits2 fits3 fits4 fits undo1 undo2 undo3 undo4 undone targetFault editedFile editRecord undoneFile editFault undoFault indexOf readOf askedOf hitIn lookupOf written noted afterEdit afterUndo after fault step run answers blanked blankFile
 computed = 0
 

@@ -1,0 +1,6 @@
+pub mod OrderLaws
+pub mod HalvingLaws
+pub mod RowLaws
+pub mod SortLaws
+pub mod HeapLaws
+pub mod FlatLaws

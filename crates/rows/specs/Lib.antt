@@ -1,0 +1,5 @@
+pub mod Rows
+pub mod Order
+pub mod Halving
+pub mod Bridging
+pub mod Heaps

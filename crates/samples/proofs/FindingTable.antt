@@ -1,0 +1,141 @@
+-- Samples of the finding table (02, P2), in one table under a single statement. For the rows on files and on searches, what the code does follows by
+-- its contracts, which are equations with the definitions that these rows compute (buildOf, checkOf, searchOf). The rows on entries alone compute the parts
+-- of which those consist (written, compared) for an index that no sample file has.
+use mathlib.Core.Path.{refl}
+use Prim.Native.Nat.{ℕ}
+use mathlib.Core.List.{List, [], _∷_, _++_}
+use mathlib.Core.Bool.{true}
+use lib.ListN.{take, set, replicate}
+use Rattle.blorb.specs.All.{All}
+use Rattle.blorb.specs.Format.{Entry}
+use Rattle.blorb.specs.Tags.{Pict, Snd, Data}
+use Rattle.rows.specs.Rows.{listed, rowsOf, flat}
+use Rattle.rows.specs.Order.{insertRow, sorted}
+use Rattle.rows.specs.Halving.{halving}
+use Rattle.table.specs.Answers.{tableOf, buildOf, agree, checkOf, searchOf}
+use Rattle.table.specs.declared.Built.the-variants as built
+use Rattle.table.specs.declared.Checked.the-variants.{Accepted, Refused}
+use Rattle.table.specs.declared.Found.the-variants as found
+use Rattle.samples.specs.Files.{blank, A, B, withoutEel, binary}
+use Rattle.samples.specs.TableRows.{TableRow, builtFor, checkedFor, builds, checks, searches, TableRowHolds}
+use Rattle.samples.proofs.Table.{computed}
+
+-- the index of a file with two pictures and a text, in chunk order
+abbrev index : List Entry
+index = record { usage = Pict; number = 9; start = 60 } ∷ (record { usage = Data; number = 7; start = 72 }
+    ∷ (record { usage = Pict; number = 1; start = 84 } ∷ []))
+
+-- its table: by usage ('Data' before 'Pict'), then number
+abbrev good : List ℕ
+good = Data ∷ (7 ∷ (72 ∷ (Pict ∷ (1 ∷ (84 ∷ (Pict ∷ (9 ∷ (60 ∷ []))))))))
+
+-- the table of B
+abbrev tableB : List ℕ
+tableB = Data ∷ (7 ∷ (48 ∷ (Pict ∷ (1 ∷ (60 ∷ [])))))
+
+unfoldable pub tableSamples : List TableRow
+tableSamples =
+    -- B's table, with room to spare, with just enough, with a number too few; A with padding byte 1; a file of no entries
+    builtFor B (replicate 6 0 ++ (5 ∷ [])) (built.Rows 2) (tableB ++ (5 ∷ [])) ∷ (
+    builtFor B (replicate 6 9) (built.Rows 2) tableB ∷ (
+    builtFor B (replicate 5 9) (built.Refused 34 0) (replicate 5 9) ∷ (
+    builtFor (set A 47 1) (replicate 6 9) (built.Refused 7 47) (replicate 6 9) ∷ (
+    builtFor blank (5 ∷ []) (built.Rows 0) (5 ∷ []) ∷ (
+    -- it is B's, and stale after the removal of Data 7, after a replacement that moves the second start, and for another file
+    checkedFor B tableB Accepted ∷ (
+    checkedFor withoutEel tableB (Refused 35 0) ∷ (
+    checkedFor binary tableB (Refused 35 1) ∷ (
+    checkedFor A (take 3 tableB) (Refused 35 0) ∷ (
+    checkedFor blank tableB (Refused 35 0) ∷ (
+    checkedFor (set A 47 1) tableB (Refused 7 47) ∷ (
+    -- built in a slice with room to spare: what is behind the last row stays
+    builds (0 ∷ (0 ∷ (0 ∷ (0 ∷ (0 ∷ (0 ∷ (0 ∷ (0 ∷ (0 ∷ (5 ∷ (6 ∷ []))))))))))) index (good ++ (5 ∷ (6 ∷ []))) ∷ (
+    builds (5 ∷ []) [] (5 ∷ []) ∷ (
+    checks good index Accepted ∷ (
+    checks [] [] Accepted ∷ (
+    -- a number more, a row too few, a partial row, nothing at all
+    checks (good ++ (0 ∷ [])) index (Refused 35 3) ∷ (
+    checks (take 6 good) index (Refused 35 2) ∷ (
+    checks (take 8 good) index (Refused 35 2) ∷ (
+    checks [] index (Refused 35 0) ∷ (
+    checks (0 ∷ []) [] (Refused 35 0) ∷ (
+    -- a start of last year, in the last row and in the second; the rows in the order of the index
+    checks (set good 8 48) index (Refused 35 2) ∷ (
+    checks (set good 5 72) index (Refused 35 1) ∷ (
+    checks (flat index) index (Refused 35 0) ∷ (
+    -- the middle row at the first look, the others at the second; a pair that is not there; no row at all; a partial row
+    searches good Pict 1 (record { found = found.At 84; probes = 1 }) ∷ (
+    searches good Data 7 (record { found = found.At 72; probes = 2 }) ∷ (
+    searches good Pict 9 (record { found = found.At 60; probes = 2 }) ∷ (
+    searches good Snd 1 (record { found = found.Refused 22 0; probes = 2 }) ∷ (
+    searches [] Data 7 (record { found = found.Refused 22 0; probes = 0 }) ∷ (
+    searches (take 2 good) Data 7 (record { found = found.Refused 22 0; probes = 0 }) ∷ (
+    -- rows out of order may be missed
+    searches (flat index) Pict 9 (record { found = found.Refused 22 0; probes = 2 }) ∷ [])))))))))))))))))))))))))))))
+
+pub table-samples : All TableRowHolds tableSamples
+unfolding computed tableSamples tableOf buildOf checkOf listed rowsOf flat insertRow sorted halving agree searchOf
+table-samples = (
+  (refl, refl),
+  (
+    (refl, refl),
+    (
+      (refl, refl),
+      (
+        (refl, refl),
+        (
+          (refl, refl),
+          (
+            refl,
+            (
+              refl,
+              (
+                refl,
+                (
+                  refl,
+                  (
+                    refl,
+                    (
+                      refl,
+                      (
+                        refl,
+                        (
+                          refl,
+                          (
+                            refl,
+                            (
+                              refl,
+                              (
+                                refl,
+                                (
+                                  refl,
+                                  (
+                                    refl,
+                                    (
+                                      refl,
+                                      (
+                                        refl,
+                                        (
+                                          refl,
+                                          (refl, (refl, (refl, (refl, (refl, (refl, (refl, (refl, (refl, tt))))))))),
+                                        ),
+                                      ),
+                                    ),
+                                  ),
+                                ),
+                              ),
+                            ),
+                          ),
+                        ),
+                      ),
+                    ),
+                  ),
+                ),
+              ),
+            ),
+          ),
+        ),
+      ),
+    ),
+  ),
+)

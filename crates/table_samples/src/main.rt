@@ -1,0 +1,186 @@
+// Runs the finding table on the samples that stand packed on standard input, and says what it answers.
+//
+// A packed sample: four numbers of four bytes (the length of its name, the length of its file, how many numbers its slice
+// has and how many pairs are sought), the name, the file, four bytes for each number of the slice, four bytes of usage
+// and four of number for each pair. The next sample follows at once; tests/make_table_samples.py writes them.
+use libc::STDIN_FILENO;
+use libc::STDOUT_FILENO;
+use table::Built;
+use table::Checked;
+use table::Found;
+ghost use mathlib.Core.Path.{_≡_};
+ghost use Prim.Native.Nat.{_<_};
+ghost use lib.ListN.{length};
+
+fn room() -> [u8; 1048576]
+    ensures { λ r. ⌜ 1048576 ≡ length r ⌝ }
+{
+    [0; 1048576]
+}
+
+fn slice_room() -> [u32; 16384]
+    ensures { λ r. ⌜ 16384 ≡ length r ⌝ }
+{
+    [0; 16384]
+}
+
+fn text(s: &[u8]) {
+    io::write_all(STDOUT_FILENO, s);
+}
+
+fn number(n: u64) {
+    io::print_decimal(STDOUT_FILENO, n);
+}
+
+fn refused(k: u64, place: usize) {
+    text(b"refused ");
+    number(k);
+    text(b" at ");
+    number(place as u64);
+}
+
+fn say_check(file: &[u8], t: &[u32]) {
+    match table::check(file, t) {
+        Checked::Accepted => text(b"accepted"),
+        Checked::Refused { number, place } => refused(number, place),
+    }
+}
+
+fn say_search(t: &[u32], usage: [u8; 4], n: u32) {
+    text(b" ");
+    number(blorb::be32_at(&usage, 0));
+    text(b" ");
+    number(n as u64);
+    text(b": ");
+    let answer = table::search(t, usage, n);
+    let found = answer.found;
+    match found {
+        Found::At(start) => {
+            text(b"at ");
+            number(start as u64);
+        }
+        Found::Refused { number, place } => refused(number, place),
+    }
+    text(b" probes ");
+    number(answer.probes as u64);
+    text(b"\n");
+}
+
+fn wide(x: u32) -> u64
+    ensures { λ r. ⌜ r < 4294967296 ⌝ }
+{
+    x as u64
+}
+
+// A sum of the numbers that depends on their order.
+fn checksum(t: &[u32]) -> u64 {
+    let mut sum = 0;
+    for i in 0..t.len() {
+        sum = sum % 16777213 * 257 + wide(t[i]) + 1;
+    }
+    sum
+}
+
+fn say_build(file: &[u8], t: &mut [u32]) {
+    match table::build(file, t) {
+        Built::Rows(rows) => {
+            text(b"rows ");
+            number(rows as u64);
+        }
+        Built::Refused { number, place } => refused(number, place),
+    }
+    text(b" sum ");
+    number(checksum(t));
+}
+
+// The numbers of `bytes`, four bytes each, at the front of `t`.
+fn load(bytes: &[u8], t: &mut [u32]) {
+    for k in 0..t.len() {
+        let at = 4 * k;
+        let end = at + 4;
+        if bytes.len() < end {
+            return;
+        }
+        t[k] = blorb::be32_at(bytes, at) as u32;
+    }
+}
+
+fn search_all(t: &[u32], pairs: &[u8]) {
+    for k in 0..pairs.len() / 8 {
+        let at = 8 * k;
+        let number = blorb::be32_at(pairs, at + 4) as u32;
+        say_search(
+            t,
+            [pairs[at], pairs[at + 1], pairs[at + 2], pairs[at + 3]],
+            number,
+        );
+    }
+}
+
+// The slice is checked, built anew and, as it was given, searched.
+fn ask(file: &[u8], numbers: &[u8], pairs: &[u8], t: &mut [u32]) {
+    load(numbers, t);
+    say_check(file, t);
+    text(b"; ");
+    say_build(file, t);
+    text(b"; then ");
+    say_check(file, t);
+    text(b"\n");
+    load(numbers, t);
+    search_all(t, pairs);
+}
+
+// A slice of `count` numbers.
+fn ask_slice(file: &[u8], numbers: &[u8], count: usize, pairs: &[u8]) {
+    let mut t = slice_room();
+    if 16384 < count {
+        text(b"too many numbers\n");
+        return;
+    }
+    ask(file, numbers, pairs, &mut t[..count]);
+}
+
+// The sample at `at`. Answers where the next one stands, or 0 where the packing is bad.
+fn sample(s: &[u8], at: usize) -> usize {
+    if s.len() < 16 {
+        return 0;
+    }
+    if s.len() - 16 < at {
+        return 0;
+    }
+    let name = at + 16;
+    let file = name + blorb::be32_at(s, at) as usize;
+    let numbers = file + blorb::be32_at(s, at + 4) as usize;
+    let count = blorb::be32_at(s, at + 8) as usize;
+    let pairs = numbers + 4 * count;
+    let end = pairs + 8 * blorb::be32_at(s, at + 12) as usize;
+    if s.len() < end {
+        return 0;
+    }
+    text(&s[name..file]);
+    text(b": ");
+    ask_slice(&s[file..numbers], &s[numbers..pairs], count, &s[pairs..end]);
+    end
+}
+
+fn samples(s: &[u8]) {
+    let mut at = 0;
+    while at < s.len() {
+        let next = sample(s, at);
+        if next <= at {
+            text(b"bad packing\n");
+            return;
+        }
+        at = next;
+    }
+}
+
+fn main() {
+    let mut buffer = room();
+    let n = io::read_full(STDIN_FILENO, &mut buffer);
+    if 1048575 < n {
+        text(b"too long\n");
+        return;
+    }
+    samples(&buffer[..n]);
+}

@@ -1,0 +1,131 @@
+//! Finding tables: the three calls on every file that the other families make, with slices that are right, stale, cut, longer,
+//! changed or out of order.
+
+use crate::archive::{self, Lent};
+use crate::generate::{self, Rng};
+use crate::reference::{self, Refusal, Row, View};
+use crate::{hex, Tally};
+
+/// The slice's numbers as bytes in the machine's order, as it is lent.
+fn lend(rng: &mut Rng, table: &[u32]) -> Lent {
+    Lent::new(&in_memory(table), rng.pick(&[0, 4, 8]))
+}
+
+fn in_memory(table: &[u32]) -> Vec<u8> {
+    table.iter().flat_map(|number| number.to_ne_bytes()).collect()
+}
+
+fn describe(call: &str, file: &[u8], table: &[u32]) -> String {
+    format!("blorb_table_{call} size={} file={}\n  table={table:?}", file.len(), hex(file))
+}
+
+/// All three calls on this file.
+pub fn check(tally: &mut Tally, rng: &mut Rng, file: &[u8], lent_file: &mut Lent, view: &Result<View, Refusal>) {
+    let rows = reference::table_rows(view);
+    let right: Vec<u32> = rows.as_ref().map_or(Vec::new(), |rows| rows.concat());
+    build(tally, rng, file, lent_file, &rows, right.len());
+    check_slice(tally, rng, file, lent_file, &rows, &right);
+    let other = changed(rng, &right);
+    check_slice(tally, rng, file, lent_file, &rows, &other);
+    for table in [right, other] {
+        searches(tally, rng, file, &table);
+    }
+}
+
+/// Building in a slice with room to spare, just enough, or up to three numbers too few.
+fn build(tally: &mut Tally, rng: &mut Rng, file: &[u8], lent_file: &mut Lent, rows: &Result<Vec<Row>, Refusal>, size: usize) {
+    let size = match rng.below(4) {
+        0 => size,
+        1 => size.saturating_sub(rng.between(1, 3)),
+        2 => size + rng.between(1, 40),
+        _ => rng.below(size + 4),
+    };
+    let before: Vec<u32> = (0..size).map(|_| rng.next() as u32).collect();
+    let (expected, after) = reference::table_build(rows, &before);
+    let mut table = lend(rng, &before);
+    let found = archive::table_build(lent_file, &mut table, size);
+    tally.count_call("table_build", expected.map_or_else(|refusal| refusal.number, |_| 0));
+    if found != Ok(expected) {
+        tally.fail(&describe("build", file, &before), &format!("expected {expected:?}\nfound    {found:?}"));
+    }
+    if let Some(complaint) = table.complaint("table", &in_memory(&after)) {
+        tally.fail(&describe("build", file, &before), &complaint);
+    }
+}
+
+fn check_slice(tally: &mut Tally, rng: &mut Rng, file: &[u8], lent_file: &mut Lent, rows: &Result<Vec<Row>, Refusal>, table: &[u32]) {
+    let expected = reference::table_check(rows, table);
+    let mut lent = lend(rng, table);
+    let found = archive::table_check(lent_file, &mut lent, table.len());
+    tally.count_call("table_check", expected.map_or_else(|refusal| refusal.number, |_| 0));
+    if found != Ok(expected) {
+        tally.fail(&describe("check", file, table), &format!("expected {expected:?}\nfound    {found:?}"));
+    }
+    if let Some(complaint) = lent.complaint("table", &in_memory(table)) {
+        tally.fail(&describe("check", file, table), &complaint);
+    }
+}
+
+/// A table that is not the right one, mostly by a little.
+fn changed(rng: &mut Rng, right: &[u32]) -> Vec<u32> {
+    let (mut table, rows) = (right.to_vec(), right.len() / 3);
+    match rng.below(9) {
+        0 if rows > 0 => table.truncate(rng.below(table.len())),
+        1 if rows > 0 => {
+            let at = rng.below(table.len());
+            table[at] ^= 1 << rng.below(32);
+        }
+        2 if rows > 0 => {
+            let at = rng.below(table.len());
+            table[at] = rng.next() as u32;
+        }
+        3 if rows > 1 => {
+            let (i, j) = (rng.below(rows), rng.below(rows));
+            (0..3).for_each(|k| table.swap(3 * i + k, 3 * j + k));
+        }
+        4 if rows > 0 => {
+            let at = 3 * rng.below(rows);
+            table.drain(at..at + 3);
+        }
+        5 if rows > 0 => {
+            let at = 3 * rng.below(rows);
+            let row = [table[at], table[at + 1], table[at + 2]];
+            table.splice(at..at, row);
+        }
+        6 if rows > 0 => moved(rng, &mut table),
+        7 => table = (0..rng.below(60)).map(|_| rng.next() as u32 >> rng.pick(&[0, 30])).collect(),
+        _ => table.extend((0..rng.between(1, 4)).map(|_| rng.next() as u32)),
+    }
+    table
+}
+
+/// All starts from some row on by the same amount: the table of last year.
+fn moved(rng: &mut Rng, table: &mut [u32]) {
+    let (from, by) = (3 * rng.below(table.len() / 3), rng.pick(&[2, 8, 12, 20]));
+    table[from..].iter_mut().skip(2).step_by(3).for_each(|start| *start = start.wrapping_add(by));
+}
+
+fn searches(tally: &mut Tally, rng: &mut Rng, file: &[u8], table: &[u32]) {
+    let mut lent = lend(rng, table);
+    let rows = table.len() / 3;
+    for _ in 0..3 {
+        let (usage, number) = match rng.below(3) {
+            0 => generate::target(rng, file),
+            _ if rows > 0 => {
+                let i = 3 * rng.below(rows);
+                (table[i].to_be_bytes(), table[i + 1].wrapping_add(rng.pick(&[0, 0, 0, 1, u32::MAX])))
+            }
+            _ => ((rng.next() as u32).to_be_bytes(), rng.next() as u32),
+        };
+        let expected = reference::table_search(table, &usage, number);
+        let found = archive::table_search(&mut lent, table.len(), &usage, number);
+        tally.count_call("table_search", expected.0.map_or_else(|refusal| refusal.number, |_| 0));
+        if found != Ok(expected) {
+            let call = format!("blorb_table_search usage=\"{}\" number={number}\n  table={table:?}", usage.escape_ascii());
+            tally.fail(&call, &format!("expected {expected:?}\nfound    {found:?}"));
+        }
+    }
+    if let Some(complaint) = lent.complaint("table", &in_memory(table)) {
+        tally.fail(&format!("blorb_table_search table={table:?}"), &complaint);
+    }
+}

@@ -1,0 +1,200 @@
+#!/usr/bin/env python3
+"""Makes the run samples of the finding table: crates/table_samples/stdin and crates/table_samples/stdout.
+
+usage: make_table_samples.py            writes both files and says how many samples of each answer there are
+       make_table_samples.py --check    writes nothing; fails where a file is not as it would be written
+
+The program of that crate reads the packed samples and prints what the library answers; `rt check` holds what it prints
+to the file stdout. The expectations come from table_reference.py, written from 02 alone; the check's answer of every
+sample by hand is stated here as well, and this script stops where the reference says another.
+
+A packed sample: four numbers of four bytes (the length of its name, the length of its file, how many numbers its slice
+has and how many pairs are sought), the name, the file, four bytes for each number of the slice, four bytes of usage and
+four of number for each pair. Each slice is checked, then built in, then (as it was given) searched for each pair.
+"""
+import pathlib
+import sys
+from collections import Counter
+
+import table_reference as reference
+from building import Dice, be, blorb, put32
+from reference import DATA, EXEC, PICT, SND
+
+CRATE = pathlib.Path(__file__).resolve().parent.parent / "crates" / "table_samples"
+ROOM = 1_048_576          # the program's buffer; the input has to be shorter
+SLICE = 16_384            # numbers in its longest slice
+GENERATED, SEED = 400, 2
+KIND = {PICT: (b"Rect", bytes(8)), SND: (b"MOD ", b"m"), DATA: (b"TEXT", b"eel"), EXEC: (b"ZCOD", b"z")}
+
+
+def game(pairs):
+    """A file of these pairs in index order, a chunk for each, in the same order."""
+    return blorb([(u, n, k) for k, (u, n) in enumerate(pairs)], [KIND[u] for u, _ in pairs])
+
+
+def shared(numbers):
+    """A file of data resources with these numbers, all on one chunk."""
+    return blorb([(DATA, n, 0) for n in numbers], [KIND[DATA]])
+
+
+def good(s):
+    """The numbers of the file's table."""
+    return reference.build(s, [0] * SLICE)[2][:3 * len(reference.rows_for(s))]
+
+
+def with_at(table, at, x):
+    return table[:at] + [x] + table[at + 1:]
+
+
+def without_row(table, i):
+    return table[:3 * i] + table[3 * i + 3:]
+
+
+def swapped(table, i, j):
+    rows = reference.rows_of(table)
+    rows[i], rows[j] = rows[j], rows[i]
+    return [x for row in rows for x in row]
+
+
+BLANK = game([])
+A = game([(DATA, 7)])
+B = game([(DATA, 7), (PICT, 1)])
+MANY = game([(SND, 3), (PICT, 9), (DATA, 2 ** 32 - 1), (EXEC, 0), (PICT, 2 ** 31), (PICT, 1), (DATA, 0), (SND, 2)])
+FULL = shared((n * 2654435761) % 2 ** 32 for n in range(4096))
+DOUBLE = put32(B, 24 + 12, int.from_bytes(DATA, "big"))      # two entries of one usage; the second chunk does not suit it
+OTHER = game([(SND, 3), (PICT, 9), (DATA, 2 ** 32 - 1), (EXEC, 0), (PICT, 2 ** 31), (PICT, 1), (DATA, 0), (SND, 4)])
+
+
+def by_hand():
+    """(name, file, slice, the check's answer: None where accepted, else number and place)"""
+    a, many, full = good(A), good(MANY), good(FULL)
+    yield "blank file, empty slice", BLANK, [], None
+    yield "blank file, one number", BLANK, [5], (35, 0)
+    yield "blank file, a partial row", BLANK, [1, 2], (35, 0)
+    yield "blank file, a row", BLANK, [1, 2, 3], (35, 0)
+    yield "A", A, a, None
+    yield "A, empty slice", A, [], (35, 0)
+    yield "A, a partial row", A, a[:2], (35, 0)
+    yield "A, a number more", A, a + [0], (35, 1)
+    yield "A, two numbers more", A, a + [0, 0], (35, 1)
+    yield "A, a row more", A, a + a, (35, 1)
+    yield "A, another number", A, with_at(a, 1, 8), (35, 0)
+    yield "A, another start", A, with_at(a, 2, a[2] + 2), (35, 0)
+    yield "B", B, good(B), None
+    yield "B with the table of A", B, a, (35, 0)
+    yield "A with the table of B", A, good(B), (35, 0)
+    yield "many", MANY, many, None
+    yield "many, room to spare", MANY, many + [7] * 100, (35, 8)
+    yield "many, one number short", MANY, many[:-1], (35, 7)
+    yield "many, one row short", MANY, many[:-3], (35, 7)
+    yield "many, the last start", MANY, with_at(many, 23, many[23] + 12), (35, 7)
+    yield "many, a middle number", MANY, with_at(many, 13, many[13] ^ 1), (35, 4)
+    yield "many, the first usage", MANY, with_at(many, 0, 0), (35, 0)
+    yield "many, first and second swapped", MANY, swapped(many, 0, 1), (35, 0)
+    yield "many, the last two swapped", MANY, swapped(many, 6, 7), (35, 6)
+    yield "many, a row left out", MANY, without_row(many, 3), (35, 3)
+    yield "many, a row twice", MANY, many[:9] + many[6:], (35, 3)
+    yield "many, a row twice for another", MANY, many[:9] + many[6:9] + many[12:], (35, 3)
+    yield "many, the table of another game", MANY, good(OTHER), (35, 6)
+    yield "4096 rows", FULL, full, None
+    yield "4096 rows, the last start", FULL, with_at(full, 12287, 0), (35, 4095)
+    yield "refused file, right slice", put32(A, 4, 41), a, (5, 4)
+    yield "refused file, empty slice", DOUBLE, [], (14, 36)
+    yield "no file", b"", [], (2, 0)
+
+
+def questions(table):
+    """Pairs to seek: those of some rows, and pairs that lie before, between and behind."""
+    rows = reference.rows_of(table)
+    picked = range(len(rows)) if len(rows) <= 9 else [0, 1, len(rows) // 2, len(rows) - 2, len(rows) - 1]
+    pairs = [(rows[i][0].to_bytes(4, "big"), rows[i][1]) for i in picked]
+    pairs += [(u, (n + k) % 2 ** 32) for u, n in pairs[:3] for k in (1, 2 ** 32 - 1)]
+    pairs += [(PICT, 1), (SND, 2 ** 32 - 1), (b"\0\0\0\0", 0), (b"\x7f~~~", 0)]
+    return list(dict.fromkeys(pairs))
+
+
+def generated(count, seed):
+    """Files with their entries in chunk order, and slices that are right, stale, cut or changed."""
+    dice = Dice(seed)
+    before = good(A)
+    for i in range(count):
+        pairs = []
+        for _ in range(dice.below(14)):
+            u = dice.one_of((PICT, PICT, SND, DATA, EXEC))
+            pairs.append((u, 0 if u == EXEC else dice.one_of((dice.below(6), dice.below(2 ** 32)))))
+        s = game(list(dict.fromkeys(pairs)))
+        table = good(s)
+        way = dice.below(8)
+        if way == 0 and table:
+            table = with_at(table, dice.below(len(table)), dice.below(2 ** 32))
+        elif way == 1 and table:
+            at = dice.below(len(table))
+            table = with_at(table, at, table[at] ^ 1 << dice.below(32))
+        elif way == 2:
+            table = table[:dice.below(len(table) + 1)]
+        elif way == 3:
+            table = table + [dice.below(2 ** 32) for _ in range(dice.below(5))]
+        elif way == 4:
+            table, before = before, table
+        elif way == 5 and len(table) > 3:
+            table = swapped(table, dice.below(len(table) // 3), dice.below(len(table) // 3))
+        elif way == 6 and table:
+            table = without_row(table, dice.below(len(table) // 3))
+        if dice.below(20) == 0:
+            s = put32(s, 4, dice.below(100))
+        yield f"generated {i}", s, table
+
+
+def checksum(table):
+    """As the program's: knows the order of the numbers."""
+    total = 0
+    for x in table:
+        total = total % 16777213 * 257 + x + 1
+    return total
+
+
+def words(answer):
+    what, *values = answer
+    return {"accepted": "accepted", "refused": "refused {} at {}", "rows": "rows {}", "at": "at {}"}[what].format(*values)
+
+
+def lines(name, s, table, pairs):
+    built = reference.build(s, table)
+    yield (f"{name}: {words(reference.check(s, table))}; {words(built)} sum {checksum(built[-1])}; "
+           f"then {words(reference.check(s, built[-1]))}")
+    for usage, number in pairs:
+        found = reference.search(table, usage, number)
+        yield f" {int.from_bytes(usage, 'big')} {number}: {words(found)} probes {found[-1]}"
+
+
+def packed(name, s, table, pairs):
+    parts = [be(len(name)), be(len(s)), be(len(table)), be(len(pairs)), name.encode(), s]
+    return b"".join(parts + [be(x) for x in table] + [u + be(n) for u, n in pairs])
+
+
+def main():
+    samples = []
+    for name, s, table, stated in by_hand():
+        expected = ("refused", *stated) if stated else ("accepted",)
+        if reference.check(s, table) != expected:
+            sys.exit(f"{name}: by hand {expected}, the reference {reference.check(s, table)}")
+        samples.append((name, s, table, questions(table)))
+    hand = len(samples)
+    samples += [(name, s, table, questions(table)) for name, s, table in generated(GENERATED, SEED)]
+    stdin = b"".join(packed(*x) for x in samples)
+    stdout = "".join(line + "\n" for x in samples for line in lines(*x)).encode()
+    if len(stdin) >= ROOM or max(len(x[2]) for x in samples) > SLICE:
+        sys.exit(f"{len(stdin)} bytes are too many for the program's buffer")
+    for name, content in (("stdin", stdin), ("stdout", stdout)):
+        if "--check" not in sys.argv[1:]:
+            (CRATE / name).write_bytes(content)
+        elif (CRATE / name).read_bytes() != content:
+            sys.exit(f"{CRATE / name} is not what this script makes")
+    for what, ask in (("check", reference.check), ("build", reference.build)):
+        told = Counter(a[1] if a[0] == "refused" else 0 for a in (ask(x[1], x[2]) for x in samples))
+        print(f"{what} by refusal (0: none):", *(f"{k}: {told[k]}" for k in sorted(told)))
+    print(f"{len(samples)} samples ({hand} by hand, {GENERATED} generated), {len(stdin)} bytes, {sum(len(x[3]) for x in samples)} searches")
+
+
+if __name__ == "__main__":
+    main()
