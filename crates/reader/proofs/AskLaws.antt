@@ -12,9 +12,9 @@ use Rattle.blorb.specs.Bytes.{rd32}
 use Rattle.blorb.specs.Format.{Entry, Ref, refOf, chunkIn, entryIn, entriesIn}
 use Rattle.blorb.specs.Verdict.{Rules, Verdict, accept, refuse, entriesFault, knownUsage}
 use Rattle.blorb.specs.Rules.{plainRules, plainVerdict, optional}
-use Rattle.reader.specs.Walk.{chunkFrom, skipAt, chunksFrom}
+use Rattle.chunks.specs.Walk.{chunkFrom, skipAt, chunksFrom}
 use Rattle.blorb.proofs.Checks.{then-accept, check-accept}
-use Rattle.reader.proofs.ChunkLaws.{fine}
+use Rattle.chunks.proofs.ChunkLaws.{fine}
 use Rattle.blorb.proofs.UsageLaws.{known-not}
 use Rattle.reader.specs.Entries.{usageAt, numberAt, startAt, place, earlier}
 use Rattle.blorb.specs.Usages.{usageOf}

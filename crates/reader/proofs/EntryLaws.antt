@@ -17,9 +17,9 @@ use Rattle.blorb.specs.Verdict.{Verdict, accept, refuse, _then_, check, noChunk
 use Rattle.blorb.proofs.Places.{startOf-zero, startOf-placeOf, lower-start}
 use Rattle.blorb.proofs.VerdictLaws.{last-snoc}
 use Rattle.blorb.specs.Rules.{plainAllows}
-use Rattle.reader.specs.Walk.{chunksFrom, walkFrom}
+use Rattle.chunks.specs.Walk.{chunksFrom, walkFrom}
 use Rattle.blorb.proofs.Checks.{pass, stop, holds-last, fails-last, accepts, refuses, then-accept, check-accept}
-use Rattle.reader.proofs.StartLaws.{begun}
+use Rattle.chunks.proofs.StartLaws.{begun}
 use Rattle.blorb.specs.declared.Usage.{Usage}
 use Rattle.blorb.specs.declared.Usage.the-variants.{Exec}
 use Rattle.blorb.specs.declared.Known.the-variants.{Is, Unknown}

@@ -15,9 +15,9 @@ use Rattle.blorb.specs.Format.{Chunk, Entry, Ref, refOf, chunkIn, entryIn, entr
 use Rattle.blorb.specs.Verdict.{Rules, accept, refuse, noChunk, pairIn, refFault, entriesFault, indexFault}
 use Rattle.blorb.specs.Rules.{picture}
 use Rattle.blorb.specs.Tags.{Pict, Rect}
-use Rattle.reader.specs.Walk.{chunkFrom, nextAt, chunksFrom, walkFrom}
-use Rattle.reader.proofs.ChunkLaws.{fine}
-use Rattle.reader.proofs.StartLaws.{begun}
+use Rattle.chunks.specs.Walk.{chunkFrom, nextAt, chunksFrom, walkFrom}
+use Rattle.chunks.proofs.ChunkLaws.{fine, walk-behind}
+use Rattle.chunks.proofs.StartLaws.{begun}
 use Rattle.blorb.proofs.Checks.{pass, stop, holds-last, fails-last, then-accept, check-accept, and-both}
 use Rattle.reader.specs.Entries.{usageAt, numberAt, startAt, place, pairPlace}
 use Rattle.blorb.proofs.UsageLaws.{rd32-take, or-false}
@@ -124,7 +124,7 @@ module _ (f : List ℕ) (h : 12 < length f) (w : walkFrom f 12 ≡ accept) where
       record {
         base = b;
         room = rw (← b) (i .inside);
-        walks = rw (← b) (i .rest);
+        walks = rw (← b) (walk-behind f 12 h w);
         index = index-is l4 e;
         few = few;
         chunks = rw (← b) (i .chunks);

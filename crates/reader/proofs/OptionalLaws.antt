@@ -12,9 +12,9 @@ use Rattle.blorb.specs.Format.{Chunk, Ref, refOf, size, chunkIn, entriesIn}
 use Rattle.blorb.specs.Verdict.{Rules, Verdict, accept, refuse, _then_, check, entriesFault}
 use Rattle.blorb.specs.Rules.{picture, optional, chunkRules, chunkRule, single, typeIn}
 use Rattle.blorb.specs.Tags.{Pict, Rect, RelN, Fspc}
-use Rattle.reader.specs.Walk.{chunkFrom, skipAt, chunksFrom, walkFrom}
-use Rattle.reader.specs.Ordinary.{ordinaryType, allOrdinary}
-use Rattle.reader.proofs.ChunkLaws.{ordinary-not, fine, chunks-end}
+use Rattle.chunks.specs.Walk.{chunkFrom, skipAt, chunksFrom, walkFrom}
+use Rattle.chunks.specs.Ordinary.{ordinaryType, allOrdinary}
+use Rattle.chunks.proofs.ChunkLaws.{ordinary-not, fine, chunks-end}
 use Rattle.blorb.proofs.Checks.{pass, stop, holds-last, fails-last, accepts, refuses, then-accept, check-accept, and-both}
 use Rattle.reader.specs.Entries.{place}
 use Rattle.blorb.proofs.UsageLaws.{or-assoc, or-false}

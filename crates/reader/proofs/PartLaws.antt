@@ -22,8 +22,8 @@ use Rattle.blorb.proofs.AllLaws.{all-getD}
 use Rattle.blorb.proofs.Places.{startOf-zero, startOf-suc, startOf-placeOf}
 use Rattle.blorb.proofs.Accept.{starts-ok}
 use Rattle.blorb.proofs.Checks.{then-accept, check-accept, and-both}
-use Rattle.reader.specs.Walk.{chunkFrom, skipAt, chunksFrom, walkFrom}
-use Rattle.reader.specs.Ordinary.{ordinaryType, allOrdinary}
+use Rattle.chunks.specs.Walk.{chunkFrom, skipAt, chunksFrom, walkFrom}
+use Rattle.chunks.specs.Ordinary.{ordinaryType, allOrdinary}
 use Rattle.reader.specs.Entries.{startAt, place, pairPlace, startAgain}
 use Rattle.reader.specs.Optional.{oneRule, rulesFrom, optionalFault}
 use Rattle.reader.specs.Passed.{Judges, JudgesEntries, Passed, modelAt, Fronts, pickFront, frontFrom}
@@ -40,8 +40,8 @@ use Rattle.reader.specs.declared.Judgement.the-variants as judgement
 use Rattle.reader.specs.declared.Reading.the-variants.{Accepted, Refused}
 use Rattle.reader.specs.Reading.{readBy, readOf}
 use Rattle.reader.proofs.AskLaws.{Good}
-use Rattle.reader.proofs.ChunkLaws.{fine, chunks-end, ordinary-not}
-use Rattle.reader.proofs.StartLaws.{begun, Begun}
+use Rattle.chunks.proofs.ChunkLaws.{fine, chunks-end, ordinary-not}
+use Rattle.chunks.proofs.StartLaws.{begun, Begun}
 use Rattle.reader.proofs.IndexLaws.{length-entriesIn, entry-getD, body-word}
 
 -- an element of a list and of its image

@@ -22,7 +22,7 @@ use Rattle.blorb.specs.Keeps.{KeepsPlain}
 use Rattle.blorb.proofs.Accept.{accept-back, entryOf-refOf}
 use Rattle.blorb.proofs.Exactly.{plain-exactly}
 use Rattle.blorb.proofs.ModelLaws.{entries}
-use Rattle.reader.specs.Walk.{chunkFrom, chunksFrom}
+use Rattle.chunks.specs.Walk.{chunkFrom, chunksFrom}
 use Rattle.reader.specs.Entries.{usageAt, numberAt, startAt, place}
 use Rattle.reader.specs.Optional.{EntriesPassed}
 use Rattle.reader.specs.Passed.{modelAt}
@@ -32,8 +32,8 @@ use Rattle.reader.specs.declared.Asked.the-variants.{Given}
 use Rattle.reader.specs.declared.entries.Hit.the-variants.{At}
 use Rattle.reader.specs.declared.Looked.{Looked}
 use Rattle.reader.specs.declared.Looked.the-variants.{Found, Refused as Missing}
-use Rattle.reader.proofs.ChunkLaws.{fine}
-use Rattle.reader.proofs.StartLaws.{begun}
+use Rattle.chunks.proofs.ChunkLaws.{fine}
+use Rattle.chunks.proofs.StartLaws.{begun}
 use Rattle.reader.proofs.IndexLaws.{entry-getD, hit-start, hit-begun}
 use Rattle.reader.proofs.ReadLaws.{refused}
 use Rattle.reader.proofs.AskLaws.{good, accepted, look-found, read-go, refused-as, known-at, not-unknown, given-as}

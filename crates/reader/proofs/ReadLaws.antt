@@ -10,14 +10,14 @@ use Rattle.blorb.specs.Bytes.{rd32}
 use Rattle.blorb.specs.Format.{refOf, chunkIn, chunksOf, entriesIn, entriesOf}
 use Rattle.blorb.specs.Verdict.{Verdict, accept, refuse, _then_, entriesFault, secondIndex, indexFault, restFault, layoutFault, verdict, headFault}
 use Rattle.blorb.specs.Rules.{plainRules, plainVerdict, optional}
-use Rattle.reader.specs.Walk.{chunkFrom, nextAt, skipAt, chunksFrom, walkFrom, firstFault}
+use Rattle.chunks.specs.Walk.{chunkFrom, nextAt, skipAt, chunksFrom, walkFrom, firstFault}
 use Rattle.blorb.proofs.Checks.{accepts, refuses, check-accept, and-both, then-assoc}
-use Rattle.reader.proofs.ChunkLaws.{fine, chunks-end, first-none}
+use Rattle.chunks.proofs.ChunkLaws.{fine, chunks-end, first-none}
 use Rattle.reader.specs.Entries.{place, entriesFrom, earlier}
 use Rattle.reader.specs.declared.Reading.the-variants.{Accepted, Refused}
 use Rattle.reader.specs.Reading.{indexOf, readBy, readOf}
 use Rattle.blorb.specs.Model.{base, model, modelOf}
-use Rattle.reader.specs.Ordinary.{allOrdinary}
+use Rattle.chunks.specs.Ordinary.{allOrdinary}
 use Rattle.reader.specs.Optional.{optionalFault, EntriesPassed}
 use Rattle.reader.specs.Passed.{modelAt}
 use Rattle.reader.proofs.IndexLaws.{Shaped, shaped, length-entriesIn}

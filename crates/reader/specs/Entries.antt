@@ -11,7 +11,7 @@ use Rattle.blorb.specs.Format.{Entry, Ref, refOf, entryIn, entriesIn, isStart}
 use Rattle.blorb.specs.Verdict.{Verdict, accept, refuse, _then_, check, knownUsage, entriesFault, lastPlace}
 use Rattle.blorb.specs.Model.{startOf}
 use Rattle.blorb.specs.Rules.{plainAllows, plainRules}
-use Rattle.reader.specs.Walk.{chunkFrom, chunksFrom}
+use Rattle.chunks.specs.Walk.{chunkFrom, chunksFrom}
 use Rattle.blorb.specs.declared.Usage.the-variants.{Exec}
 use Rattle.reader.specs.declared.entries.Judged.{Judged}
 use Rattle.reader.specs.declared.entries.Judged.the-variants.{At, Fault}

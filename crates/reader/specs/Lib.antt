@@ -1,5 +1,3 @@
-pub mod Walk
-pub mod Ordinary
 pub mod Entries
 pub mod Optional
 pub mod Reading

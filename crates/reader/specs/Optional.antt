@@ -9,7 +9,7 @@ use Rattle.blorb.specs.Bytes.{rd32}
 use Rattle.blorb.specs.Format.{Chunk, size, entriesIn}
 use Rattle.blorb.specs.Verdict.{Rules, Verdict, accept, _then_, check, entriesFault}
 use Rattle.blorb.specs.Tags.{Pict, Rect, RelN, Fspc}
-use Rattle.reader.specs.Walk.{chunksFrom, walkFrom}
+use Rattle.chunks.specs.Walk.{chunksFrom, walkFrom}
 use Rattle.reader.specs.Entries.{place}
 use Rattle.reader.specs.declared.entries.Hit.{Hit}
 use Rattle.reader.specs.declared.entries.Hit.the-variants.{At, Nothing}

@@ -10,8 +10,8 @@ use Rattle.blorb.specs.Format.{Chunk, size, refOf, entriesIn}
 use Rattle.blorb.specs.Verdict.{accept}
 use Rattle.blorb.specs.Tags.{Fspc}
 use Rattle.blorb.specs.Model.{Model}
-use Rattle.reader.specs.Ordinary.{allOrdinary}
-use Rattle.reader.specs.Walk.{chunksFrom}
+use Rattle.chunks.specs.Ordinary.{allOrdinary}
+use Rattle.chunks.specs.Walk.{chunksFrom}
 use Rattle.reader.specs.Entries.{place}
 use Rattle.reader.specs.Optional.{optionalFault, EntriesPassed}
 use Rattle.reader.specs.Reading.{readBy, readOf}

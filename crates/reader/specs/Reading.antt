@@ -8,7 +8,7 @@ use Rattle.blorb.specs.Format as format
 use Rattle.blorb.specs.Format.{chunksOf, entriesOf}
 use Rattle.blorb.specs.Verdict.{Verdict, accept, refuse, noChunk}
 use Rattle.blorb.specs.Rules.{plainVerdict}
-use Rattle.reader.specs.Walk.{chunkFrom}
+use Rattle.chunks.specs.Walk.{chunkFrom}
 use Rattle.blorb.specs.declared.Known.{Known}
 use Rattle.blorb.specs.declared.Known.the-variants.{Is, Unknown}
 use Rattle.blorb.specs.declared.Entry.{Entry}

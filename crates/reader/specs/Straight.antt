@@ -6,8 +6,8 @@ use mathlib.Core.Bool.{Bool, true, _&&_}
 use lib.ListN.{length, drop}
 use Rattle.blorb.specs.Format.{isStart}
 use Rattle.blorb.specs.Verdict.{accept, chunkFault, secondIndex}
-use Rattle.reader.specs.Walk.{chunksFrom, walkFrom, Reached}
-use Rattle.reader.specs.Ordinary.{allOrdinary, Along}
+use Rattle.chunks.specs.Walk.{chunksFrom, walkFrom, Reached}
+use Rattle.chunks.specs.Ordinary.{allOrdinary, Along}
 use Rattle.reader.specs.Entries.{startAt, place, entryFault, entriesFrom, Before}
 use Rattle.reader.specs.Passed.{JudgesEntries}
 use Rattle.reader.specs.declared.Judgement.the-variants as judgement

@@ -1,8 +1,7 @@
 // The entries of an index, and refusals 12 to 16 and 27.
-use crate::chunks;
-use crate::chunks::Check;
 use blorb::Known;
 use blorb::Usage;
+use chunks::Check;
 ghost use mathlib.Core.Path.{_≡_};
 ghost use Prim.Native.Nat.{_+_, _*_, _≤_, _<_};
 ghost use mathlib.Core.Bool.{_||_, not};
@@ -12,7 +11,7 @@ ghost use Rattle.blorb.specs.Verdict.{accept, refuse, chunkFault, indexFault};
 ghost use Rattle.blorb.specs.Format.{isStart, entriesIn};
 ghost use Rattle.blorb.specs.Usages.{codeOf};
 ghost use Rattle.blorb.specs.declared.Usage.the-variants.{Exec};
-ghost use Rattle.reader.specs.Walk.{chunkFrom, chunksFrom, walkFrom, verdictOf, Reached};
+ghost use Rattle.chunks.specs.Walk.{chunkFrom, chunksFrom, walkFrom, verdictOf, Reached};
 ghost use Rattle.reader.specs.Entries.{startAt, place, typedAt, entryFault, unstartedFault, judgedBy, samePair, usageAt, numberAt, slotOf, entriesFrom, pairPlace};
 ghost use Rattle.reader.specs.Reading.{hitIn};
 

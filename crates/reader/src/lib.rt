@@ -6,7 +6,6 @@ use chunks::Check;
 use entries::Hit;
 use straight::Straight;
 
-mod chunks;
 mod entries;
 mod optional;
 mod parts;

@@ -1,9 +1,8 @@
 // Refusals 17 to 19: the optional chunks 'RelN' and 'Fspc'.
-use crate::chunks;
-use crate::chunks::Check;
 use crate::entries::Hit;
 use crate::entries::find;
 use blorb::Usage;
+use chunks::Check;
 ghost use mathlib.Core.Path.{_≡_};
 ghost use Prim.Native.Nat.{_+_, _≤_, _<_};
 ghost use lib.ListN.{length, drop};
@@ -11,7 +10,7 @@ ghost use lib.Dec.{eqb};
 ghost use mathlib.Core.Bool.{_||_};
 ghost use Rattle.blorb.specs.Bytes.{rd32};
 ghost use Rattle.blorb.specs.Verdict.{accept, check};
-ghost use Rattle.reader.specs.Walk.{chunkFrom, walkFrom, verdictOf};
+ghost use Rattle.chunks.specs.Walk.{chunkFrom, walkFrom, verdictOf};
 ghost use Rattle.reader.specs.Optional.{pictured, singleBy, oneRule, optionalFault, EntriesPassed};
 
 // Refusals 17 and 18 of an optional chunk at `at`: the first of its type, unless one stands `before`, with `right` bytes of data.

@@ -1,9 +1,8 @@
 // The straight way through a file that turns out good: chunks and entries side by side, in one pass.
-use crate::chunks;
-use crate::chunks::Check;
 use crate::entries;
 use blorb::Known;
 use blorb::Usage;
+use chunks::Check;
 ghost use mathlib.Core.Path.{_≡_};
 ghost use Prim.Native.Nat.{ℕ, _+_, _≤_, _<_};
 ghost use mathlib.Core.Bool.{Bool, true, false};

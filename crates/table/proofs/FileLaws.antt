@@ -9,11 +9,11 @@ use Rattle.blorb.specs.Format.{Entry, Ref, refOf, entriesIn}
 use Rattle.blorb.specs.Verdict.{Rules, accept, entriesFault, pairIn}
 use Rattle.blorb.specs.Rules.{plainVerdict}
 use Rattle.blorb.specs.All.{All}
-use Rattle.reader.specs.Walk.{walkFrom, chunksFrom}
+use Rattle.chunks.specs.Walk.{walkFrom, chunksFrom}
 use Rattle.reader.specs.Entries.{place}
 use Rattle.reader.specs.Reading.{indexOf, readOf}
 use Rattle.reader.specs.declared.Reading.the-variants.{Accepted}
-use Rattle.reader.proofs.ChunkLaws.{neither}
+use Rattle.chunks.proofs.ChunkLaws.{neither}
 use Rattle.reader.proofs.EntryLaws.{pair-snoc}
 use Rattle.reader.proofs.IndexLaws.{first-entry}
 use Rattle.reader.proofs.AskLaws.{Good, accepted}

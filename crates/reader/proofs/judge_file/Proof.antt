@@ -1,6 +1,6 @@
 use mathlib.Core.Path.{sym, ap, _∙_}
 use Rattle.blorb.specs.Verdict.{accept, refuse}
-use Rattle.reader.specs.Walk.{verdictOf}
+use Rattle.chunks.specs.Walk.{verdictOf}
 use Rattle.reader.proofs.OptionalLaws.{ordinary-optional}
 use Rattle.reader.proofs.PartLaws.{entries-no, entries-good, rest-is}
 use borrow.Author.Needs.{needs}

@@ -2,9 +2,9 @@ use denote.Ref.{now}
 use native.Mathlib.Omega.{arith}
 use mathlib.Core.Path.{sym, ap, _∙_}
 use Prim.Native.Nat.{ℕ}
-use Rattle.reader.specs.Ordinary.{allOrdinary}
-use Rattle.reader.specs.Walk.{verdictOf, chunksFrom}
-use Rattle.reader.proofs.ChunkLaws.{fine, walked}
+use Rattle.chunks.specs.Ordinary.{allOrdinary}
+use Rattle.chunks.specs.Walk.{verdictOf, chunksFrom}
+use Rattle.chunks.proofs.ChunkLaws.{fine, walked}
 use Rattle.reader.proofs.IndexLaws.{shaped}
 use Rattle.reader.proofs.ReadLaws.{first-long, is-shaped, is-judged, ordinary-behind, read-1, read-2, read-3, read-4, read-5, read-6, read-rest}
 use borrow.Author.Needs.{needs}
@@ -13,11 +13,11 @@ use Rattle.reader.proofs.judge_in_turn.Tie as tie
 use Rattle.reader.proofs.judge_in_turn.Reads as reads
 use Rattle.reader.proofs.judge_in_turn.Lts as lts
 use Rattle.blorb.proofs.be32_at.Reads as be32-at-reads
-use Rattle.reader.proofs.chunks.first.Reads as first-reads
-use Rattle.reader.proofs.chunks.head.Reads as head-reads
-use Rattle.reader.proofs.chunks.second_if.Reads as second-if-reads
-use Rattle.reader.proofs.chunks.skip.Reads as skip-reads
-use Rattle.reader.proofs.chunks.walk.Reads as walk-reads
+use Rattle.chunks.proofs.first.Reads as first-reads
+use Rattle.chunks.proofs.head.Reads as head-reads
+use Rattle.chunks.proofs.second_if.Reads as second-if-reads
+use Rattle.chunks.proofs.skip.Reads as skip-reads
+use Rattle.chunks.proofs.walk.Reads as walk-reads
 use Rattle.reader.proofs.entries.entries.Reads as entries-reads
 use Rattle.reader.proofs.entries.shape.Reads as shape-reads
 

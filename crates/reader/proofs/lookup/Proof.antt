@@ -1,6 +1,6 @@
 use native.Mathlib.Omega.{arith}
 use mathlib.Core.Path.{sym, _∙_}
-use Rattle.reader.proofs.ChunkLaws.{fine}
+use Rattle.chunks.proofs.ChunkLaws.{fine}
 use Rattle.reader.proofs.IndexLaws.{hit-begun}
 use Rattle.reader.proofs.AskLaws.{accepted, refused-as, look-no, look-22, look-found}
 use borrow.Author.Needs.{needs}

@@ -4,7 +4,7 @@ use Rattle.reader.proofs.entries.begins_behind.Statement.{statement}
 use Rattle.reader.proofs.entries.begins_behind.Tie as tie
 use Rattle.reader.proofs.entries.begins_behind.Reads as reads
 use Rattle.reader.proofs.entries.begins_behind.Lts as lts
-use Rattle.reader.proofs.chunks.begins.Reads as begins-reads
+use Rattle.chunks.proofs.begins.Reads as begins-reads
 
 -- src/entries.rt:141:9
 begins-requires : tie.Need-begins-requires

@@ -5,10 +5,10 @@ use mathlib.Core.Path.{_≡_, refl, sym, ap, _∙_}
 use mathlib.Core.Bool.{false}
 use lib.ListN.{length, getD, length-set}
 use denote.Ref.{now}
-use Rattle.reader.specs.declared.chunks.Check.the-variants.{Good}
-use Rattle.reader.specs.Walk.{walkFrom, Reached}
+use Rattle.chunks.specs.declared.Check.the-variants.{Good}
+use Rattle.chunks.specs.Walk.{walkFrom, Reached}
 use Rattle.blorb.specs.Verdict.{accept, pairIn}
-use Rattle.reader.proofs.StartLaws.{begun, resume}
+use Rattle.chunks.proofs.StartLaws.{begun, resume}
 use Rattle.reader.specs.Entries.{usageAt, numberAt, startAt, place, earlier, entriesFrom, entryFault, Before, Below, slotOf}
 use Rattle.reader.proofs.EntryLaws.{judged-at, judged-fault, entry-start, entry-stop, pair-stop, pair-more, pair-hit, order-stop, entries-next, before-next, before-none, entries-end, fresh, pair-none, topped, below-next, below-same}
 use Rattle.reader.proofs.entries.entries.Statement.{statement}

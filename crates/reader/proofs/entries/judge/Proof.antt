@@ -1,7 +1,7 @@
 use mathlib.Core.Path.{sym, _∙_}
 use borrow.Author.Tests.{not-true, not-false}
-use Rattle.reader.proofs.ChunkLaws.{walk-chunk}
-use Rattle.reader.proofs.StartLaws.{begun}
+use Rattle.chunks.proofs.ChunkLaws.{walk-chunk}
+use Rattle.chunks.proofs.StartLaws.{begun}
 use Rattle.reader.proofs.EntryLaws.{unstarted, by-12, by-14, by-15, by-good}
 use borrow.Author.Needs.{needs}
 use Rattle.reader.proofs.entries.judge.Statement.{statement}

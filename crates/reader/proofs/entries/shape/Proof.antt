@@ -1,4 +1,4 @@
-use Rattle.reader.proofs.ChunkLaws.{fine}
+use Rattle.chunks.proofs.ChunkLaws.{fine}
 use native.Mathlib.Omega.{arith}
 use Rattle.reader.proofs.IndexLaws.{shape-short, shape-room, shape-other, shape-many, shape-good}
 use borrow.Author.Needs.{needs}

@@ -2,7 +2,7 @@ use Prim.Native.Nat.{ℕ, _+_}
 use denote.Ref.{now}
 use native.Mathlib.Omega.{arith}
 use mathlib.Core.Path.{refl, ap, _∙_}
-use Rattle.reader.proofs.ChunkLaws.{whole}
+use Rattle.chunks.proofs.ChunkLaws.{whole}
 use Rattle.reader.proofs.EntryLaws.{typed-at}
 use borrow.Author.Needs.{needs}
 use Rattle.reader.proofs.entries.typed.Statement.{statement}

@@ -1,7 +1,7 @@
 use mathlib.Core.Path.{sym, _∙_}
 use native.Mathlib.Omega.{arith}
 use denote.Ref.{now}
-use Rattle.reader.proofs.ChunkLaws.{fine}
+use Rattle.chunks.proofs.ChunkLaws.{fine}
 use Rattle.reader.proofs.IndexLaws.{hit-begun}
 use Rattle.reader.proofs.OptionalLaws.{front-none, front-rect, front-there}
 use borrow.Author.Needs.{needs}

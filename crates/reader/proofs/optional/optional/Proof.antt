@@ -1,6 +1,6 @@
-use Rattle.reader.specs.Walk.{walkFrom, chunksFrom, verdictOf}
+use Rattle.chunks.specs.Walk.{walkFrom, chunksFrom, verdictOf}
 use Rattle.blorb.specs.Verdict.{accept}
-use Rattle.reader.proofs.ChunkLaws.{fine, walked}
+use Rattle.chunks.proofs.ChunkLaws.{fine, walked}
 use borrow.Author.Needs.{needs}
 use native.Mathlib.Omega.{arith}
 use mathlib.Core.Path.{_≡_, refl, sym, ap, _∙_}
@@ -14,7 +14,7 @@ use Rattle.reader.proofs.optional.optional.Tie as tie
 use Rattle.reader.proofs.optional.optional.Reads as reads
 use Rattle.reader.proofs.optional.optional.Lts as lts
 use Rattle.blorb.proofs.be32_at.Reads as be32-at-reads
-use Rattle.reader.proofs.chunks.skip.Reads as skip-reads
+use Rattle.chunks.proofs.skip.Reads as skip-reads
 use Rattle.reader.proofs.optional.optional_chunk.Reads as optional-chunk-reads
 
 abbrev Inv-loop : tie.InvT-loop

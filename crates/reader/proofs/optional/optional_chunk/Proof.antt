@@ -1,7 +1,7 @@
 use mathlib.Core.Path.{sym, ap, _∙_}
 use native.Mathlib.Omega.{arith}
-use Rattle.reader.specs.Walk.{verdictOf}
-use Rattle.reader.proofs.ChunkLaws.{fine}
+use Rattle.chunks.specs.Walk.{verdictOf}
+use Rattle.chunks.proofs.ChunkLaws.{fine}
 use Rattle.reader.proofs.OptionalLaws.{single-length, rule-none, rule-reln, fspc-stop, fspc-on}
 use borrow.Author.Needs.{needs}
 use Rattle.reader.proofs.optional.optional_chunk.Statement.{statement}

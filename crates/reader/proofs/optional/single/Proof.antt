@@ -1,5 +1,5 @@
 use native.Mathlib.Omega.{arith}
-use Rattle.reader.proofs.ChunkLaws.{fine}
+use Rattle.chunks.proofs.ChunkLaws.{fine}
 use Rattle.reader.proofs.OptionalLaws.{single-17, single-18, single-good}
 use borrow.Author.Needs.{needs}
 use Rattle.reader.proofs.optional.single.Statement.{statement}

@@ -1,10 +1,10 @@
-use Rattle.reader.proofs.StartLaws.{before-base}
+use Rattle.chunks.proofs.StartLaws.{before-base}
 use borrow.Author.Needs.{needs}
 use Rattle.reader.proofs.parts.begins_at.Statement.{statement}
 use Rattle.reader.proofs.parts.begins_at.Tie as tie
 use Rattle.reader.proofs.parts.begins_at.Reads as reads
 use Rattle.reader.proofs.parts.begins_at.Lts as lts
-use Rattle.reader.proofs.chunks.begins.Reads as begins-reads
+use Rattle.chunks.proofs.begins.Reads as begins-reads
 
 -- src/parts.rt:99:9
 returns : tie.Need-returns

@@ -6,18 +6,18 @@ use Prim.Native.Nat.{_+_, _-_, _≤_}
 use denote.Ref.{now}
 use lib.ListN.{length, drop}
 use Rattle.blorb.specs.Verdict.{accept, chunkFault}
-use Rattle.reader.specs.Walk.{verdictOf}
+use Rattle.chunks.specs.Walk.{verdictOf}
 use Rattle.reader.specs.Straight.{CameTo}
-use Rattle.reader.proofs.ChunkLaws.{chunk-good-header}
+use Rattle.chunks.proofs.ChunkLaws.{chunk-good-header}
 use Rattle.reader.proofs.StraightLaws.{came-none, came-next}
 use Rattle.reader.proofs.straight.pass_over.Statement.{statement}
 use Rattle.reader.proofs.straight.pass_over.Tie as tie
 use Rattle.reader.proofs.straight.pass_over.Reads as reads
 use Rattle.reader.proofs.straight.pass_over.Lts as lts
 use Rattle.blorb.proofs.be32_at.Reads as be32-at-reads
-use Rattle.reader.proofs.chunks.chunk.Reads as chunk-reads
-use Rattle.reader.proofs.chunks.is_ordinary.Reads as is-ordinary-reads
-use Rattle.reader.proofs.chunks.skip.Reads as skip-reads
+use Rattle.chunks.proofs.chunk.Reads as chunk-reads
+use Rattle.chunks.proofs.is_ordinary.Reads as is-ordinary-reads
+use Rattle.chunks.proofs.skip.Reads as skip-reads
 
 abbrev Inv-loop : tie.InvT-loop
 Inv-loop s from to at₀ ordinary₀ at ordinary = CameTo s from at ordinary

@@ -8,7 +8,7 @@ use denote.Ref.{now}
 use lib.ListN.{length, length-set}
 use borrow.Author.Tests.{not-false}
 use Rattle.blorb.specs.Verdict.{accept}
-use Rattle.reader.specs.Walk.{walkFrom}
+use Rattle.chunks.specs.Walk.{walkFrom}
 use Rattle.reader.specs.Entries.{usageAt, numberAt, startAt, place, Below, slotOf}
 use Rattle.reader.specs.Straight.{Stands, SoFar}
 use Rattle.reader.proofs.EntryLaws.{topped, below-next}

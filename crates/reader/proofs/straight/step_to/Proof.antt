@@ -5,9 +5,9 @@ use mathlib.Core.Path.{_≡_, sym, ap, _∙_}
 use denote.Ref.{now}
 use lib.ListN.{length, drop}
 use Rattle.blorb.specs.Verdict.{accept, chunkFault}
-use Rattle.reader.specs.Walk.{verdictOf}
+use Rattle.chunks.specs.Walk.{verdictOf}
 use Rattle.reader.specs.Straight.{CameTo}
-use Rattle.reader.proofs.ChunkLaws.{chunk-good-header}
+use Rattle.chunks.proofs.ChunkLaws.{chunk-good-header}
 use Rattle.reader.proofs.StraightLaws.{step-same, step-on}
 use borrow.Author.Needs.{needs}
 use Rattle.reader.proofs.straight.step_to.Statement.{statement}
@@ -15,9 +15,9 @@ use Rattle.reader.proofs.straight.step_to.Tie as tie
 use Rattle.reader.proofs.straight.step_to.Reads as reads
 use Rattle.reader.proofs.straight.step_to.Lts as lts
 use Rattle.blorb.proofs.be32_at.Reads as be32-at-reads
-use Rattle.reader.proofs.chunks.chunk.Reads as chunk-reads
-use Rattle.reader.proofs.chunks.is_ordinary.Reads as is-ordinary-reads
-use Rattle.reader.proofs.chunks.skip.Reads as skip-reads
+use Rattle.chunks.proofs.chunk.Reads as chunk-reads
+use Rattle.chunks.proofs.is_ordinary.Reads as is-ordinary-reads
+use Rattle.chunks.proofs.skip.Reads as skip-reads
 use Rattle.reader.proofs.straight.pass_over.Reads as pass-over-reads
 
 returns : tie.Need-returns
