@@ -5,6 +5,9 @@
  * resource up, edit it in place, take edits back, and keep a finding table beside it. docs/RULES.md of the library's source says what a
  * file must keep and what each call makes of it.
  *
+ * Each call that takes a Blorb file takes a profile as well: BLORB_PLAIN, or BLORB_ADRIFT for files of the ADRIFT house, which may have a few
+ * types more. Whoever edits in C is best served by the functions over blorb_editor at the end, which keep the lengths and the profile.
+ *
  * What is promised of every call, for all bytes, lengths and numbers that can be given to it:
  *
  *   - It answers. Nothing is allocated, nothing is kept between calls, no lock is taken, and nothing is printed. 8 KB of stack are
@@ -15,15 +18,16 @@
  *     back are those given.
  *   - No byte outside the lent buffers is read or written.
  *
- * These promises are proved of the library's code. That this header declares that code is not proved but tested (host/test). The library
- * is made for x86-64 only, and the header for machines where size_t has 64 bits. The promises rest on what the caller lends:
+ * These promises are proved of the library's code. That this header declares that code is not proved but tested (host/test), and so are
+ * blorb_sentence and the functions over blorb_editor, which are plain C. The library is made for x86-64 only, and the header for machines
+ * where size_t has 64 bits. The promises rest on what the caller lends:
  *
  *   - A pointer and the size_t that follows it name one array of that many bytes (of a table: of that many numbers of 32 bits), which
  *     nothing else writes during the call. A pointer may be null where its size is 0 (this is tested, not proved).
  *   - Buffers that a call may write (no const) overlap no other buffer of the same call.
  *   - `usage` and `type` point at four bytes, such as "Pict" or "TEXT". No closing zero is needed.
  *
- * Every call but blorb_blank judges the whole file first, each time. It looks at no data, so the time does not depend on the size of the
+ * Every call that takes a profile judges the whole file first, each time. It looks at no data, so the time does not depend on the size of the
  * resources. It is proportional to entries + chunks where the numbers of each usage rise from entry to entry. Where they do not, earlier
  * pairs are looked through as well, and the time can grow to chunks + entries * entries. This holds for refused files too. An edit besides
  * moves the bytes behind what it changes, once.
@@ -49,6 +53,16 @@
 extern "C" {
 #endif
 
+/* The version of this header, as one number major * 1000000 + minor * 1000 + patch. A major version may change what a call takes. */
+#define BLORB_VERSION_MAJOR 2
+#define BLORB_VERSION_MINOR 0
+#define BLORB_VERSION_PATCH 0
+#define BLORB_VERSION (BLORB_VERSION_MAJOR * 1000000 + BLORB_VERSION_MINOR * 1000 + BLORB_VERSION_PATCH)
+#define BLORB_VERSION_TEXT "2.0.0"
+
+/* The version of the archive that the program is linked with: BLORB_VERSION, where header and archive belong together. */
+uint32_t blorb_version(void);
+
 /* Sizes. */
 enum {
     BLORB_MAX_SIZE = 16777216, /* bytes in a file, at most */
@@ -68,12 +82,21 @@ enum {
 #define BLORB_DATA BLORB_TAG('D', 'a', 't', 'a')
 #define BLORB_EXEC BLORB_TAG('E', 'x', 'e', 'c')
 
+/* Profiles: which types a resource may have. Every other number is refused with BLORB_PROFILE by each call that takes one. */
+enum {
+    BLORB_PLAIN = 0,
+    BLORB_ADRIFT = 1 /* besides, 'GIF ' under Pict and 'WAV ', 'MIDI', 'MP3 ' under Snd; what is accepted as plain is accepted here too */
+};
+
 /*
  * Refusals. Those of the file are looked for in the order in which they stand here, but 6, 28, 29 and 7 chunk by
  * chunk, 12 to 16 and 27 entry by entry, and 17 to 19 chunk by chunk again: the first faulty chunk or entry decides.
  */
 enum {
     BLORB_DONE = 0,
+
+    /* The profile, before everything else. */
+    BLORB_PROFILE = 52,         /* unknown profile; place 0 */
 
     /* The file. "Entry" is the entry's first byte in the index. */
     BLORB_TOO_LONG = 1,         /* longer than BLORB_MAX_SIZE; place 0 */
@@ -91,7 +114,7 @@ enum {
     BLORB_TOO_MANY = 11,        /* more than BLORB_MAX_ENTRIES entries; place 20 */
     BLORB_USAGE = 12,           /* unknown usage; place: entry */
     BLORB_START = 13,           /* no chunk other than the index begins at the start; place: entry + 8 */
-    BLORB_TYPE = 14,            /* the chunk's type does not suit the usage; place: entry */
+    BLORB_TYPE = 14,            /* the chunk's type does not suit the usage, under this profile; place: entry */
     BLORB_EXEC_NUMBER = 15,     /* an Exec with a number other than 0; place: entry + 4 */
     BLORB_REPEATED = 16,        /* an earlier entry has this usage and number; place: entry */
     BLORB_ORDER = 27,           /* the start is lower than that of the entry before it; place: entry + 8 */
@@ -124,7 +147,14 @@ enum {
     BLORB_RESULT_FRONTISPIECE = BLORB_RESULT + BLORB_FRONTISPIECE
 };
 
-/* Reading. The file is the whole array of `size` bytes; it is only read. */
+/*
+ * What a refusal says, in a sentence for people: English, no full stop, static storage, never null. BLORB_DONE and every number listed above
+ * (of 100 + k those that can occur) has its own; any other number gets a sentence that says so. This one call of the archive is not proved but
+ * tested.
+ */
+const char *blorb_sentence(uint64_t refusal);
+
+/* Reading. The file is the whole array of `size` bytes; it is only read. "The file's refusals" are 52 and those that stand under it above. */
 
 /* Of a refused file: length and count 0. */
 typedef struct blorb_read_answer {
@@ -135,7 +165,7 @@ typedef struct blorb_read_answer {
 } blorb_read_answer;
 
 /* Is this an accepted file, and how many entries has it? The file's refusals. */
-blorb_read_answer blorb_read(const uint8_t *file, size_t size);
+blorb_read_answer blorb_read(const uint8_t *file, size_t size, uint32_t profile);
 
 /* Of a refused call: usage, number and start 0. */
 typedef struct blorb_entry_answer {
@@ -147,7 +177,7 @@ typedef struct blorb_entry_answer {
 } blorb_entry_answer;
 
 /* Entry i of the index, counted from 0. The file's refusals, then 22 where i is not below the count. */
-blorb_entry_answer blorb_entry(const uint8_t *file, size_t size, size_t i);
+blorb_entry_answer blorb_entry(const uint8_t *file, size_t size, uint32_t profile, size_t i);
 
 /* Of a refused call: type, start and length 0. */
 typedef struct blorb_lookup_answer {
@@ -159,7 +189,7 @@ typedef struct blorb_lookup_answer {
 } blorb_lookup_answer;
 
 /* The resource with this usage and number. The file's refusals, then 22 exactly where the index has no such entry. */
-blorb_lookup_answer blorb_lookup(const uint8_t *file, size_t size, const char usage[4], uint32_t number);
+blorb_lookup_answer blorb_lookup(const uint8_t *file, size_t size, uint32_t profile, const char usage[4], uint32_t number);
 
 /*
  * The finding table. Three numbers of 32 bits to a row: usage (BLORB_PICT .. BLORB_EXEC), number, start of the chunk; a row for each
@@ -180,7 +210,7 @@ typedef struct blorb_build_answer {
 } blorb_build_answer;
 
 /* The file's table at the front of the slice; the numbers behind its last row stay. The file's refusals, then 34. */
-blorb_build_answer blorb_table_build(const uint8_t *file, size_t size, uint32_t *table, size_t numbers);
+blorb_build_answer blorb_table_build(const uint8_t *file, size_t size, uint32_t profile, uint32_t *table, size_t numbers);
 
 typedef struct blorb_check_answer {
     uint64_t refusal;
@@ -188,7 +218,7 @@ typedef struct blorb_check_answer {
 } blorb_check_answer;
 
 /* Is the whole slice just this file's table, with nothing behind the last row? The file's refusals, then 35. */
-blorb_check_answer blorb_table_check(const uint8_t *file, size_t size, const uint32_t *table, size_t numbers);
+blorb_check_answer blorb_table_check(const uint8_t *file, size_t size, uint32_t profile, const uint32_t *table, size_t numbers);
 
 /* Of a refused call: start 0; probes are told in both cases. */
 typedef struct blorb_search_answer {
@@ -204,8 +234,9 @@ blorb_search_answer blorb_table_search(const uint32_t *table, size_t numbers, co
 /*
  * Editing. The file is the first `length` bytes of a buffer of `size` bytes; the journal's records are the first `used` bytes of
  * a buffer of `journal_size` bytes. Begin with a file that blorb_read accepts and used = 0, lend the same two buffers to every
- * call, and give each call the length and used that the last one handed back: blorb_undo then takes back edit after edit,
- * the last one first, down to the file begun with, byte for byte.
+ * call, under the same profile, and give each call the length and used that the last one handed back: blorb_undo then takes back edit
+ * after edit, the last one first, down to the file begun with, byte for byte. The file after an edit or undo is judged under the profile
+ * of that call.
  *
  * Of a call that was carried out, length and used are the new ones. Bytes between a shorter new end and the old end become zero;
  * bytes past both ends stay. An edit writes its record at `used` and no other byte of the journal; an undo writes none.
@@ -223,38 +254,177 @@ blorb_edit_answer blorb_blank(uint8_t *file, size_t size);
 /*
  * Add a resource: an entry at the end of the index, a chunk at the end of the file. It takes 20 bytes and the data, rounded up
  * to even, in the file, and BLORB_RECORD_SIZE in the journal.
- * Refusals: 20, those of the present file, 101, 109, 111, 112, 114, 115, 116, 24, 25.
+ * Refusals: 52, 20, those of the present file, 101, 109, 111, 112, 114, 115, 116, 24, 25.
  */
 blorb_edit_answer blorb_add(uint8_t *file, size_t size, size_t length,
-                            uint8_t *journal, size_t journal_size, size_t used,
+                            uint8_t *journal, size_t journal_size, size_t used, uint32_t profile,
                             const char usage[4], uint32_t number, const char type[4],
                             const uint8_t *data, size_t data_size);
 
 /*
  * Give a resource another type and other data, in the same position. The old data goes to the journal: BLORB_RECORD_SIZE and
  * the old data's bytes.
- * Refusals: 20, those of the present file, 22, 23, 101, 109, 114, 119, 24, 25.
+ * Refusals: 52, 20, those of the present file, 22, 23, 101, 109, 114, 119, 24, 25.
  */
 blorb_edit_answer blorb_replace(uint8_t *file, size_t size, size_t length,
-                                uint8_t *journal, size_t journal_size, size_t used,
+                                uint8_t *journal, size_t journal_size, size_t used, uint32_t profile,
                                 const char usage[4], uint32_t number, const char type[4],
                                 const uint8_t *data, size_t data_size);
 
 /*
  * Remove a resource: its entry, and its chunk unless another entry has it too. The journal takes BLORB_RECORD_SIZE and, where the
  * chunk goes, the data's bytes.
- * Refusals: 20, those of the present file, 22, 119, 25.
+ * Refusals: 52, 20, those of the present file, 22, 119, 25.
  */
 blorb_edit_answer blorb_remove(uint8_t *file, size_t size, size_t length,
-                               uint8_t *journal, size_t journal_size, size_t used,
+                               uint8_t *journal, size_t journal_size, size_t used, uint32_t profile,
                                const char usage[4], uint32_t number);
 
 /*
  * Take back the edit of the journal's last record. A record that does not fit this file is refused, never applied.
- * Refusals: 20, those of the present file, 26, 21, 24.
+ * Refusals: 52, 20, those of the present file, 26, 21, 24.
  */
 blorb_edit_answer blorb_undo(uint8_t *file, size_t size, size_t length,
-                             const uint8_t *journal, size_t journal_size, size_t used);
+                             const uint8_t *journal, size_t journal_size, size_t used, uint32_t profile);
+
+/*
+ * An editor: both buffers, the two lengths and the profile in one place. The functions over it hand them to the calls above and store the
+ * lengths that these hand back, so that no call is ever given the lengths of another one. Begin with blorb_editor_begin or blorb_editor_blank,
+ * and change no member by hand but to lend a larger buffer that holds the same bytes.
+ *
+ *     blorb_editor e;
+ *     blorb_read_answer r = blorb_editor_begin(&e, file, sizeof file, length, journal, sizeof journal, BLORB_PLAIN);
+ *     blorb_edit_answer a = blorb_editor_replace(&e, "Pict", 1, "JPEG", picture, picture_size);
+ *     if (a.refusal != BLORB_DONE)
+ *         show(blorb_sentence(a.refusal));
+ *     save(e.file, e.length);
+ *
+ * To go on later, keep the file's `length` bytes, the journal's `used` bytes and the profile. Set all seven members then: undo goes on where
+ * it was, and a file or journal that was damaged meanwhile is refused like any other.
+ */
+typedef struct blorb_editor {
+    uint8_t *file;       /* the file buffer */
+    size_t size;
+    size_t length;       /* the file is its first `length` bytes */
+    uint8_t *journal;    /* the journal's buffer */
+    size_t journal_size;
+    size_t used;         /* the records are its first `used` bytes; 0 where there is nothing to undo */
+    uint32_t profile;    /* BLORB_PLAIN or BLORB_ADRIFT */
+} blorb_editor;
+
+/* Inside: the file that is lent to a call that only reads. Of a length beyond the buffer none is: blorb_editor_refusal puts its 20 right. */
+static inline size_t blorb_editor_lent(const blorb_editor *e)
+{
+    return e->length <= e->size ? e->length : 0;
+}
+
+static inline uint64_t blorb_editor_refusal(const blorb_editor *e, uint64_t refusal)
+{
+    return e->length <= e->size || refusal == BLORB_PROFILE ? refusal : (uint64_t)BLORB_LENGTHS;
+}
+
+/* Inside: what an edit or undo hands back is what the next call is given. */
+static inline blorb_edit_answer blorb_editor_stored(blorb_editor *e, blorb_edit_answer a)
+{
+    e->length = (size_t)a.length;
+    e->used = (size_t)a.used;
+    return a;
+}
+
+/* As blorb_read, of the editor's file; 20 behind 52 where its length exceeds the buffer. So do the others that only read. */
+static inline blorb_read_answer blorb_editor_read(const blorb_editor *e)
+{
+    blorb_read_answer a = blorb_read(e->file, blorb_editor_lent(e), e->profile);
+    a.refusal = blorb_editor_refusal(e, a.refusal);
+    return a;
+}
+
+static inline blorb_entry_answer blorb_editor_entry(const blorb_editor *e, size_t i)
+{
+    blorb_entry_answer a = blorb_entry(e->file, blorb_editor_lent(e), e->profile, i);
+    a.refusal = blorb_editor_refusal(e, a.refusal);
+    return a;
+}
+
+/* The data is at e->file + start, until the next edit or undo. */
+static inline blorb_lookup_answer blorb_editor_lookup(const blorb_editor *e, const char usage[4], uint32_t number)
+{
+    blorb_lookup_answer a = blorb_lookup(e->file, blorb_editor_lent(e), e->profile, usage, number);
+    a.refusal = blorb_editor_refusal(e, a.refusal);
+    return a;
+}
+
+static inline blorb_build_answer blorb_editor_table_build(const blorb_editor *e, uint32_t *table, size_t numbers)
+{
+    blorb_build_answer a = blorb_table_build(e->file, blorb_editor_lent(e), e->profile, table, numbers);
+    a.refusal = blorb_editor_refusal(e, a.refusal);
+    return a;
+}
+
+static inline blorb_check_answer blorb_editor_table_check(const blorb_editor *e, const uint32_t *table, size_t numbers)
+{
+    blorb_check_answer a = blorb_table_check(e->file, blorb_editor_lent(e), e->profile, table, numbers);
+    a.refusal = blorb_editor_refusal(e, a.refusal);
+    return a;
+}
+
+/* Sets all members, with nothing to undo, and judges the file in the first `length` bytes: the answer is that of blorb_editor_read. */
+static inline blorb_read_answer blorb_editor_begin(blorb_editor *e, uint8_t *file, size_t size, size_t length,
+                                                   uint8_t *journal, size_t journal_size, uint32_t profile)
+{
+    e->file = file;
+    e->size = size;
+    e->length = length;
+    e->journal = journal;
+    e->journal_size = journal_size;
+    e->used = 0;
+    e->profile = profile;
+    return blorb_editor_read(e);
+}
+
+/* Sets all members and makes the blank file, with nothing to undo. The answer is that of blorb_blank, which knows no profile. */
+static inline blorb_edit_answer blorb_editor_blank(blorb_editor *e, uint8_t *file, size_t size,
+                                                   uint8_t *journal, size_t journal_size, uint32_t profile)
+{
+    e->file = file;
+    e->size = size;
+    e->journal = journal;
+    e->journal_size = journal_size;
+    e->profile = profile;
+    return blorb_editor_stored(e, blorb_blank(file, size));
+}
+
+/* As blorb_add, blorb_replace, blorb_remove and blorb_undo. */
+static inline blorb_edit_answer blorb_editor_add(blorb_editor *e, const char usage[4], uint32_t number, const char type[4],
+                                                 const uint8_t *data, size_t data_size)
+{
+    return blorb_editor_stored(e, blorb_add(e->file, e->size, e->length, e->journal, e->journal_size, e->used, e->profile,
+                                            usage, number, type, data, data_size));
+}
+
+static inline blorb_edit_answer blorb_editor_replace(blorb_editor *e, const char usage[4], uint32_t number, const char type[4],
+                                                     const uint8_t *data, size_t data_size)
+{
+    return blorb_editor_stored(e, blorb_replace(e->file, e->size, e->length, e->journal, e->journal_size, e->used, e->profile,
+                                                usage, number, type, data, data_size));
+}
+
+static inline blorb_edit_answer blorb_editor_remove(blorb_editor *e, const char usage[4], uint32_t number)
+{
+    return blorb_editor_stored(e, blorb_remove(e->file, e->size, e->length, e->journal, e->journal_size, e->used, e->profile,
+                                               usage, number));
+}
+
+static inline blorb_edit_answer blorb_editor_undo(blorb_editor *e)
+{
+    return blorb_editor_stored(e, blorb_undo(e->file, e->size, e->length, e->journal, e->journal_size, e->used, e->profile));
+}
+
+/* Gives undoing up, and the journal's room back: after a refusal 25, or when the file is saved for good. */
+static inline void blorb_editor_forget(blorb_editor *e)
+{
+    e->used = 0;
+}
 
 #ifdef __cplusplus
 }

@@ -3,6 +3,8 @@
 
 usage: compare_reading.py [FILES [SEED]]      10,000 files and seed 2 unless given; `rt check reading_samples` first
 
+Half of the files may have types of the ADRIFT profile; the profiles, known and unknown, go by turns.
+
 Packs the files as make_reading_samples.py does, runs target/bin/reading_samples on them, a buffer at a time, and compares
 what it prints, line by line. Stops at the first difference, with the file as hexadecimal digits.
 """
@@ -10,9 +12,10 @@ import pathlib
 import subprocess
 import sys
 from collections import Counter
+from itertools import chain
 
-from make_reading_samples import FAR, ROOM, lines, packed, questions
-from reading_generated import generated
+from make_reading_samples import FAR, PROFILES, ROOM, asked, lines, packed
+from reading_generated import ADRIFT_RESOURCES, RESOURCES, generated
 
 PROGRAM = pathlib.Path(__file__).resolve().parent.parent / "target" / "bin" / "reading_samples"
 
@@ -33,8 +36,9 @@ def compare(samples):
 def main():
     count, seed = [int(w) for w in sys.argv[1:3]] + [10_000, 2][len(sys.argv) - 1:]
     verdicts, batch, size = Counter(), [], 0
-    for i, s in enumerate(generated(count, seed)):
-        x = (f"generated {i}", s, *questions(s, FAR[i % len(FAR):][:1]))
+    files = chain(generated(count // 2, seed, ADRIFT_RESOURCES), generated(count - count // 2, seed, RESOURCES))
+    for i, s in enumerate(files):
+        x = asked(f"generated {i}", s, PROFILES[i % len(PROFILES)], FAR[i % len(FAR):][:1])
         size += len(packed(*x))
         if size >= ROOM:
             compare(batch)

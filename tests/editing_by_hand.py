@@ -45,11 +45,11 @@ def no(number, place=0):
     return Stated(number, place, None, None, None)
 
 
-def scenario(name, file, steps, room=None, jrn=b"", journal=64, L=None, used=None, shown=True):
+def scenario(name, file, steps, room=None, jrn=b"", journal=64, L=None, used=None, shown=True, profile=0):
     """The file in a buffer of that room, the bytes jrn in a journal of that length; all else is filled."""
     buf = lent(file, len(file) + 64 if room is None else room)
     x = Scenario(name, buf, lent(jrn, max(journal, len(jrn))), len(file) if L is None else L,
-                 len(jrn) if used is None else used, shown, tuple(step for step, _ in steps))
+                 len(jrn) if used is None else used, shown, tuple(step for step, _ in steps), profile)
     SCENARIOS.append((x, [stated for _, stated in steps]))
 
 

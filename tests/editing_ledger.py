@@ -4,7 +4,8 @@ Told the starting file, both buffers' lengths and the calls with their arguments
 no journal byte. It shares with editing_reference.py the reader and the shape of an answer. A file is kept here as
 entries that name their chunk by its place among the chunks, so that no start is ever moved: all are counted anew.
 
-    Ledger(file, room, journal)     file accepted, room and journal the lengths of the two buffers
+    Ledger(file, room, journal, profile)     file accepted under this known profile (02, P12), which is that of the whole run;
+                                    room and journal the lengths of the two buffers
     .call(call)                     its Answer; a call is ("add", usage, number, kind, body), ("replace", the same),
                                     ("remove", usage, number) or ("undo",)
     .file(), .len(), .used()        its file, L and U
@@ -22,8 +23,8 @@ class Kept:
         self.entries, self.chunks = entries, chunks
 
     @staticmethod
-    def of(file):
-        chunks, entries = reference.parse(file)
+    def of(file, profile):
+        chunks, entries = reference.parse(file, profile)
         order = {c.start: k for k, c in enumerate(chunks[1:])}
         return Kept([(e.usage, e.number, order[e.start]) for e in entries], [(c.kind, c.body) for c in chunks[1:]])
 
@@ -71,8 +72,8 @@ def record(f, call):
 
 
 class Ledger:
-    def __init__(self, file, room, journal):
-        self.first, self.room, self.journal = Kept.of(file), room, journal
+    def __init__(self, file, room, journal, profile=reference.PLAIN):
+        self.first, self.room, self.journal, self.profile = Kept.of(file, profile), room, journal, profile
         self.edits = []
         self.before = []              # for each edit of the list the file before it
         self.noted = []               # and its record
@@ -95,7 +96,7 @@ class Ledger:
         what, usage, number, *_ = call
         if self.len() > self.room or self.used() > self.journal:
             return 20, 0
-        verdict = reference.read(self.file())
+        verdict = reference.read(self.file(), self.profile)
         if verdict[0] == "refused":
             return verdict[1:]
         i = self.now.place_of(usage, number)
@@ -106,7 +107,7 @@ class Ledger:
         after = applied(self.now, call)
         if after.places()[-1] > reference.MOST_BYTES:
             return 101, 0
-        verdict = reference.read(blorb(after.entries, after.chunks))
+        verdict = reference.read(blorb(after.entries, after.chunks), self.profile)
         if verdict[0] == "refused":
             return 100 + verdict[1], verdict[2]
         if after.places()[-1] > self.room:

@@ -1,21 +1,22 @@
-"""The editing half of 01 (The edits, The undo journal, refusals 20 to 26 and 100 + k), in Python.
+"""The editing half of 01 (The edits, The undo journal, refusals 20 to 26 and 100 + k) and 52 of 02 (P12), in Python.
 
 Written from the paper alone, over reference.py, to be held against the proved library: it shares no code, no definition
 and no order of working with it. Where the paper leaves a choice, the reading taken is named in a comment.
 
-    blank(buf)                                             (answer, buf)
-    add(buf, L, jrn, U, usage, number, kind, body)         (answer, buf, jrn)
-    replace(buf, L, jrn, U, usage, number, kind, body)     (answer, buf, jrn)
-    remove(buf, L, jrn, U, usage, number)                  (answer, buf, jrn)
-    undo(buf, L, jrn, U)                                   (answer, buf, jrn)
+    blank(buf)                                                      (answer, buf)
+    add(buf, L, jrn, U, usage, number, kind, body, profile)         (answer, buf, jrn)
+    replace(buf, L, jrn, U, usage, number, kind, body, profile)     (answer, buf, jrn)
+    remove(buf, L, jrn, U, usage, number, profile)                  (answer, buf, jrn)
+    undo(buf, L, jrn, U, profile)                                   (answer, buf, jrn)
 
 buf and jrn are the two whole buffers as bytes, before the call and after it. The file is the first L bytes of buf, the
-records are the first U bytes of jrn. An answer's number is 0 where the call has succeeded.
+records are the first U bytes of jrn. An answer's number is 0 where the call has succeeded. The profile is plain where none is
+given; the present file and the one after the call are judged under the same.
 """
 from collections import namedtuple
 
 import reference
-from reference import Entry, Refusal, be32, refuse_if
+from reference import PLAIN, Entry, Refusal, be32, refuse_if
 
 Answer = namedtuple("Answer", "number place len used")
 Record = namedtuple("Record", "kind usage number place start type body")
@@ -36,9 +37,9 @@ def size(body):
     return 8 + len(body) + len(body) % 2
 
 
-def taken_apart(file):
+def taken_apart(file, profile):
     """The entries and the chunks behind the index, the latter with their starts; a Refusal for a file that is none."""
-    chunks, entries = reference.parse(file)
+    chunks, entries = reference.parse(file, profile)
     return entries, chunks[1:]
 
 
@@ -54,11 +55,11 @@ def put_together(entries, chunks):
     return b"FORM" + be(4 + len(index) + len(rest)) + b"IFRS" + index + rest
 
 
-def judged(entries, chunks):
+def judged(entries, chunks, profile):
     """The file that they make. Where the reader refuses it: its refusal, the length judged before anything is encoded."""
     refuse_if(length(entries, chunks) > reference.MOST_BYTES, 1, 0)
     file = put_together(entries, chunks)
-    reference.parse(file)
+    reference.parse(file, profile)
     return file
 
 
@@ -83,9 +84,9 @@ def sharing(entries, start):
 
 # ---- The edits: each gives the entries and chunks of the resulting file, and the record
 
-def added(file, usage, number, kind, body):
+def added(file, profile, usage, number, kind, body):
     """Entry at the end of the index, chunk at the end of the file. All old starts grow by 12."""
-    entries, chunks = taken_apart(file)
+    entries, chunks = taken_apart(file, profile)
     new = Entry(usage, number, len(file) + 12)
     record = Record(ADDED, usage, number, len(entries), 0, NO_TYPE, b"")
     return moved(entries, 12) + [new], plain(chunks) + [(kind, body)], record
@@ -98,9 +99,9 @@ def found(entries, usage, number):
     return pairs.index((usage, number))
 
 
-def replaced(file, usage, number, kind, body):
+def replaced(file, profile, usage, number, kind, body):
     """The chunk in the same position takes the new type and data. Only starts behind it move, by the change in size."""
-    entries, chunks = taken_apart(file)
+    entries, chunks = taken_apart(file, profile)
     place = found(entries, usage, number)
     start = entries[place].start
     refuse_if(sharing(entries, start) > 1, 23, 0)
@@ -112,9 +113,9 @@ def replaced(file, usage, number, kind, body):
     return moved(entries, 0, start + 1, size(body) - size(old.body)), rest, record
 
 
-def removed(file, usage, number):
+def removed(file, profile, usage, number):
     """The entry goes, and the chunk unless another entry shares it. Starts behind the chunk fall by 12 and its size."""
-    entries, chunks = taken_apart(file)
+    entries, chunks = taken_apart(file, profile)
     place = found(entries, usage, number)
     start = entries[place].start
     others = entries[:place] + entries[place + 1:]
@@ -187,9 +188,9 @@ def with_entry_only(r, entries, chunks):
     return with_entry(r, moved(entries, 12)), plain(chunks)
 
 
-def file_before(r, file):
+def file_before(r, file, profile):
     """The file after the undo of this record: 21 if the record doesn't fit, or if that file wouldn't be accepted."""
-    entries, chunks = taken_apart(file)
+    entries, chunks = taken_apart(file, profile)
     if r.kind == ADDED:
         before = without_last(r, entries, chunks)
     elif r.kind == REPLACED:
@@ -199,7 +200,7 @@ def file_before(r, file):
     else:
         before = with_entry_only(r, entries, chunks)
     try:
-        return judged(*before)
+        return judged(*before, profile)
     except Refusal:
         raise Refusal(21, 0) from None
 
@@ -212,22 +213,23 @@ def stored(buf, L, file):
     return file + zeros + buf[len(file) + len(zeros):]
 
 
-def answered(buf, L, jrn, U, work):
+def answered(buf, L, jrn, U, profile, work):
     """What work gives, or its refusal, with L and U as given and both buffers untouched."""
     try:
+        reference.known(profile)                                # 52, before 20 too
         refuse_if(L > len(buf) or U > len(jrn), 20, 0)
-        reference.parse(buf[:L])
+        reference.parse(buf[:L], profile)
         return work(buf[:L])
     except Refusal as r:
         return Answer(r.number, r.place, L, U), buf, jrn
 
 
-def edit(buf, L, jrn, U, change):
-    """The order: 20, the reader's number for the present file, 22, 23, 100 + k, 24, 25."""
+def edit(buf, L, jrn, U, profile, change):
+    """The order: 52, 20, the reader's number for the present file, 22, 23, 100 + k, 24, 25."""
     def work(file):
         entries, chunks, record = change(file)                  # 22, 23
         try:
-            new = judged(entries, chunks)
+            new = judged(entries, chunks, profile)
         except Refusal as r:
             raise Refusal(100 + r.number, r.place) from None
         refuse_if(len(new) > len(buf), 24, 0)
@@ -235,30 +237,30 @@ def edit(buf, L, jrn, U, change):
         refuse_if(U + len(noted) > len(jrn), 25, 0)
         after = jrn[:U] + noted + jrn[U + len(noted):]
         return Answer(0, 0, len(new), U + len(noted)), stored(buf, L, new), after
-    return answered(buf, L, jrn, U, work)
+    return answered(buf, L, jrn, U, profile, work)
 
 
-def add(buf, L, jrn, U, usage, number, kind, body):
-    return edit(buf, L, jrn, U, lambda file: added(file, usage, number, kind, body))
+def add(buf, L, jrn, U, usage, number, kind, body, profile=PLAIN):
+    return edit(buf, L, jrn, U, profile, lambda file: added(file, profile, usage, number, kind, body))
 
 
-def replace(buf, L, jrn, U, usage, number, kind, body):
-    return edit(buf, L, jrn, U, lambda file: replaced(file, usage, number, kind, body))
+def replace(buf, L, jrn, U, usage, number, kind, body, profile=PLAIN):
+    return edit(buf, L, jrn, U, profile, lambda file: replaced(file, profile, usage, number, kind, body))
 
 
-def remove(buf, L, jrn, U, usage, number):
-    return edit(buf, L, jrn, U, lambda file: removed(file, usage, number))
+def remove(buf, L, jrn, U, usage, number, profile=PLAIN):
+    return edit(buf, L, jrn, U, profile, lambda file: removed(file, profile, usage, number))
 
 
-def undo(buf, L, jrn, U):
-    """The order: 20, the reader's number, 26, 21, 24."""
+def undo(buf, L, jrn, U, profile=PLAIN):
+    """The order: 52, 20, the reader's number, 26, 21, 24."""
     def work(file):
         refuse_if(U == 0, 26, 0)
         record = last_record(jrn, U)
-        old = file_before(record, file)
+        old = file_before(record, file, profile)
         refuse_if(len(old) > len(buf), 24, 0)
         return Answer(0, 0, len(old), U - len(bytes_of(record))), stored(buf, L, old), jrn
-    return answered(buf, L, jrn, U, work)
+    return answered(buf, L, jrn, U, profile, work)
 
 
 def blank(buf):

@@ -1,12 +1,12 @@
 """Scenarios of editing: how they are run by the reference, packed for the program, and told as it tells them.
 
-A scenario is two buffers with their bytes, the L and U at first, and steps. A step is a call with its arguments,
+A scenario is two buffers with their bytes, the L and U at first, a profile for all its calls, and steps. A step is a call with its arguments,
 ("blank",), ("add", usage, number, kind, body), ("replace", the same), ("remove", usage, number), ("undo",), or
 ("given", L, U): the next call is given these instead of the last answer's.
 
-Packed: nine numbers of four bytes (the lengths of the name, the buffer, the journal, how many bytes of each of the two are
-packed, L, U, how many bytes the steps have, 1 if the buffers are shown at the end), the name, the packed bytes of the
-buffer and of the journal, the steps. Behind its packed bytes a buffer is filled (see fill). A step: a byte that says which
+Packed: ten numbers of four bytes (the lengths of the name, the buffer, the journal, how many bytes of each of the two are
+packed, L, U, how many bytes the steps have, 1 if the buffers are shown at the end, the profile), the name, the packed bytes
+of the buffer and of the journal, the steps. Behind its packed bytes a buffer is filled (see fill). A step: a byte that says which
 it is, 16 bytes (usage, number, type, length of the data; or L and U in eight bytes each), the data.
 """
 from collections import namedtuple
@@ -17,7 +17,7 @@ import reference
 from building import be
 from editing_ledger import Ledger
 
-Scenario = namedtuple("Scenario", "name buf jrn len used shown steps")
+Scenario = namedtuple("Scenario", "name buf jrn len used shown steps profile", defaults=[reference.PLAIN])
 
 STEPS = ("blank", "add", "replace", "remove", "undo", "given")
 ROOM = 1_048_576           # the program's buffer for its input; the input has to be shorter
@@ -58,7 +58,7 @@ def results(x):
         elif what == "blank":
             answer, buf = editing_reference.blank(buf)
         else:
-            answer, buf, jrn = getattr(editing_reference, what)(buf, L, jrn, U, *args)
+            answer, buf, jrn = getattr(editing_reference, what)(buf, L, jrn, U, *args, profile=x.profile)
         if answer:
             L, U = answer.len, answer.used
         after.append((answer, buf, jrn))
@@ -66,19 +66,19 @@ def results(x):
 
 
 def is_run(x):
-    """Whether 01's 'Whole runs' speaks of it."""
-    accepted = x.len <= len(x.buf) and reference.read(x.buf[:x.len])[0] == "accepted"
+    """Whether 01's 'Whole runs' speaks of it: with a known profile, under which the starting file is accepted."""
+    accepted = x.len <= len(x.buf) and reference.read(x.buf[:x.len], x.profile)[0] == "accepted"
     return accepted and x.used == 0 and all(what in ("add", "replace", "remove", "undo") for what, *_ in x.steps)
 
 
 def held_to_ledger(x):
     """What keeps a run from agreeing with the ledger, in words; None where nothing does."""
-    ledger = Ledger(x.buf[:x.len], len(x.buf), len(x.jrn))
+    ledger = Ledger(x.buf[:x.len], len(x.buf), len(x.jrn), x.profile)
     for k, (call, (answer, buf, jrn)) in enumerate(zip(x.steps, results(x))):
         told = ledger.call(call)
         if told != answer:
             return f"call {k}: {answer}, the ledger: {told}"
-        if buf[:answer.len] != ledger.file() or reference.read(buf[:answer.len])[0] != "accepted":
+        if buf[:answer.len] != ledger.file() or reference.read(buf[:answer.len], x.profile)[0] != "accepted":
             return f"call {k}: the file isn't the ledger's"
         if jrn[:answer.used] != b"".join(ledger.records()):
             return f"call {k}: the journal isn't the ledger's"
@@ -101,7 +101,7 @@ def packed_step(step):
 def packed(x):
     steps = b"".join(packed_step(s) for s in x.steps)
     buf, jrn = packed_part(x.buf), packed_part(x.jrn)
-    sizes = [len(x.name), len(x.buf), len(x.jrn), len(buf), len(jrn), x.len, x.used, len(steps), int(x.shown)]
+    sizes = [len(x.name), len(x.buf), len(x.jrn), len(buf), len(jrn), x.len, x.used, len(steps), int(x.shown), x.profile]
     return b"".join([*map(be, sizes), x.name.encode(), buf, jrn, steps])
 
 

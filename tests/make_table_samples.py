@@ -8,9 +8,9 @@ The program of that crate reads the packed samples and prints what the library a
 to the file stdout. The expectations come from table_reference.py, written from 02 alone; the check's answer of every
 sample by hand is stated here as well, and this script stops where the reference says another.
 
-A packed sample: four numbers of four bytes (the length of its name, the length of its file, how many numbers its slice
-has and how many pairs are sought), the name, the file, four bytes for each number of the slice, four bytes of usage and
-four of number for each pair. Each slice is checked, then built in, then (as it was given) searched for each pair.
+A packed sample: five numbers of four bytes (the length of its name, the length of its file, how many numbers its slice
+has, how many pairs are sought, and the profile), the name, the file, four bytes for each number of the slice, four bytes of
+usage and four of number for each pair. Each slice is checked, then built in, then (as it was given) searched for each pair.
 """
 import pathlib
 import sys
@@ -27,9 +27,12 @@ GENERATED, SEED = 400, 2
 KIND = {PICT: (b"Rect", bytes(8)), SND: (b"MOD ", b"m"), DATA: (b"TEXT", b"eel"), EXEC: (b"ZCOD", b"z")}
 
 
-def game(pairs):
+ADRIFT_KIND = {**KIND, PICT: (b"GIF ", b"GIF89a"), SND: (b"WAV ", b"RIFF")}
+
+
+def game(pairs, kind=None):
     """A file of these pairs in index order, a chunk for each, in the same order."""
-    return blorb([(u, n, k) for k, (u, n) in enumerate(pairs)], [KIND[u] for u, _ in pairs])
+    return blorb([(u, n, k) for k, (u, n) in enumerate(pairs)], [(kind or KIND)[u] for u, _ in pairs])
 
 
 def shared(numbers):
@@ -37,9 +40,9 @@ def shared(numbers):
     return blorb([(DATA, n, 0) for n in numbers], [KIND[DATA]])
 
 
-def good(s):
+def good(s, profile=0):
     """The numbers of the file's table."""
-    return reference.build(s, [0] * SLICE)[2][:3 * len(reference.rows_for(s))]
+    return reference.build(s, [0] * SLICE, profile)[2][:3 * len(reference.rows_for(s, profile))]
 
 
 def with_at(table, at, x):
@@ -61,12 +64,13 @@ A = game([(DATA, 7)])
 B = game([(DATA, 7), (PICT, 1)])
 MANY = game([(SND, 3), (PICT, 9), (DATA, 2 ** 32 - 1), (EXEC, 0), (PICT, 2 ** 31), (PICT, 1), (DATA, 0), (SND, 2)])
 FULL = shared((n * 2654435761) % 2 ** 32 for n in range(4096))
+GIFS = game([(PICT, 4), (SND, 9), (DATA, 1)], ADRIFT_KIND)
 DOUBLE = put32(B, 24 + 12, int.from_bytes(DATA, "big"))      # two entries of one usage; the second chunk does not suit it
 OTHER = game([(SND, 3), (PICT, 9), (DATA, 2 ** 32 - 1), (EXEC, 0), (PICT, 2 ** 31), (PICT, 1), (DATA, 0), (SND, 4)])
 
 
 def by_hand():
-    """(name, file, slice, the check's answer: None where accepted, else number and place)"""
+    """(name, file, slice, the check's answer: None where accepted, else number and place, and a profile other than plain)"""
     a, many, full = good(A), good(MANY), good(FULL)
     yield "blank file, empty slice", BLANK, [], None
     yield "blank file, one number", BLANK, [5], (35, 0)
@@ -101,6 +105,20 @@ def by_hand():
     yield "refused file, right slice", put32(A, 4, 41), a, (5, 4)
     yield "refused file, empty slice", DOUBLE, [], (14, 36)
     yield "no file", b"", [], (2, 0)
+    pictures = good(GIFS, 1)
+    yield "a GIF, plain", GIFS, pictures, (14, 24)
+    yield "a GIF, ADRIFT", GIFS, pictures, None, 1
+    yield "a GIF, ADRIFT, one number short", GIFS, pictures[:-1], (35, 2), 1
+    yield "a GIF, ADRIFT, the wrong start", GIFS, with_at(pictures, 5, 0), (35, 1), 1
+    yield "many, ADRIFT", MANY, many, None, 1
+    yield "4096 rows, ADRIFT", FULL, full, None, 1
+    yield "refused file, ADRIFT", put32(A, 4, 41), a, (5, 4), 1
+    for profile in (2, 3, 255, 2 ** 32 - 1):
+        yield f"A, profile {profile}", A, a, (52, 0), profile
+        yield f"A, profile {profile}, a stale table", A, many, (52, 0), profile
+        yield f"A, profile {profile}, an empty slice", A, [], (52, 0), profile
+        yield f"a GIF, profile {profile}", GIFS, pictures, (52, 0), profile
+        yield f"11 bytes, profile {profile}", A[:11], a, (52, 0), profile
 
 
 def questions(table):
@@ -122,8 +140,9 @@ def generated(count, seed):
         for _ in range(dice.below(14)):
             u = dice.one_of((PICT, PICT, SND, DATA, EXEC))
             pairs.append((u, 0 if u == EXEC else dice.one_of((dice.below(6), dice.below(2 ** 32)))))
-        s = game(list(dict.fromkeys(pairs)))
-        table = good(s)
+        house = dice.below(4)    # one file in four has the types of the ADRIFT profile
+        s = game(list(dict.fromkeys(pairs)), KIND if house else ADRIFT_KIND)
+        table = good(s, 1)
         way = dice.below(8)
         if way == 0 and table:
             table = with_at(table, dice.below(len(table)), dice.below(2 ** 32))
@@ -142,7 +161,8 @@ def generated(count, seed):
             table = without_row(table, dice.below(len(table) // 3))
         if dice.below(20) == 0:
             s = put32(s, 4, dice.below(100))
-        yield f"generated {i}", s, table
+        profile = dice.one_of((0, 1, 2)) if house == 0 else dice.one_of((0, 0, 0, 1))
+        yield f"generated {i}, profile {profile}", s, table, profile
 
 
 def checksum(table):
@@ -158,29 +178,29 @@ def words(answer):
     return {"accepted": "accepted", "refused": "refused {} at {}", "rows": "rows {}", "at": "at {}"}[what].format(*values)
 
 
-def lines(name, s, table, pairs):
-    built = reference.build(s, table)
-    yield (f"{name}: {words(reference.check(s, table))}; {words(built)} sum {checksum(built[-1])}; "
-           f"then {words(reference.check(s, built[-1]))}")
+def lines(name, s, table, profile, pairs):
+    built = reference.build(s, table, profile)
+    yield (f"{name}: {words(reference.check(s, table, profile))}; {words(built)} sum {checksum(built[-1])}; "
+           f"then {words(reference.check(s, built[-1], profile))}")
     for usage, number in pairs:
         found = reference.search(table, usage, number)
         yield f" {int.from_bytes(usage, 'big')} {number}: {words(found)} probes {found[-1]}"
 
 
-def packed(name, s, table, pairs):
-    parts = [be(len(name)), be(len(s)), be(len(table)), be(len(pairs)), name.encode(), s]
+def packed(name, s, table, profile, pairs):
+    parts = [be(len(name)), be(len(s)), be(len(table)), be(len(pairs)), be(profile), name.encode(), s]
     return b"".join(parts + [be(x) for x in table] + [u + be(n) for u, n in pairs])
 
 
 def main():
     samples = []
-    for name, s, table, stated in by_hand():
-        expected = ("refused", *stated) if stated else ("accepted",)
-        if reference.check(s, table) != expected:
-            sys.exit(f"{name}: by hand {expected}, the reference {reference.check(s, table)}")
-        samples.append((name, s, table, questions(table)))
+    for name, s, table, stated, *other in by_hand():
+        expected, profile = ("refused", *stated) if stated else ("accepted",), other[0] if other else 0
+        if reference.check(s, table, profile) != expected:
+            sys.exit(f"{name}: by hand {expected}, the reference {reference.check(s, table, profile)}")
+        samples.append((name, s, table, profile, questions(table)))
     hand = len(samples)
-    samples += [(name, s, table, questions(table)) for name, s, table in generated(GENERATED, SEED)]
+    samples += [(name, s, table, profile, questions(table)) for name, s, table, profile in generated(GENERATED, SEED)]
     stdin = b"".join(packed(*x) for x in samples)
     stdout = "".join(line + "\n" for x in samples for line in lines(*x)).encode()
     if len(stdin) >= ROOM or max(len(x[2]) for x in samples) > SLICE:
@@ -191,9 +211,9 @@ def main():
         elif (CRATE / name).read_bytes() != content:
             sys.exit(f"{CRATE / name} is not what this script makes")
     for what, ask in (("check", reference.check), ("build", reference.build)):
-        told = Counter(a[1] if a[0] == "refused" else 0 for a in (ask(x[1], x[2]) for x in samples))
+        told = Counter(a[1] if a[0] == "refused" else 0 for a in (ask(x[1], x[2], x[3]) for x in samples))
         print(f"{what} by refusal (0: none):", *(f"{k}: {told[k]}" for k in sorted(told)))
-    print(f"{len(samples)} samples ({hand} by hand, {GENERATED} generated), {len(stdin)} bytes, {sum(len(x[3]) for x in samples)} searches")
+    print(f"{len(samples)} samples ({hand} by hand, {GENERATED} generated), {len(stdin)} bytes, {sum(len(x[4]) for x in samples)} searches")
 
 
 if __name__ == "__main__":

@@ -1,6 +1,6 @@
-"""Sample files of reading, each with the verdict that 01 and 02 (P1) give it, stated by hand.
+"""Sample files of reading, each with the verdict that 01 and 02 (P1, P5, P12) give it, stated by hand.
 
-SAMPLES holds (name, file, verdict): the verdict is the count of an accepted file, or (number, place) of a refusal.
+SAMPLES holds (name, file, verdict, profile): the verdict is the count of an accepted file, or (number, place) of a refusal.
 The places are those of the table in 01: the index stands at 12, its length at 16, its count at 20, entry i at 24 + 12i,
 and the chunks behind an index of n entries from 24 + 12n on.
 
@@ -24,8 +24,8 @@ RELN, ANNO = (b"RelN", b"\0\1"), (b"ANNO", b"note")
 SAMPLES = []
 
 
-def sample(name, file, verdict):
-    SAMPLES.append((name, file, verdict))
+def sample(name, file, verdict, profile=0):
+    SAMPLES.append((name, file, verdict, profile))
 
 
 def behind(s, *parts):
@@ -468,3 +468,59 @@ for k, place, spoil in BROKEN:
     if k != 6:                                                    # there is no cut header with a chunk behind it
         earlier = k in (3, 4, 5, 7, 28)
         sample(f"eleven chunks, {k} and 29", spoil(UNPADDED), (k, place) if earlier else (29, len(UNPADDED)))
+
+# ---- 52 and the ADRIFT profile (02, P12): 'GIF ' pictures, 'WAV ', 'MIDI' and 'MP3 ' sounds, and 52 before all else. Files of one
+# entry have their chunk at 36.
+
+GIF, WAV = (b"GIF ", b"GIF89a"), (b"WAV ", b"RIFF")
+ADRIFT_KINDS = {PICT: [b"GIF "], SND: [b"WAV ", b"MIDI", b"MP3 "], DATA: [], EXEC: []}
+UNKNOWN = (2, 3, 255, 256, 65536, 2 ** 31, 2 ** 32 - 1)
+
+
+def adrift(name, file, plain, verdict):
+    """The verdicts under the plain and the ADRIFT profile, and 52 under another one."""
+    sample(f"{name}, plain", file, plain)
+    sample(f"{name}, ADRIFT", file, verdict, 1)
+    sample(f"{name}, profile 2", file, (52, 0), 2)
+
+
+GIF_A = blorb([(PICT, 1, 0)], [GIF])
+adrift("A", A, 1, 1)
+adrift("B", B, 2, 2)
+adrift("blank again", BLANK, 0, 0)
+adrift("a GIF picture", GIF_A, (14, 24), 1)
+adrift("11 bytes again", A[:11], (2, 0), (2, 0))
+adrift("no bytes", b"", (2, 0), (2, 0))
+for profile in UNKNOWN:
+    sample(f"A under profile {profile}", A, (52, 0), profile)
+    sample(f"a GIF picture under profile {profile}", GIF_A, (52, 0), profile)
+    sample(f"11 bytes under profile {profile}", A[:11], (52, 0), profile)
+for usage, kinds in ADRIFT_KINDS.items():
+    for kind in [k for ks in ADRIFT_KINDS.values() for k in ks]:
+        file = blorb([(usage, 0, 0)], [(kind, b"abc")])
+        adrift(f"{usage.decode()} of {kind.decode()}", file, (14, 24), 1 if kind in kinds else (14, 24))
+    for kind in KINDS[usage]:
+        body = b"AIFF" if kind == b"FORM" else bytes(8)
+        sample(f"{usage.decode()} of {kind.hex()}, ADRIFT", blorb([(usage, 0, 0)], [(kind, body)]), 1, 1)
+for usage, kind in ((PICT, b"GIF\0"), (PICT, b"gif "), (PICT, b"GIFF"), (PICT, b"GIF8"), (PICT, b"BMP "), (SND, b"WAVE"), (SND, b"wav "),
+                    (SND, b"WAV\0"), (SND, b"MID "), (SND, b"midi"), (SND, b"MP3\0"), (SND, b"MP3X"), (SND, b"MP2 "), (b"snd ", b"WAV ")):
+    verdict = (14, 24) if usage in KINDS else (12, 24)
+    adrift(f"{usage.hex()} of nearly {kind.hex()}", blorb([(usage, 0, 0)], [(kind, b"abc")]), verdict, verdict)
+for name, body in (("no data", b""), ("one byte", b"x"), ("AIFF", b"AIFF")):
+    adrift(f"GIF of {name}", blorb([(PICT, 1, 0)], [(b"GIF ", body)]), (14, 24), 1)
+    adrift(f"WAV of {name}", blorb([(SND, 1, 0)], [(b"WAV ", body)]), (14, 24), 1)
+adrift("a Rect of 7", blorb([(PICT, 1, 0)], [(b"Rect", bytes(7))]), (14, 24), (14, 24))
+adrift("a FORM of AIFC", blorb([(SND, 1, 0)], [(b"FORM", b"AIFC")]), (14, 24), (14, 24))
+adrift("GIF and WAV without an entry", behind(A, chunk(*GIF), chunk(*WAV)), 1, 1)
+adrift("a GIF frontispiece", behind(GIF_A, chunk(*fspc(1))), (14, 24), 1)
+adrift("a GIF frontispiece of another number", behind(GIF_A, chunk(*fspc(2))), (14, 24), (19, 58))
+adrift("a Rect frontispiece beside a GIF", behind(blorb([(PICT, 1, 0), (PICT, 2, 1)], [RECT, GIF]), chunk(*fspc(1))), (14, 36), (19, 86))
+adrift("two names of a GIF", blorb([(PICT, 1, 0), (PICT, 2, 0)], [GIF]), (14, 24), 2)
+adrift("a GIF twice", blorb([(PICT, 1, 0), (PICT, 1, 0)], [GIF]), (14, 24), (16, 36))
+adrift("a GIF out of order", put32(put32(blorb([(PICT, 1, 0), (DATA, 7, 1)], [GIF, TEXT]), 32, 62), 44, 48), (14, 24), (14, 24))
+adrift("a GIF behind, out of order", put32(put32(blorb([(DATA, 7, 0), (PICT, 1, 1)], [TEXT, GIF]), 32, 60), 44, 48), (14, 24), (14, 24))
+adrift("two sounds out of order", put32(put32(blorb([(SND, 1, 0), (SND, 2, 1)], [WAV, (b"MIDI", b"MThd")]), 32, 60), 44, 48), (14, 24), (27, 44))
+adrift("a GIF under Snd and a WAV under Pict", blorb([(SND, 1, 0), (PICT, 1, 1)], [GIF, WAV]), (14, 24), (14, 24))
+adrift("the second of two", blorb([(PICT, 1, 0), (PICT, 2, 1)], [JPEG, GIF]), (14, 36), 2)
+for k, place, spoil in BROKEN:
+    adrift(f"eleven chunks with {k}", spoil(WHOLE), (k, place), (k, place))

@@ -1,12 +1,14 @@
 """Generated files for comparing two readers: right ones, most of them spoiled in a place or two.
 
-generated(count, seed) gives the same files with every Python.
+generated(count, seed, resources) gives the same files with every Python. ADRIFT_RESOURCES are for files that are right under the ADRIFT
+profile, and refused as plain ones where a type of that profile is met.
 """
 from building import Dice, be, blorb, chunk, grow, put, put32, right_length, starts
 
 PICT, SND, DATA, EXEC = USAGES = b"Pict", b"Snd ", b"Data", b"Exec"
 RESOURCES = [(PICT, b"JPEG"), (PICT, b"PNG "), (PICT, b"Rect"), (PICT, b"Rect"), (SND, b"OGGV"), (SND, b"MOD "),
              (SND, b"FORM"), (SND, b"FORM"), (DATA, b"TEXT"), (DATA, b"BINA"), (EXEC, b"ZCOD"), (EXEC, b"GLUL")]
+ADRIFT_RESOURCES = RESOURCES + [(PICT, b"GIF "), (PICT, b"GIF "), (SND, b"WAV "), (SND, b"MIDI"), (SND, b"MP3 ")]
 OTHERS = [b"RIdx", b"RelN", b"Fspc", b"Rect", b"FORM", b"TEXT", b"ANNO", b"IFmd", b"ZCOD", b"\0\0\0\0"]
 NUMBERS = [0, 1, 2, 3, 4, 7, 8, 12, 16, 255, 256, 65536, 2 ** 31 - 1, 2 ** 31, 2 ** 32 - 8, 2 ** 32 - 1]
 
@@ -20,11 +22,11 @@ def body_for(d, kind):
     return d.bytes(d.below(7))
 
 
-def right_file(d):
+def right_file(d, resources=RESOURCES):
     """The entries (usage, number, chunk) and chunks of a file that is to be accepted."""
     chunks, usages = [], []
     for _ in range(d.below(7)):
-        usage, kind = d.one_of(RESOURCES)
+        usage, kind = d.one_of(resources)
         if d.below(4) == 0:
             usage, kind = None, b"ANNO"
         chunks.append((kind, body_for(d, kind)))
@@ -86,10 +88,10 @@ def spoil(d, s, count, at):
     ]))
 
 
-def generated(count, seed):
+def generated(count, seed, resources=RESOURCES):
     d = Dice(seed)
     for _ in range(count):
-        entries, chunks = right_file(d)
+        entries, chunks = right_file(d, resources)
         s, at = blorb(entries, chunks), starts(len(entries), chunks)
         for _ in range(d.one_of([0, 1, 1, 1, 2, 2])):
             size = len(s)

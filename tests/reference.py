@@ -1,15 +1,15 @@
-"""The reading half of 01 (description of the build and its rules), with 28 and 29 of 02 (P1), in Python.
+"""The reading half of 01 (description of the build and its rules), with 28 and 29 of 02 (P1) and its profiles (P12), in Python.
 
 Written from the papers alone, to be held against the proved library: it shares no code, no definition and no order of
 working with it. Where they leave a choice, the reading taken is named in a comment.
 
-    read(s)                    ("accepted", length, count)            or ("refused", number, place)
-    entry(s, i)                ("given", usage, number, start)        or ("refused", number, place)
-    lookup(s, usage, number)   ("found", kind, start, length)         or ("refused", number, place)
-    part(s, usage, number)     the data bytes; none where lookup refuses
+    read(s, profile)                    ("accepted", length, count)            or ("refused", number, place)
+    entry(s, i, profile)                ("given", usage, number, start)        or ("refused", number, place)
+    lookup(s, usage, number, profile)   ("found", kind, start, length)         or ("refused", number, place)
+    part(s, usage, number, profile)     the data bytes; none where lookup refuses
 
-s is the whole file as bytes; usages and kinds (types of chunks) are four bytes. For what builds on this:
-parse(s) gives the chunks and the entries of an accepted file and raises Refusal otherwise.
+s is the whole file as bytes; usages and kinds (types of chunks) are four bytes; the profile is a number, plain where none is
+given. For what builds on this: parse(s, profile) gives the chunks and the entries of an accepted file and raises Refusal otherwise.
 """
 from collections import namedtuple
 
@@ -23,6 +23,8 @@ KINDS = {                  # rule 5, the types that stand with no further condit
     DATA: (b"TEXT", b"BINA"),
     EXEC: (b"ZCOD", b"GLUL", b"TAD2", b"TAD3", b"HUGO", b"ALAN", b"ADRI", b"LEVE", b"AGT ", b"MAGS", b"ADVS", b"EXEC"),
 }
+PLAIN, ADRIFT = 0, 1       # 02, P12: the profiles that there are
+ADRIFT_KINDS = {PICT: (b"GIF ",), SND: (b"WAV ", b"MIDI", b"MP3 ")}    # what ADRIFT allows besides (001, section 14.5)
 AT_MOST_ONE = {b"RelN": 2, b"Fspc": 4}    # rule 7, with the length of each
 
 Chunk = namedtuple("Chunk", "start kind body")      # body: the data, without header and padding
@@ -86,7 +88,7 @@ def index_of(chunks):
     return body
 
 
-def entries_of(body, chunks):
+def entries_of(body, chunks, profile):
     """Rules 4 to 6, refusals 12 to 16 and 27 (02, P5): entry by entry, all six of an entry before the next one."""
     behind = {c.start: c for c in chunks[1:]}                   # rule 4: chunks other than the index, by their first byte
     entries, seen = [], set()
@@ -96,7 +98,7 @@ def entries_of(body, chunks):
         usage, number, start = row[0:4], be32(row, 4), be32(row, 8)
         refuse_if(usage not in USAGES, 12, place)
         refuse_if(start not in behind, 13, place + 8)
-        refuse_if(not kind_fits(usage, behind[start]), 14, place)
+        refuse_if(not kind_fits(usage, behind[start], profile), 14, place)
         refuse_if(usage == EXEC and number != 0, 15, place + 4)
         refuse_if((usage, number) in seen, 16, place)
         refuse_if(entries and start < entries[-1].start, 27, place + 8)
@@ -105,8 +107,10 @@ def entries_of(body, chunks):
     return entries
 
 
-def kind_fits(usage, chunk):
-    """Rule 5."""
+def kind_fits(usage, chunk, profile):
+    """Rule 5, with the types that the profile adds."""
+    if profile == ADRIFT and chunk.kind in ADRIFT_KINDS.get(usage, ()):
+        return True
     if usage == PICT and chunk.kind == b"Rect":
         return len(chunk.body) == 8
     if usage == SND and chunk.kind == b"FORM":
@@ -132,11 +136,17 @@ def optional(chunks, entries):
 
 # ---- the whole file, and what is asked of it
 
-def parse(s):
+def known(profile):
+    """52 for an unknown profile, which comes before all others."""
+    refuse_if(profile not in (PLAIN, ADRIFT), 52, 0)
+
+
+def parse(s, profile=PLAIN):
     """The chunks and the entries of an accepted file, in file order; raises Refusal for any other."""
+    known(profile)
     head(s)
     chunks = chunks_of(s)
-    entries = entries_of(index_of(chunks), chunks)
+    entries = entries_of(index_of(chunks), chunks, profile)
     optional(chunks, entries)
     return chunks, entries
 
@@ -149,37 +159,37 @@ def answer(ask):
         return ("refused", r.number, r.place)
 
 
-def read(s):
+def read(s, profile=PLAIN):
     """For an accepted file its length and entry count."""
-    return answer(lambda: ("accepted", len(s), len(parse(s)[1])))
+    return answer(lambda: ("accepted", len(s), len(parse(s, profile)[1])))
 
 
-def entry(s, i):
+def entry(s, i, profile=PLAIN):
     """Entry i, from 0: the reader's refusals, then 22 if i isn't below the count."""
     def ask():
-        entries = parse(s)[1]
+        entries = parse(s, profile)[1]
         refuse_if(i >= len(entries), 22, 0)
         return ("given", *entries[i])
     return answer(ask)
 
 
-def find(s, usage, number):
+def find(s, usage, number, profile=PLAIN):
     """The chunk of a pair: the reader's refusals, then 22. An unknown usage is in no accepted index."""
-    chunks, entries = parse(s)
+    chunks, entries = parse(s, profile)
     starts = [e.start for e in entries if (e.usage, e.number) == (usage, number)]    # one at most, by rule 6
     refuse_if(not starts, 22, 0)
     return next(c for c in chunks if c.start == starts[0])
 
 
-def lookup(s, usage, number):
+def lookup(s, usage, number, profile=PLAIN):
     """The chunk's type and its data's start and length: the start is that of the part, behind the header."""
     def ask():
-        c = find(s, usage, number)
+        c = find(s, usage, number, profile)
         return ("found", c.kind, c.start + 8, len(c.body))
     return answer(ask)
 
 
-def part(s, usage, number):
+def part(s, usage, number, profile=PLAIN):
     """The data of the chunk, without header or padding; empty where lookup refuses."""
-    a = lookup(s, usage, number)
+    a = lookup(s, usage, number, profile)
     return s[a[2]:a[2] + a[3]] if a[0] == "found" else b""

@@ -2,11 +2,12 @@
 
 Written from the paper alone, like reference.py, on which it stands: it shares no code and no order of working with the library.
 
-    build(s, table)                  ("rows", count, table afterwards)    or ("refused", number, place, table)
-    check(s, table)                  ("accepted",)                        or ("refused", number, place)
+    build(s, table, profile)         ("rows", count, table afterwards)    or ("refused", number, place, table)
+    check(s, table, profile)         ("accepted",)                        or ("refused", number, place)
     search(table, usage, number)     ("at", start, probes)                or ("refused", 22, 0, probes)
 
-A table is a list of numbers of 32 bits; s is the whole file as bytes, a usage four bytes.
+A table is a list of numbers of 32 bits; s is the whole file as bytes, a usage four bytes, the profile (02, P12) plain where none
+is given.
 """
 import reference
 
@@ -16,16 +17,16 @@ def rows_of(table):
     return [tuple(table[3 * i:3 * i + 3]) for i in range(len(table) // 3)]
 
 
-def rows_for(s):
+def rows_for(s, profile=reference.PLAIN):
     """The rows of a file's table: usage (its four bytes as a number), number, start, by usage, then number."""
-    entries = reference.parse(s)[1]
+    entries = reference.parse(s, profile)[1]
     return sorted((int.from_bytes(e.usage, "big"), e.number, e.start) for e in entries)
 
 
-def build(s, table):
+def build(s, table, profile=reference.PLAIN):
     """The reader's refusals, then 34 at 0 where the slice is too small. The slice behind the last row stays as it was."""
     try:
-        rows = rows_for(s)
+        rows = rows_for(s, profile)
     except reference.Refusal as r:
         return ("refused", r.number, r.place, table)
     numbers = [x for row in rows for x in row]
@@ -34,10 +35,10 @@ def build(s, table):
     return ("rows", len(rows), numbers + table[len(numbers):])
 
 
-def check(s, table):
+def check(s, table, profile=reference.PLAIN):
     """The reader's refusals, then 35: the first differing row, or, if none differs, the smaller of the two whole-row counts."""
     try:
-        right = rows_for(s)
+        right = rows_for(s, profile)
     except reference.Refusal as r:
         return ("refused", r.number, r.place)
     if table == [x for row in right for x in row]:

@@ -203,8 +203,8 @@ static int run_calls(const struct library *l, unsigned file, unsigned call, unsi
             continue;
         }
         blorb_edit_answer a
-            = carry_out(l, s.file, s.room, s.length, journal(), JOURNAL_ROOM, 0, &edits[call - QUESTIONS]);
-        l->undo(s.file, s.room, a.length, journal(), JOURNAL_ROOM, a.used);
+            = carry_out(l, s.file, s.room, s.length, journal(), JOURNAL_ROOM, 0, BLORB_PLAIN, &edits[call - QUESTIONS]);
+        l->undo(s.file, s.room, a.length, journal(), JOURNAL_ROOM, a.used, BLORB_PLAIN);
     }
     free_sample(&s);
     return 0;

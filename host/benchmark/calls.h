@@ -4,24 +4,28 @@
 
 #include "blorb.h"
 
-typedef blorb_edit_answer adding(uint8_t *, size_t, size_t, uint8_t *, size_t, size_t, const char *, uint32_t, const char *,
+typedef blorb_read_answer reading_call(const uint8_t *, size_t, uint32_t);
+typedef blorb_lookup_answer lookup_call(const uint8_t *, size_t, uint32_t, const char *, uint32_t);
+typedef blorb_edit_answer adding(uint8_t *, size_t, size_t, uint8_t *, size_t, size_t, uint32_t, const char *, uint32_t, const char *,
                                  const uint8_t *, size_t);
+typedef blorb_edit_answer removing(uint8_t *, size_t, size_t, uint8_t *, size_t, size_t, uint32_t, const char *, uint32_t);
+typedef blorb_edit_answer undoing(uint8_t *, size_t, size_t, const uint8_t *, size_t, size_t, uint32_t);
 
 struct library {
     const char *name;
-    blorb_read_answer (*read)(const uint8_t *, size_t);
-    blorb_lookup_answer (*lookup)(const uint8_t *, size_t, const char *, uint32_t);
+    reading_call *read;
+    lookup_call *lookup;
     adding *add, *replace;
-    blorb_edit_answer (*remove)(uint8_t *, size_t, size_t, uint8_t *, size_t, size_t, const char *, uint32_t);
-    blorb_edit_answer (*undo)(uint8_t *, size_t, size_t, const uint8_t *, size_t, size_t);
+    removing *remove;
+    undoing *undo;
 };
 
 #define DECLARE(name)                                                                                                        \
-    blorb_read_answer name##_read(const uint8_t *, size_t);                                                                  \
-    blorb_lookup_answer name##_lookup(const uint8_t *, size_t, const char *, uint32_t);                                      \
+    reading_call name##_read;                                                                                                \
+    lookup_call name##_lookup;                                                                                               \
     adding name##_add, name##_replace;                                                                                       \
-    blorb_edit_answer name##_remove(uint8_t *, size_t, size_t, uint8_t *, size_t, size_t, const char *, uint32_t);           \
-    blorb_edit_answer name##_undo(uint8_t *, size_t, size_t, const uint8_t *, size_t, size_t);
+    removing name##_remove;                                                                                                  \
+    undoing name##_undo;
 
 DECLARE(plain)
 DECLARE(fast)

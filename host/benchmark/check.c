@@ -12,6 +12,7 @@ enum { SMALL = 1400, SMALL_JOURNAL = 400, STEPS = 16 };
 struct trio {
     uint8_t *file[LIBRARIES], *journal[LIBRARIES];
     size_t room, journal_room, length, used;
+    uint32_t profile;
 };
 
 static uint64_t state, seen[200], calls;
@@ -72,11 +73,11 @@ static void note(uint64_t refusal)
 
 static bool same_read(const struct trio *t)
 {
-    blorb_read_answer a = libraries[0].read(t->file[0], t->length);
+    blorb_read_answer a = libraries[0].read(t->file[0], t->length, t->profile);
 
     note(a.refusal);
     for (unsigned k = 1; k < LIBRARIES; k++) {
-        blorb_read_answer b = libraries[k].read(t->file[k], t->length);
+        blorb_read_answer b = libraries[k].read(t->file[k], t->length, t->profile);
         if (memcmp(&a, &b, sizeof a) != 0)
             return differ("a read", k);
     }
@@ -85,11 +86,11 @@ static bool same_read(const struct trio *t)
 
 static bool same_lookup(const struct trio *t, const char *usage, uint32_t number)
 {
-    blorb_lookup_answer a = libraries[0].lookup(t->file[0], t->length, usage, number);
+    blorb_lookup_answer a = libraries[0].lookup(t->file[0], t->length, t->profile, usage, number);
 
     note(a.refusal);
     for (unsigned k = 1; k < LIBRARIES; k++) {
-        blorb_lookup_answer b = libraries[k].lookup(t->file[k], t->length, usage, number);
+        blorb_lookup_answer b = libraries[k].lookup(t->file[k], t->length, t->profile, usage, number);
         if (a.refusal != b.refusal || a.place != b.place || a.type != b.type || a.start != b.start || a.length != b.length)
             return differ("a lookup", k);
     }
@@ -104,9 +105,9 @@ static bool same_edit(struct trio *t, const struct edit *e)
     for (unsigned k = 0; k < LIBRARIES; k++) {
         const struct library *l = &libraries[k];
         if (e == NULL)
-            a[k] = l->undo(t->file[k], t->room, t->length, t->journal[k], t->journal_room, t->used);
+            a[k] = l->undo(t->file[k], t->room, t->length, t->journal[k], t->journal_room, t->used, t->profile);
         else
-            a[k] = carry_out(l, t->file[k], t->room, t->length, t->journal[k], t->journal_room, t->used, e);
+            a[k] = carry_out(l, t->file[k], t->room, t->length, t->journal[k], t->journal_room, t->used, t->profile, e);
         if (memcmp(&a[0], &a[k], sizeof a[0]) != 0)
             return differ(e == NULL ? "an undo's answer" : "an edit's answer", k);
     }
@@ -121,6 +122,7 @@ static const char *const types[] = {"PNG ", "JPEG", "Rect", "OGGV", "FORM", "SON
                                     "AGT ", "RelN", "Fspc", "RIdx", "ANNO", "MOD ", "GLUL"};
 static const char *const suited[4][4] = {{"PNG ", "JPEG", "Rect", "Rect"}, {"OGGV", "MOD ", "SONG", "FORM"},
                                          {"TEXT", "BINA", "TEXT", "BINA"}, {"ZCOD", "GLUL", "AGT ", "EXEC"}};
+static const char *const adrift[2][4] = {{"GIF ", "GIF ", "GIF ", "WAV "}, {"WAV ", "MIDI", "MP3 ", "GIF "}};
 
 static struct resource some_resource(void)
 {
@@ -128,7 +130,7 @@ static struct resource some_resource(void)
     struct resource r = {usages[u], types[below(16)], u == 3 && below(8) != 0 ? 0 : below(6), below(24)};
 
     if (u < 4 && below(8) != 0)
-        r.type = suited[u][below(4)];
+        r.type = u < 2 && below(12) == 0 ? adrift[u][below(4)] : suited[u][below(4)];
     if (strcmp(r.type, "Rect") == 0 && below(8) != 0)
         r.size = 8;
     return r;
@@ -249,10 +251,11 @@ static bool some_call(struct trio *t)
 {
     struct edit e = {"", (enum kind)below(3), some_resource()};
     size_t used = t->used, length = t->length;
+    uint32_t profile = t->profile;
     bool good;
 
     aim(&e, t);
-    switch (below(10)) {
+    switch (below(11)) {
     case 0:
         return same_read(t);
     case 1:
@@ -273,6 +276,11 @@ static bool some_call(struct trio *t)
             t->used = used;
         }
         return good;
+    case 6: /* another profile, given once */
+        t->profile = below(3);
+        good = same_edit(t, below(2) == 0 ? NULL : &e);
+        t->profile = profile;
+        return good;
     default:
         return same_edit(t, &e);
     }
@@ -287,6 +295,7 @@ static bool some_case(void)
     if (below(3) == 0)
         length = spoilt(file, length);
     struct trio t = trio_of(file, length, length + below(90), below(SMALL_JOURNAL));
+    t.profile = below(8) == 0 ? below(4) : below(2);
     bool good = same_read(&t);
     for (unsigned i = 0; good && i < STEPS; i++)
         good = some_call(&t);
@@ -348,7 +357,7 @@ static bool all_seen(void)
 {
     static const uint8_t wanted[] = {0,  1,  2,  3,  4,  5,  6,  7,  8,  9,   10,  11,  12,  13,  14,  15,  16, 17,
                                      18, 19, 20, 21, 22, 23, 24, 25, 26, 27,  28,  29,  101, 109, 111, 112, 114, 115,
-                                     116, 119};
+                                     116, 119, 52};
     bool all = true;
 
     for (unsigned i = 0; i < sizeof wanted; i++)

@@ -1,6 +1,6 @@
 /*
  * The edits and the undo, for plain.c and fast.c. Before this is included, each of them has its own
- *   inspect(file, size, usage, number, at): verdict and facts, and
+ *   inspect(file, size, profile, usage, number, at): verdict and facts, and
  *   move_starts(file, count, limit, behind, other): starts above `limit` move by `behind`, all others by `other`;
  * and CALL(name) is the name that the call gets there.
  */
@@ -89,16 +89,18 @@ static void exchange(uint8_t *file, size_t length, size_t count, size_t start, s
     put_chunk(file + start, type, data, m);
 }
 
-static struct facts opened(const uint8_t *file, size_t size, size_t length, size_t journal_size, size_t used,
+static struct facts opened(const uint8_t *file, size_t size, size_t length, size_t journal_size, size_t used, uint32_t profile,
                            uint32_t usage, uint32_t number, size_t at)
 {
+    if (profile > BLORB_ADRIFT)
+        return (struct facts){.verdict = {BLORB_PROFILE, 0}};
     if (length > size || used > journal_size)
         return (struct facts){.verdict = {BLORB_LENGTHS, 0}};
-    return inspect(file, length, usage, number, at);
+    return inspect(file, length, profile, usage, number, at);
 }
 
 /* 100 + k of an add. */
-static struct verdict add_fault(const struct facts *f, size_t length, uint32_t usage, uint32_t number, uint32_t type,
+static struct verdict add_fault(const struct facts *f, size_t length, uint32_t profile, uint32_t usage, uint32_t number, uint32_t type,
                                 const uint8_t *data, size_t m)
 {
     size_t at = entry_at(f->count);
@@ -111,7 +113,7 @@ static struct verdict add_fault(const struct facts *f, size_t length, uint32_t u
         return (struct verdict){BLORB_RESULT_TOO_MANY, 20};
     if (!known_usage(usage))
         return (struct verdict){BLORB_RESULT_USAGE, at};
-    if (!type_allowed(usage, type, data, m))
+    if (!type_allowed(profile, usage, type, data, m))
         return (struct verdict){BLORB_RESULT_TYPE, at};
     if (usage == BLORB_EXEC && number != 0)
         return (struct verdict){BLORB_RESULT_EXEC_NUMBER, at + 4};
@@ -121,15 +123,15 @@ static struct verdict add_fault(const struct facts *f, size_t length, uint32_t u
 }
 
 blorb_edit_answer CALL(add)(uint8_t *file, size_t size, size_t length, uint8_t *journal, size_t journal_size, size_t used,
-                            const char *usage, uint32_t number, const char *type, const uint8_t *data, size_t m)
+                            uint32_t profile, const char *usage, uint32_t number, const char *type, const uint8_t *data, size_t m)
 {
     uint32_t u = tag(usage), t = tag(type);
-    struct facts f = opened(file, size, length, journal_size, used, u, number, 0);
+    struct facts f = opened(file, size, length, journal_size, used, profile, u, number, 0);
     size_t more = 12 + chunk_size(m);
 
     if (f.verdict.refusal != 0)
         return answer(f.verdict.refusal, f.verdict.place, length, used);
-    struct verdict v = add_fault(&f, length, u, number, t, data, m);
+    struct verdict v = add_fault(&f, length, profile, u, number, t, data, m);
     if (v.refusal != 0)
         return answer(v.refusal, v.place, length, used);
     if (length + more > size)
@@ -148,14 +150,14 @@ static bool is_front(const struct facts *f, uint32_t usage, uint32_t number)
 }
 
 /* 100 + k of a replacement; `end` is the new file's length. */
-static struct verdict replace_fault(const struct facts *f, size_t end, uint32_t usage, uint32_t number, uint32_t type,
+static struct verdict replace_fault(const struct facts *f, size_t end, uint32_t profile, uint32_t usage, uint32_t number, uint32_t type,
                                     const uint8_t *data, size_t m)
 {
     if (end > BLORB_MAX_SIZE)
         return (struct verdict){BLORB_RESULT_TOO_LONG, 0};
     if (type == RIDX)
         return (struct verdict){BLORB_RESULT_SECOND_INDEX, f->start};
-    if (!type_allowed(usage, type, data, m))
+    if (!type_allowed(profile, usage, type, data, m))
         return (struct verdict){BLORB_RESULT_TYPE, entry_at(f->place)};
     if (type == RECT && is_front(f, usage, number)) {
         size_t front = f->front_start;
@@ -167,11 +169,11 @@ static struct verdict replace_fault(const struct facts *f, size_t end, uint32_t 
 }
 
 blorb_edit_answer CALL(replace)(uint8_t *file, size_t size, size_t length, uint8_t *journal, size_t journal_size,
-                                size_t used, const char *usage, uint32_t number, const char *type, const uint8_t *data,
-                                size_t m)
+                                size_t used, uint32_t profile, const char *usage, uint32_t number, const char *type,
+                                const uint8_t *data, size_t m)
 {
     uint32_t u = tag(usage), t = tag(type);
-    struct facts f = opened(file, size, length, journal_size, used, u, number, 0);
+    struct facts f = opened(file, size, length, journal_size, used, profile, u, number, 0);
 
     if (f.verdict.refusal != 0)
         return answer(f.verdict.refusal, f.verdict.place, length, used);
@@ -180,7 +182,7 @@ blorb_edit_answer CALL(replace)(uint8_t *file, size_t size, size_t length, uint8
     if (f.shared)
         return answer(BLORB_SHARED, 0, length, used);
     size_t end = length - chunk_size(f.length) + chunk_size(m);
-    struct verdict v = replace_fault(&f, end, u, number, t, data, m);
+    struct verdict v = replace_fault(&f, end, profile, u, number, t, data, m);
     if (v.refusal != 0)
         return answer(v.refusal, v.place, length, used);
     if (end > size)
@@ -194,10 +196,10 @@ blorb_edit_answer CALL(replace)(uint8_t *file, size_t size, size_t length, uint8
 }
 
 blorb_edit_answer CALL(remove)(uint8_t *file, size_t size, size_t length, uint8_t *journal, size_t journal_size,
-                               size_t used, const char *usage, uint32_t number)
+                               size_t used, uint32_t profile, const char *usage, uint32_t number)
 {
     uint32_t u = tag(usage);
-    struct facts f = opened(file, size, length, journal_size, used, u, number, 0);
+    struct facts f = opened(file, size, length, journal_size, used, profile, u, number, 0);
 
     if (f.verdict.refusal != 0)
         return answer(f.verdict.refusal, f.verdict.place, length, used);
@@ -248,15 +250,15 @@ static bool in_order(const struct facts *f, const struct record *r, const uint8_
 }
 
 /* Whether the entry of a removal's record may go in again at `at`, with a chunk of this type and data. */
-static bool goes_in(const struct facts *f, const struct record *r, const uint8_t *file, size_t at, uint32_t type,
+static bool goes_in(const struct facts *f, const struct record *r, uint32_t profile, const uint8_t *file, size_t at, uint32_t type,
                     const uint8_t *data, size_t m)
 {
-    return r->place <= f->count && f->count < BLORB_MAX_ENTRIES && !f->found && type_allowed(r->usage, type, data, m)
+    return r->place <= f->count && f->count < BLORB_MAX_ENTRIES && !f->found && type_allowed(profile, r->usage, type, data, m)
         && (r->usage != BLORB_EXEC || r->number == 0) && in_order(f, r, file, at);
 }
 
 /* Whether the record fits the file and leads to an accepted one; `to` becomes that one's length. */
-static bool fits(const struct facts *f, const struct record *r, const uint8_t *file, size_t length, const uint8_t *data,
+static bool fits(const struct facts *f, const struct record *r, uint32_t profile, const uint8_t *file, size_t length, const uint8_t *data,
                  size_t *to)
 {
     size_t own = chunk_size(f->length), old = chunk_size(r->length), at = r->start - (size_t)12;
@@ -269,15 +271,15 @@ static bool fits(const struct facts *f, const struct record *r, const uint8_t *f
     case 2:
         *to = length - own + old;
         return f->found && f->place == r->place && f->start == r->start && !f->shared && *to <= BLORB_MAX_SIZE
-            && type_allowed(r->usage, r->type, data, r->length)
+            && type_allowed(profile, r->usage, r->type, data, r->length)
             && !(r->type == RECT && is_front(f, r->usage, r->number));
     case 3:
         *to = length + 12 + old;
-        return (f->begins || at == length) && *to <= BLORB_MAX_SIZE && goes_in(f, r, file, at, r->type, data, r->length);
+        return (f->begins || at == length) && *to <= BLORB_MAX_SIZE && goes_in(f, r, profile, file, at, r->type, data, r->length);
     default:
         *to = length + 12;
         return f->begins && *to <= BLORB_MAX_SIZE
-            && goes_in(f, r, file, at, get32(file + at), file + at + 8, get32(file + at + 4));
+            && goes_in(f, r, profile, file, at, get32(file + at), file + at + 8, get32(file + at + 4));
     }
 }
 
@@ -298,7 +300,7 @@ static void take_back(uint8_t *file, size_t length, const struct facts *f, const
 }
 
 blorb_edit_answer CALL(undo)(uint8_t *file, size_t size, size_t length, const uint8_t *journal, size_t journal_size,
-                             size_t used)
+                             size_t used, uint32_t profile)
 {
     struct record r = {0, 0, 0, 0, 0, 0, 0};
 
@@ -306,7 +308,7 @@ blorb_edit_answer CALL(undo)(uint8_t *file, size_t size, size_t length, const ui
         r = last_record(journal, used);
     /* Only what was removed goes in where a chunk begins. */
     size_t asked = r.kind < 3 || r.start < 12 ? 0 : r.start - 12;
-    struct facts f = opened(file, size, length, journal_size, used, r.usage, r.number, asked);
+    struct facts f = opened(file, size, length, journal_size, used, profile, r.usage, r.number, asked);
     if (f.verdict.refusal != 0)
         return answer(f.verdict.refusal, f.verdict.place, length, used);
     if (used == 0)
@@ -315,7 +317,7 @@ blorb_edit_answer CALL(undo)(uint8_t *file, size_t size, size_t length, const ui
         return answer(BLORB_RECORD, 0, length, used);
     size_t to;
     const uint8_t *data = journal + used - 4 - r.length;
-    if (!fits(&f, &r, file, length, data, &to))
+    if (!fits(&f, &r, profile, file, length, data, &to))
         return answer(BLORB_RECORD, 0, length, used);
     if (to > size)
         return answer(BLORB_FILE_ROOM, 0, length, used);

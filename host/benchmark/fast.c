@@ -59,22 +59,22 @@ static uint32_t raw32(const uint8_t *p)
 }
 
 /* Refusals 12, 14 and 15 of the entry at `e`, which has another usage or type than the last one. */
-static inline bool other_kind(struct tops *t, const uint8_t *e, const uint8_t *chunk)
+static inline bool other_kind(struct tops *t, uint32_t profile, const uint8_t *e, const uint8_t *chunk)
 {
     uint32_t usage = get32(e), type = get32(chunk);
 
-    if (!type_allowed(usage, type, chunk + 8, get32(chunk + 4)) || (usage == BLORB_EXEC && get32(e + 4) != 0))
+    if (!type_allowed(profile, usage, type, chunk + 8, get32(chunk + 4)) || (usage == BLORB_EXEC && get32(e + 4) != 0))
         return false;
     t->allowed = type == RECT || type == FORM || usage == BLORB_EXEC ? 0 : (uint64_t)raw32(chunk) << 32 | raw32(e);
     return true;
 }
 
 /* Whether the entry at `e` is in order and its number above all before it of its usage. */
-static inline bool rising(struct tops *t, const uint8_t *e, const uint8_t *chunk)
+static inline bool rising(struct tops *t, uint32_t profile, const uint8_t *e, const uint8_t *chunk)
 {
     uint64_t number = get32(e + 4), *top = &t->of[e[0] % 8];
 
-    if (((uint64_t)raw32(chunk) << 32 | raw32(e)) != t->allowed && !other_kind(t, e, chunk))
+    if (((uint64_t)raw32(chunk) << 32 | raw32(e)) != t->allowed && !other_kind(t, profile, e, chunk))
         return false;
     if (number < *top)
         return false;
@@ -95,7 +95,7 @@ static bool passed_over(const uint8_t *file, size_t size, size_t *at, size_t to,
 }
 
 /* Entries and chunks side by side: false where the file must be judged otherwise. */
-static INLINE bool side_by_side(const uint8_t *file, size_t size, uint64_t pair, size_t asked, struct facts *f)
+static INLINE bool side_by_side(const uint8_t *file, size_t size, uint32_t profile, uint64_t pair, size_t asked, struct facts *f)
 {
     struct tops tops = {{0}, 0};
     size_t count = get32(file + 20), at = entry_at(count), last = 0, hit = 0;
@@ -113,7 +113,7 @@ static INLINE bool side_by_side(const uint8_t *file, size_t size, uint64_t pair,
                 return false;
             last = start;
         }
-        if (!rising(&tops, e, file + same))
+        if (!rising(&tops, profile, e, file + same))
             return false;
         if (pair_at(e) == pair)
             hit = (size_t)(e - file);
@@ -203,7 +203,7 @@ static bool repeated(const uint8_t *file, size_t j, struct ranges *r)
 }
 
 /* Refusals 12 to 16 and 27, and the pair asked for. */
-static struct verdict entries(const uint8_t *file, size_t chunks, uint64_t pair, struct facts *f)
+static struct verdict entries(const uint8_t *file, size_t chunks, uint32_t profile, uint64_t pair, struct facts *f)
 {
     struct ranges ranges = {{0}, {0}, 0};
     size_t near = 0, hit = f->count;
@@ -217,7 +217,7 @@ static struct verdict entries(const uint8_t *file, size_t chunks, uint64_t pair,
         near = place_of(chunks, start, near);
         if (near == chunks)
             return (struct verdict){BLORB_START, at + 8};
-        if (!type_allowed(usage, get32(file + start), file + start + 8, get32(file + start + 4)))
+        if (!type_allowed(profile, usage, get32(file + start), file + start + 8, get32(file + start + 4)))
             return (struct verdict){BLORB_TYPE, at};
         if (usage == BLORB_EXEC && get32(file + at + 4) != 0)
             return (struct verdict){BLORB_EXEC_NUMBER, at + 4};
@@ -290,7 +290,7 @@ static bool has_start_twice(const uint8_t *file, const struct facts *f)
 }
 
 /* Refusals 6 to 19, 28 and 29 of any file. */
-static struct verdict judge(const uint8_t *file, size_t size, uint64_t pair, size_t asked, struct facts *f)
+static struct verdict judge(const uint8_t *file, size_t size, uint32_t profile, uint64_t pair, size_t asked, struct facts *f)
 {
     size_t chunks;
     bool specials;
@@ -309,7 +309,7 @@ static struct verdict judge(const uint8_t *file, size_t size, uint64_t pair, siz
     if (v.refusal != 0)
         return v;
     f->count = get32(file + 20);
-    v = entries(file, chunks, pair, f);
+    v = entries(file, chunks, profile, pair, f);
     if (v.refusal == 0 && specials)
         v = optional(file, chunks, f);
     f->begins = asked != 0 && place_of(chunks, (uint32_t)asked, 0) < chunks;
@@ -322,39 +322,39 @@ static bool index_whole(const uint8_t *file, size_t size)
     return size >= 24 && get32(file + 12) == RIDX && index_shape(file).refusal == 0 && entry_at(get32(file + 20)) <= size;
 }
 
-static APART void inspect_any(const uint8_t *file, size_t size, uint64_t pair, size_t asked, struct facts *f)
+static APART void inspect_any(const uint8_t *file, size_t size, uint32_t profile, uint64_t pair, size_t asked, struct facts *f)
 {
     *f = (struct facts){.count = 0};
-    f->verdict = judge(file, size, pair, asked, f);
+    f->verdict = judge(file, size, profile, pair, asked, f);
     if (f->verdict.refusal == 0 && f->found)
         f->shared = has_start_twice(file, f);
 }
 
-static INLINE struct facts inspect(const uint8_t *file, size_t size, uint32_t usage, uint32_t number, size_t asked)
+static INLINE struct facts inspect(const uint8_t *file, size_t size, uint32_t profile, uint32_t usage, uint32_t number, size_t asked)
 {
     struct facts f = {.count = 0};
     uint64_t pair = pair_of(usage, number);
 
-    f.verdict = head(file, size);
+    f.verdict = head(file, size, profile);
     if (f.verdict.refusal != 0)
         return f;
-    if (!index_whole(file, size) || !side_by_side(file, size, pair, asked, &f))
-        inspect_any(file, size, pair, asked, &f);
+    if (!index_whole(file, size) || !side_by_side(file, size, profile, pair, asked, &f))
+        inspect_any(file, size, profile, pair, asked, &f);
     return f;
 }
 
-blorb_read_answer fast_read(const uint8_t *file, size_t size)
+blorb_read_answer fast_read(const uint8_t *file, size_t size, uint32_t profile)
 {
-    struct facts f = inspect(file, size, 0, 0, 0);
+    struct facts f = inspect(file, size, profile, 0, 0, 0);
 
     if (f.verdict.refusal != 0)
         return (blorb_read_answer){f.verdict.refusal, f.verdict.place, 0, 0};
     return (blorb_read_answer){0, 0, size, f.count};
 }
 
-blorb_lookup_answer fast_lookup(const uint8_t *file, size_t size, const char *usage, uint32_t number)
+blorb_lookup_answer fast_lookup(const uint8_t *file, size_t size, uint32_t profile, const char *usage, uint32_t number)
 {
-    struct facts f = inspect(file, size, tag(usage), number, 0);
+    struct facts f = inspect(file, size, profile, tag(usage), number, 0);
 
     if (f.verdict.refusal != 0)
         return (blorb_lookup_answer){f.verdict.refusal, f.verdict.place, 0, 0, 0};

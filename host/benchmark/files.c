@@ -159,12 +159,12 @@ void edits_of(const struct sample *s, struct edit edits[EDITS])
 }
 
 blorb_edit_answer carry_out(const struct library *l, uint8_t *file, size_t room, size_t length, uint8_t *journal,
-                            size_t journal_room, size_t used, const struct edit *e)
+                            size_t journal_room, size_t used, uint32_t profile, const struct edit *e)
 {
     const struct resource *r = &e->what;
 
     if (e->kind == REMOVE)
-        return l->remove(file, room, length, journal, journal_room, used, r->usage, r->number);
+        return l->remove(file, room, length, journal, journal_room, used, profile, r->usage, r->number);
     adding *call = e->kind == ADD ? l->add : l->replace;
-    return call(file, room, length, journal, journal_room, used, r->usage, r->number, r->type, payload() + 1, r->size);
+    return call(file, room, length, journal, journal_room, used, profile, r->usage, r->number, r->type, payload() + 1, r->size);
 }

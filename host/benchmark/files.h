@@ -54,6 +54,6 @@ void edits_of(const struct sample *s, struct edit edits[EDITS]);
 const uint8_t *payload(void);
 
 blorb_edit_answer carry_out(const struct library *l, uint8_t *file, size_t room, size_t length, uint8_t *journal,
-                            size_t journal_room, size_t used, const struct edit *e);
+                            size_t journal_room, size_t used, uint32_t profile, const struct edit *e);
 
 #endif

@@ -87,9 +87,20 @@ static inline bool exec_type(uint32_t type)
     }
 }
 
-/* Rule 5. An unknown usage allows nothing. */
-static inline bool type_allowed(uint32_t usage, uint32_t type, const uint8_t *data, size_t m)
+/* What the ADRIFT profile allows besides. */
+static inline bool adrift_type(uint32_t usage, uint32_t type)
 {
+    if (usage == BLORB_PICT)
+        return type == BLORB_TAG('G', 'I', 'F', ' ');
+    return usage == BLORB_SND
+        && (type == BLORB_TAG('W', 'A', 'V', ' ') || type == BLORB_TAG('M', 'I', 'D', 'I') || type == BLORB_TAG('M', 'P', '3', ' '));
+}
+
+/* Rule 5. An unknown usage allows nothing. */
+static inline bool type_allowed(uint32_t profile, uint32_t usage, uint32_t type, const uint8_t *data, size_t m)
+{
+    if (profile == BLORB_ADRIFT && adrift_type(usage, type))
+        return true;
     switch (usage) {
     case BLORB_PICT:
         return type == BLORB_TAG('J', 'P', 'E', 'G') || type == BLORB_TAG('P', 'N', 'G', ' ') || (type == RECT && m == 8);
@@ -107,9 +118,11 @@ static inline bool type_allowed(uint32_t usage, uint32_t type, const uint8_t *da
     }
 }
 
-/* Refusals 1 to 5. */
-static inline struct verdict head(const uint8_t *file, size_t size)
+/* Refusals 52 and 1 to 5. */
+static inline struct verdict head(const uint8_t *file, size_t size, uint32_t profile)
 {
+    if (profile > BLORB_ADRIFT)
+        return (struct verdict){BLORB_PROFILE, 0};
     if (size > BLORB_MAX_SIZE)
         return (struct verdict){BLORB_TOO_LONG, 0};
     if (size < 12)

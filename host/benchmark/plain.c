@@ -81,7 +81,7 @@ static bool begins(const uint8_t *file, size_t size, size_t from, size_t start)
 }
 
 /* Refusals 12 to 15 of the entry at `e`; `found` is where the last entry's chunk begins, and becomes where this one's does. */
-static struct verdict entry_fault(const uint8_t *file, size_t size, size_t base, size_t e, size_t *found)
+static struct verdict entry_fault(const uint8_t *file, size_t size, uint32_t profile, size_t base, size_t e, size_t *found)
 {
     uint32_t usage = get32(file + e), number = get32(file + e + 4);
     size_t start = get32(file + e + 8);
@@ -90,7 +90,7 @@ static struct verdict entry_fault(const uint8_t *file, size_t size, size_t base,
         return (struct verdict){BLORB_USAGE, e};
     if (!begins(file, size, *found <= start ? *found : base, start))
         return (struct verdict){BLORB_START, e + 8};
-    if (!type_allowed(usage, get32(file + start), file + start + 8, get32(file + start + 4)))
+    if (!type_allowed(profile, usage, get32(file + start), file + start + 8, get32(file + start + 4)))
         return (struct verdict){BLORB_TYPE, e};
     if (usage == BLORB_EXEC && number != 0)
         return (struct verdict){BLORB_EXEC_NUMBER, e + 4};
@@ -104,14 +104,14 @@ static bool same_pair(const uint8_t *file, size_t i, size_t j)
 }
 
 /* Refusals 12 to 16 and 27. The usages differ in the low three bits of their first byte. */
-static struct verdict entries(const uint8_t *file, size_t size, size_t count)
+static struct verdict entries(const uint8_t *file, size_t size, uint32_t profile, size_t count)
 {
     uint64_t tops[8] = {0};
     size_t base = entry_at(count), found = base;
 
     for (size_t j = 0; j < count; j++) {
         size_t e = entry_at(j), before = found;
-        struct verdict v = entry_fault(file, size, base, e, &found);
+        struct verdict v = entry_fault(file, size, profile, base, e, &found);
         if (v.refusal != 0)
             return v;
         uint64_t number = get32(file + e + 4), *top = &tops[file[e] % 8];
@@ -171,9 +171,9 @@ static struct verdict optional(const uint8_t *file, size_t size, size_t count)
     return (struct verdict){0, 0};
 }
 
-static struct verdict judge(const uint8_t *file, size_t size, struct reading *r)
+static struct verdict judge(const uint8_t *file, size_t size, uint32_t profile, struct reading *r)
 {
-    struct verdict v = head(file, size);
+    struct verdict v = head(file, size, profile);
 
     if (v.refusal != 0)
         return v;
@@ -191,26 +191,26 @@ static struct verdict judge(const uint8_t *file, size_t size, struct reading *r)
     if (v.refusal != 0)
         return v;
     r->count = get32(file + 20);
-    v = entries(file, size, r->count);
+    v = entries(file, size, profile, r->count);
     if (v.refusal != 0 || r->ordinary)
         return v;
     return optional(file, size, r->count);
 }
 
-blorb_read_answer plain_read(const uint8_t *file, size_t size)
+blorb_read_answer plain_read(const uint8_t *file, size_t size, uint32_t profile)
 {
     struct reading r;
-    struct verdict v = judge(file, size, &r);
+    struct verdict v = judge(file, size, profile, &r);
 
     if (v.refusal != 0)
         return (blorb_read_answer){v.refusal, v.place, 0, 0};
     return (blorb_read_answer){0, 0, size, r.count};
 }
 
-blorb_lookup_answer plain_lookup(const uint8_t *file, size_t size, const char *usage, uint32_t number)
+blorb_lookup_answer plain_lookup(const uint8_t *file, size_t size, uint32_t profile, const char *usage, uint32_t number)
 {
     struct reading r;
-    struct verdict v = judge(file, size, &r);
+    struct verdict v = judge(file, size, profile, &r);
 
     if (v.refusal != 0)
         return (blorb_lookup_answer){v.refusal, v.place, 0, 0, 0};
@@ -240,12 +240,12 @@ static void find_front(const uint8_t *file, size_t size, struct facts *f)
         }
 }
 
-static struct facts inspect(const uint8_t *file, size_t size, uint32_t usage, uint32_t number, size_t at)
+static struct facts inspect(const uint8_t *file, size_t size, uint32_t profile, uint32_t usage, uint32_t number, size_t at)
 {
     struct facts f = {{0, 0}, 0, false, false, 0, 0, 0, 0, false, 0, 0, false};
     struct reading r;
 
-    f.verdict = judge(file, size, &r);
+    f.verdict = judge(file, size, profile, &r);
     if (f.verdict.refusal != 0)
         return f;
     f.count = r.count;

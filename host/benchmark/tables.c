@@ -134,16 +134,16 @@ static double time_once(enum what w, const uint8_t *f, size_t length, size_t cou
     for (unsigned i = 0; i < calls; i++)
         switch (w) {
         case READ_ONLY:
-            sink = blorb_read(f, length).count;
+            sink = blorb_read(f, length, BLORB_PLAIN).count;
             break;
         case BUILD:
-            sink = blorb_table_build(f, length, table, 3 * count).rows;
+            sink = blorb_table_build(f, length, BLORB_PLAIN, table, 3 * count).rows;
             break;
         case C_BUILD:
             c_build(f, count);
             break;
         default:
-            sink = blorb_table_check(f, length, table, 3 * count).refusal;
+            sink = blorb_table_check(f, length, BLORB_PLAIN, table, 3 * count).refusal;
         }
     return (now() - from) / calls;
 }
@@ -173,7 +173,7 @@ static void print_one(size_t count, unsigned order, double in_order)
     size_t length;
     uint8_t *f = file_of(count, order, &length);
 
-    if (blorb_table_build(f, length, table, MOST_NUMBERS).rows != count)
+    if (blorb_table_build(f, length, BLORB_PLAIN, table, MOST_NUMBERS).rows != count)
         exit(1);
     c_build(f, count);
     if (memcmp(table, other, 3 * count * sizeof *table) != 0)
@@ -193,7 +193,7 @@ static double read_in_order(size_t count)
     size_t length;
     uint8_t *f = file_of(count, 0, &length);
 
-    blorb_table_build(f, length, table, MOST_NUMBERS);
+    blorb_table_build(f, length, BLORB_PLAIN, table, MOST_NUMBERS);
     measure(f, length, count, t);
     free(f);
     return t[READ_ONLY];
@@ -207,11 +207,11 @@ static void print_opening(void)
     double from = now();
 
     for (size_t i = 0; i < count; i++)
-        sink = blorb_lookup(f, length, "Data", get32(f + entry_at(i) + 4)).start;
+        sink = blorb_lookup(f, length, BLORB_PLAIN, "Data", get32(f + entry_at(i) + 4)).start;
     double plainly = now() - from;
-    blorb_table_build(f, length, table, MOST_NUMBERS);
+    blorb_table_build(f, length, BLORB_PLAIN, table, MOST_NUMBERS);
     from = now();
-    sink = blorb_table_check(f, length, table, 3 * count).refusal;
+    sink = blorb_table_check(f, length, BLORB_PLAIN, table, 3 * count).refusal;
     double searched = now() - from + search_all(f, count, 0) * (double)count;
     printf("\nAll 4,096 resources of a file in order: %.1f ms by lookups, %.3f ms by one check and 4,096 searches (%.0f times as fast).\n",
            plainly / 1e6, searched / 1e6, plainly / searched);

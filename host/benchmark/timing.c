@@ -71,16 +71,16 @@ void ask(const struct library *l, const struct sample *s, enum question q)
 {
     switch (q) {
     case READ:
-        sink = l->read(s->file, s->length).count;
+        sink = l->read(s->file, s->length, BLORB_PLAIN).count;
         return;
     case FIRST:
-        sink = l->lookup(s->file, s->length, s->first.usage, s->first.number).start;
+        sink = l->lookup(s->file, s->length, BLORB_PLAIN, s->first.usage, s->first.number).start;
         return;
     case LAST:
-        sink = l->lookup(s->file, s->length, s->last.usage, s->last.number).start;
+        sink = l->lookup(s->file, s->length, BLORB_PLAIN, s->last.usage, s->last.number).start;
         return;
     default:
-        sink = l->lookup(s->file, s->length, "Data", 999999).start;
+        sink = l->lookup(s->file, s->length, BLORB_PLAIN, "Data", 999999).start;
     }
 }
 
@@ -114,9 +114,9 @@ void time_question(const struct sample *s, enum question q, struct times *t)
 static void time_pair(const struct library *l, const struct sample *s, const struct edit *e, double *edit, double *undo)
 {
     double t0 = now();
-    blorb_edit_answer a = carry_out(l, s->file, s->room, s->length, journal(), JOURNAL_ROOM, 0, e);
+    blorb_edit_answer a = carry_out(l, s->file, s->room, s->length, journal(), JOURNAL_ROOM, 0, BLORB_PLAIN, e);
     double t1 = now();
-    blorb_edit_answer b = l->undo(s->file, s->room, a.length, journal(), JOURNAL_ROOM, a.used);
+    blorb_edit_answer b = l->undo(s->file, s->room, a.length, journal(), JOURNAL_ROOM, a.used, BLORB_PLAIN);
     double t2 = now();
 
     if (a.refusal != 0 || b.refusal != 0 || b.length != s->length || b.used != 0) {

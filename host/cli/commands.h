@@ -7,6 +7,7 @@
 /* What the user asked for; what a command does not take or was not given stays zero. */
 typedef struct request {
     const char *file;
+    uint32_t profile;   /* BLORB_PLAIN, or with --adrift BLORB_ADRIFT */
     char usage[4];
     uint32_t number;
     char type[4];

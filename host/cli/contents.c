@@ -9,6 +9,7 @@
 #include <unistd.h>
 
 #include "files.h"
+#include "kinds.h"
 #include "words.h"
 
 /* Where the first entry stands, and its parts in it. */
@@ -56,23 +57,32 @@ static void tell_entry(const contents *c, char about[ABOUT_SIZE])
     }
 }
 
+/* What to do where the usual advice is not the best: a plain reading met a type of the ADRIFT house. */
+static const char *advice_for(const contents *c)
+{
+    if (c->read.refusal != BLORB_TYPE || c->profile != BLORB_PLAIN)
+        return NULL;
+    entry e = entry_at(c->file, (size_t)(c->read.place - FIRST_ENTRY) / BLORB_ENTRY_SIZE);
+    return only_adrift(e.usage, type_at(c->file, e.start)) ? USE_ADRIFT : NULL;
+}
+
 int say_refused_contents(const contents *c, const char *shown)
 {
     char about[ABOUT_SIZE];
     tell_entry(c, about);
-    return say_refused(shown, c->read.refusal, c->read.place, about, NULL);
+    return say_refused(shown, c->read.refusal, c->read.place, about, advice_for(c));
 }
 
 int say_reason(const contents *c, const char *shown)
 {
     char about[ABOUT_SIZE];
     tell_entry(c, about);
-    return say_meaning(shown, c->read.refusal, about);
+    return say_meaning(shown, c->read.refusal, about, advice_for(c));
 }
 
-int load_contents(contents *c, const char *shown, int fd)
+int load_contents(contents *c, const char *shown, int fd, uint32_t profile)
 {
-    *c = (contents){0};
+    *c = (contents){.profile = profile};
     if (fd < 0)
         return say_failed(shown, "the file cannot be opened");
     c->file = malloc(BLORB_MAX_SIZE + 1);
@@ -84,13 +94,13 @@ int load_contents(contents *c, const char *shown, int fd)
     close(fd);
     if (status != CARRIED_OUT)
         return status;
-    c->read = blorb_read(c->file, c->length);
+    c->read = blorb_read(c->file, c->length, profile);
     return c->read.refusal == BLORB_DONE ? CARRIED_OUT : REFUSED;
 }
 
-int load_accepted(contents *c, const char *shown, int fd)
+int load_accepted(contents *c, const char *shown, int fd, uint32_t profile)
 {
-    int status = load_contents(c, shown, fd);
+    int status = load_contents(c, shown, fd, profile);
     return status == REFUSED ? say_refused_contents(c, shown) : status;
 }
 

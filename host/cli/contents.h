@@ -13,18 +13,19 @@ typedef struct contents {
     uint8_t *file; /* room for every file that the library takes, and one byte more */
     size_t length;
     struct stat status;
+    uint32_t profile; /* that it was judged under */
     blorb_read_answer read;
 } contents;
 
-/* Reads an open file, closes it and judges it. What fails is said. Gives the exit status. `c` is to be freed in any case. */
-int load_contents(contents *c, const char *shown, int fd);
+/* Reads an open file, closes it and judges it under a profile. What fails is said. Gives the exit status. `c` is to be freed in any case. */
+int load_contents(contents *c, const char *shown, int fd, uint32_t profile);
 
 /* Says why the library refused the file, with number and place or without. Gives REFUSED. */
 int say_refused_contents(const contents *c, const char *shown);
 int say_reason(const contents *c, const char *shown);
 
 /* Both, for commands that need an accepted file. */
-int load_accepted(contents *c, const char *shown, int fd);
+int load_accepted(contents *c, const char *shown, int fd, uint32_t profile);
 void free_contents(contents *c);
 
 typedef struct entry {

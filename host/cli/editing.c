@@ -25,18 +25,18 @@ typedef blorb_edit_answer call(const request *r, contents *c, uint8_t *room, siz
 
 static blorb_edit_answer call_add(const request *r, contents *c, uint8_t *room, size_t size, bytes held)
 {
-    return blorb_add(c->file, BLORB_MAX_SIZE, c->length, room, size, 0, r->usage, r->number, r->type, held.at, held.length);
+    return blorb_add(c->file, BLORB_MAX_SIZE, c->length, room, size, 0, c->profile, r->usage, r->number, r->type, held.at, held.length);
 }
 
 static blorb_edit_answer call_replace(const request *r, contents *c, uint8_t *room, size_t size, bytes held)
 {
-    return blorb_replace(c->file, BLORB_MAX_SIZE, c->length, room, size, 0, r->usage, r->number, r->type, held.at, held.length);
+    return blorb_replace(c->file, BLORB_MAX_SIZE, c->length, room, size, 0, c->profile, r->usage, r->number, r->type, held.at, held.length);
 }
 
 static blorb_edit_answer call_remove(const request *r, contents *c, uint8_t *room, size_t size, bytes held)
 {
     (void)held;
-    return blorb_remove(c->file, BLORB_MAX_SIZE, c->length, room, size, 0, r->usage, r->number);
+    return blorb_remove(c->file, BLORB_MAX_SIZE, c->length, room, size, 0, c->profile, r->usage, r->number);
 }
 
 static int refused_edit(const request *r, const blorb_edit_answer *a, const data *d)
@@ -47,7 +47,8 @@ static int refused_edit(const request *r, const blorb_edit_answer *a, const data
     snprintf(about, sizeof about, d != NULL ? "%s %s" : "%s", pair, type);
     int sound = d != NULL && a->refusal == BLORB_RESULT_TYPE && memcmp(r->usage, "Snd ", 4) == 0
         && memcmp(r->type, "FORM", 4) == 0 && aiff_advice(d->whole, advice);
-    return say_refused(r->file, a->refusal, a->place, about, sound ? advice : NULL);
+    int house = d != NULL && a->refusal == BLORB_RESULT_TYPE && r->profile == BLORB_PLAIN && only_adrift(r->usage, r->type);
+    return say_refused(r->file, a->refusal, a->place, about, sound ? advice : house ? USE_ADRIFT : NULL);
 }
 
 /* Data that is not what its type stands for is only put in where the user says so. */
@@ -79,7 +80,7 @@ static int load_to_edit(editing *e)
     int fd = openat(e->p.folder, e->p.name, O_RDWR | O_CLOEXEC);
     if (fd < 0 && errno == ENOENT)
         return say_cannot(file, "there is no such file", "Check the name; `blorb new` makes a file with no resources.");
-    return load_accepted(&e->c, file, fd);
+    return load_accepted(&e->c, file, fd, e->r->profile);
 }
 
 /* Gives the exit status where the file cannot be edited. `end` is to be called in any case. */
@@ -92,7 +93,7 @@ static int begin(editing *e, const request *r, int undoing)
     if (status != CARRIED_OUT)
         return status;
     file_id present = id_of(e->c.file, e->c.length);
-    e->found = load_journal(&e->p, &present, &e->j);
+    e->found = load_journal(&e->p, &present, r->profile, &e->j);
     if (e->found != JOURNAL_READY && !r->no_undo)
         return say_unusable(r->file, &e->p, e->found, undoing);
     return CARRIED_OUT;
@@ -117,7 +118,7 @@ static bytes new_file(const editing *e)
  */
 static int store(editing *e, step *s)
 {
-    int staged = stage_table(&e->p, new_file(e), &e->c.status);
+    int staged = stage_table(&e->p, new_file(e), e->c.profile, &e->c.status);
     if (staged < 0)
         return say_edited(e->r->file, OLD_IN_PLACE);
     in_place answer = s != NULL ? store_pair(&e->p, &e->c.status, new_file(e), &e->j, s)
@@ -134,7 +135,7 @@ static int store(editing *e, step *s)
 /* Without a journal. One that knows the present file would not know the new one. */
 static int store_alone(editing *e)
 {
-    if (e->found == JOURNAL_READY && e->j.now.edits > 0)
+    if (knows_file(e->found) && e->j.now.edits > 0)
         return say_cannot(e->r->file, "after an edit with --no-undo the earlier edits could not be undone any more",
                           "Leave --no-undo out, or give undoing up first with `blorb forget FILE`.");
     return store(e, NULL);
@@ -173,7 +174,7 @@ static int settle_type(request *r, const data *d)
     char why[WHY_SIZE];
     if (r->type[0] != '\0')
         return CARRIED_OUT;
-    const char *told = type_told(r->usage, d->whole);
+    const char *told = type_told(r->profile, r->usage, d->whole);
     const kind *k = kind_of(d->whole);
     if (told != NULL) {
         memcpy(r->type, told, sizeof r->type);
@@ -181,7 +182,9 @@ static int settle_type(request *r, const data *d)
     }
     snprintf(why, sizeof why, "TYPE is left out, and the data does not tell it%s%s", k != NULL ? ": it is " : "",
              k != NULL ? k->what : "");
-    return say_cannot(strcmp(r->data, "-") == 0 ? "standard input" : r->data, why, "Give TYPE in front of DATAFILE. " TYPES);
+    int house = r->profile == BLORB_PLAIN && type_told(BLORB_ADRIFT, r->usage, d->whole) != NULL;
+    return say_cannot(strcmp(r->data, "-") == 0 ? "standard input" : r->data, why,
+                      house ? USE_ADRIFT : "Give TYPE in front of DATAFILE. " TYPES);
 }
 
 static int edit_with_data(const request *asked, call *carry_out)
@@ -229,7 +232,7 @@ static int undo_one(editing *e, state *at)
     int status = found == JOURNAL_READY ? CARRIED_OUT : say_unusable(e->r->file, &e->p, found, 1);
     if (status == CARRIED_OUT) {
         size_t length = (size_t)at->record_length;
-        blorb_edit_answer a = blorb_undo(e->c.file, BLORB_MAX_SIZE, e->c.length, record, length, length);
+        blorb_edit_answer a = blorb_undo(e->c.file, BLORB_MAX_SIZE, e->c.length, record, length, length, e->c.profile);
         if (a.refusal != BLORB_DONE)
             status = say_refused(e->r->file, a.refusal, a.place, "", NULL);
         e->c.length = (size_t)a.length;

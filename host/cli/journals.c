@@ -28,6 +28,10 @@ typedef struct trouble {
 static const trouble troubles[] = {
     {JOURNAL_DAMAGED, "is damaged", OTHER_JOURNAL},
     {JOURNAL_NOT_ITS, "is not this file's, which another program has changed or replaced", OTHER_JOURNAL},
+    {JOURNAL_ADRIFT, "was written with --adrift",
+     "Give --adrift here too. Or give undoing up: `blorb forget FILE` drops the journal, and then --adrift can be left out."},
+    {JOURNAL_PLAIN, "was written without --adrift",
+     "Leave --adrift out here too. Or give undoing up: `blorb forget FILE` drops the journal, and then --adrift can be given."},
     {JOURNAL_NEWER, "was written by a newer version of this program",
      "Use that version. Or give undoing up: `blorb forget FILE` drops the journal, and --no-undo edits without one."},
     {JOURNAL_OTHER, "is no journal of this program", NO_JOURNAL_ADVICE},
@@ -97,11 +101,12 @@ static int list_history(const request *r, const place *p)
     contents c;
     journal j = {.fd = -1};
     /* A pipe of this name does not hold the program up. */
-    int status = load_accepted(&c, r->file, openat(p->folder, p->name, O_RDONLY | O_NONBLOCK | O_CLOEXEC));
+    int status = load_accepted(&c, r->file, openat(p->folder, p->name, O_RDONLY | O_NONBLOCK | O_CLOEXEC), r->profile);
     if (status == CARRIED_OUT) {
         file_id present = id_of(c.file, c.length);
-        journal_answer answer = load_journal(p, &present, &j);
-        if (answer == JOURNAL_READY)
+        journal_answer answer = load_journal(p, &present, r->profile, &j);
+        /* What was done under another profile can be looked at, too. */
+        if (knows_file(answer))
             answer = print_history(&j);
         if (answer != JOURNAL_READY)
             status = say_unusable(r->file, p, answer, 0);

@@ -33,11 +33,11 @@ static const marked known[] = {
     {{"FORM", "an AIFF sound"}, HELD(0, "FORM"), HELD(8, "AIFF")},
     {{NULL, "an AIFF-C sound"}, HELD(0, "FORM"), HELD(8, "AIFC")},
     {{NULL, "a Blorb file"}, HELD(0, "FORM"), HELD(8, "IFRS")},
-    {{NULL, "a WAV sound"}, HELD(0, "RIFF"), HELD(8, "WAVE")},
+    {{"WAV ", "a WAV sound"}, HELD(0, "RIFF"), HELD(8, "WAVE")},
     {{NULL, "a WebP picture"}, HELD(0, "RIFF"), HELD(8, "WEBP")},
-    {{NULL, "a GIF picture"}, HELD(0, "GIF8"), HELD(5, "a")},
-    {{NULL, "a MIDI file"}, HELD(0, "MThd"), HELD(4, "\0\0\0\6")},
-    {{NULL, "an MP3 sound"}, HELD(0, "ID3"), NO_MARK},
+    {{"GIF ", "a GIF picture"}, HELD(0, "GIF8"), HELD(5, "a")},
+    {{"MIDI", "a MIDI file"}, HELD(0, "MThd"), HELD(4, "\0\0\0\6")},
+    {{"MP3 ", "an MP3 sound"}, HELD(0, "ID3"), NO_MARK},
     {{NULL, "a FLAC sound"}, HELD(0, "fLaC"), NO_MARK},
     {{NULL, "a ZIP archive"}, HELD(0, "PK\3\4"), NO_MARK},
     {{"GLUL", "a Glulx story"}, HELD(0, "Glul"), NO_MARK},
@@ -92,7 +92,29 @@ static int is_story(bytes held)
     return 1;
 }
 
-const char *type_told(const char usage[4], bytes held)
+/* The types that the ADRIFT profile has besides, with their usages. */
+static const char adrift[][2][4] = {
+    {{'P', 'i', 'c', 't'}, {'G', 'I', 'F', ' '}},
+    {{'S', 'n', 'd', ' '}, {'W', 'A', 'V', ' '}},
+    {{'S', 'n', 'd', ' '}, {'M', 'I', 'D', 'I'}},
+    {{'S', 'n', 'd', ' '}, {'M', 'P', '3', ' '}},
+};
+
+int only_adrift(const char usage[4], const char type[4])
+{
+    for (size_t i = 0; i < sizeof adrift / sizeof *adrift; i++)
+        if (is_type(adrift[i][0], usage) && is_type(adrift[i][1], type))
+            return 1;
+    return 0;
+}
+
+/* A type of the ADRIFT profile, whatever its usage. */
+static int is_adrift(const char type[4])
+{
+    return only_adrift("Pict", type) || only_adrift("Snd ", type);
+}
+
+const char *type_told(uint32_t profile, const char usage[4], bytes held)
 {
     const kind *k = kind_of(held);
     /* Any data may be a Data resource's, as text or not. */
@@ -100,7 +122,9 @@ const char *type_told(const char usage[4], bytes held)
         return NULL;
     if (k == NULL && is_type(usage, "Exec") && is_story(held))
         return "ZCOD";
-    return k == NULL ? NULL : k->type;
+    if (k == NULL || k->type == NULL || (profile != BLORB_ADRIFT && is_adrift(k->type)))
+        return NULL;
+    return k->type;
 }
 
 /* No text has a zero byte; every other kind of file that is known here has one soon. */
@@ -116,10 +140,11 @@ static int takes_anything(const char type[4])
     return is_type(type, "BINA") || is_type(type, "Rect") || is_type(type, "FORM") || is_type(type, "EXEC");
 }
 
+/* An old module, or an MP3 sound without a tag in front, begins with anything. */
 static int has_marks(const char type[4])
 {
     for (size_t i = 0; i < sizeof known / sizeof *known; i++)
-        if (known[i].kind.type != NULL && is_type(known[i].kind.type, type) && !is_type(type, "MOD "))
+        if (known[i].kind.type != NULL && is_type(known[i].kind.type, type) && !is_type(type, "MOD ") && !is_type(type, "MP3 "))
             return 1;
     return 0;
 }
@@ -181,6 +206,16 @@ static int jpeg_size(bytes held, uint32_t *width, uint32_t *height)
     return 0;
 }
 
+/* A GIF picture has both numbers with the lowest byte first. */
+static int gif_size(bytes held, uint32_t *width, uint32_t *height)
+{
+    if (held.length < 10)
+        return 0;
+    *width = (uint32_t)held.at[7] << 8 | held.at[6];
+    *height = (uint32_t)held.at[9] << 8 | held.at[8];
+    return 1;
+}
+
 int size_told(const char type[4], bytes held, uint32_t *width, uint32_t *height)
 {
     const kind *k = kind_of(held);
@@ -188,6 +223,8 @@ int size_told(const char type[4], bytes held, uint32_t *width, uint32_t *height)
     size_t at = rectangle ? 0 : PNG_SIZE_AT;
     if (is_type(type, "JPEG") && is_kind(k, type))
         return jpeg_size(held, width, height);
+    if (is_type(type, "GIF ") && is_kind(k, type))
+        return gif_size(held, width, height);
     if (!rectangle && !(is_type(type, "PNG ") && is_kind(k, type)))
         return 0;
     if (held.length < at + 8)

@@ -15,8 +15,11 @@ typedef struct kind {
 /* Null where the first bytes do not tell. */
 const kind *kind_of(bytes held);
 
-/* The type that data for this usage has by its first bytes, four bytes; null where they do not tell. */
-const char *type_told(const char usage[4], bytes held);
+/* Whether this type suits this usage under the ADRIFT profile and under no other. */
+int only_adrift(const char usage[4], const char type[4]);
+
+/* The type that data for this usage has by its first bytes, four bytes; null where they do not tell, or the profile has no such type. */
+const char *type_told(uint32_t profile, const char usage[4], bytes held);
 
 /* Says in `why` what speaks against data of this type; gives 0 where nothing does. */
 enum { WHY_SIZE = 160 };

@@ -235,7 +235,7 @@ static int list_accepted(const request *r, const contents *c)
 int run_list(const request *r)
 {
     contents c;
-    int status = load_contents(&c, r->file, open(r->file, O_RDONLY | O_CLOEXEC));
+    int status = load_contents(&c, r->file, open(r->file, O_RDONLY | O_CLOEXEC), r->profile);
     if (status == CARRIED_OUT) {
         status = list_accepted(r, &c);
     } else if (status == REFUSED) {

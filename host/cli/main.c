@@ -7,18 +7,15 @@
 #include <string.h>
 #include <unistd.h>
 
+#include "blorb.h"
 #include "commands.h"
 #include "files.h"
 #include "words.h"
 
-#ifndef BLORB_VERSION
-#define BLORB_VERSION "1.0"
-#endif
-
 typedef struct command {
     const char *name;
     const char *operands; /* in order, by the letters of `operands` below; one in capitals may be left out */
-    const char *options;  /* by the letters of `options` below */
+    const char *options;  /* by the letters of `options` below, besides --adrift, which all take */
     const char *usage;
     const char *help;
     int (*run)(const request *r);
@@ -62,7 +59,9 @@ typedef struct option {
     int takes_name;
 } option;
 
+#define ADRIFT_OPTION "--adrift"
 static const option options[] = {
+    {'p', ADRIFT_OPTION, 0},
     {'o', "-o", 1}, {'a', "--all", 1}, {'s', "--as-is", 0}, {'n', "--no-undo", 0}, {'j', "--json", 0}, {'l', "--long", 0},
 };
 
@@ -74,6 +73,8 @@ static void print_help(void)
     puts("  blorb help [COMMAND], blorb --version\n\n"
          "USAGE is Pict, Snd, Data or Exec; NUMBER is 0 to 4294967295; TYPE is four letters. Spaces at the end of a usage\n"
          "or type can be left out: Snd, PNG, MOD. So can TYPE, where the first bytes of the data tell it.\n  " TYPES "\n"
+         "  --adrift   FILE is one of the ADRIFT house: GIF pictures and WAV, MIDI and MP3 sounds are allowed too. For every command,\n"
+         "             in front of it or behind it; what was edited with it is undone with it\n"
          "  --as-is    put the data in although its first bytes contradict TYPE\n"
          "  --no-undo  keep nothing for undo\n"
          "  --         what follows are names, also where they begin with -\n"
@@ -84,7 +85,7 @@ static void print_help(void)
 
 static void print_help_of(const command *c)
 {
-    printf("usage: blorb %s\n  %s\n", c->usage, c->help);
+    printf("usage: blorb %s\n  %s\n  " ADRIFT_OPTION ": FILE is one of the ADRIFT house\n", c->usage, c->help);
 }
 
 static int misused(const command *c, const char *why, const char *what)
@@ -149,6 +150,9 @@ static int set_option(char letter, const char *name, request *r)
 {
     int given_before = (letter == 'o' && r->out != NULL) || (letter == 'a' && r->folder != NULL);
     switch (letter) {
+    case 'p':
+        r->profile = BLORB_ADRIFT;
+        break;
     case 'o':
         r->out = name;
         break;
@@ -173,7 +177,7 @@ static int set_option(char letter, const char *name, request *r)
 static const option *find_option(const command *c, const char *word)
 {
     for (size_t i = 0; i < sizeof options / sizeof *options; i++)
-        if (strchr(c->options, options[i].letter) != NULL && strcmp(options[i].name, word) == 0)
+        if ((options[i].letter == 'p' || strchr(c->options, options[i].letter) != NULL) && strcmp(options[i].name, word) == 0)
             return &options[i];
     return NULL;
 }
@@ -272,9 +276,9 @@ static int is_help(const char *word)
     return strcmp(word, "--help") == 0 || strcmp(word, "-h") == 0;
 }
 
-static int run_command(const command *c, int count, char **given)
+static int run_command(const command *c, uint32_t profile, int count, char **given)
 {
-    request r = {.edits = 1};
+    request r = {.edits = 1, .profile = profile};
     words left = {.count = 0};
     if (count > 0 && is_help(given[0])) {
         print_help_of(c);
@@ -305,13 +309,16 @@ static const command *find_command(const char *name)
 
 static int run(int count, char **given)
 {
+    uint32_t profile = BLORB_PLAIN;
+    for (; count > 0 && strcmp(given[0], ADRIFT_OPTION) == 0; count--, given++)
+        profile = BLORB_ADRIFT;
     if (count == 0) {
         fputs("blorb: no command given. `blorb --help` lists them.\n", stderr);
         return FAILED;
     }
     int helping = is_help(given[0]) || strcmp(given[0], "help") == 0;
     if (strcmp(given[0], "--version") == 0) {
-        puts("blorb " BLORB_VERSION ", for Blorb 2.0.4");
+        puts("blorb " BLORB_VERSION_TEXT ", for Blorb 2.0.4");
         return CARRIED_OUT;
     }
     if (helping && count == 1) {
@@ -322,7 +329,7 @@ static int run(int count, char **given)
     if (c == NULL)
         return FAILED;
     if (!helping)
-        return run_command(c, count - 1, given + 1);
+        return run_command(c, profile, count - 1, given + 1);
     print_help_of(c);
     return CARRIED_OUT;
 }

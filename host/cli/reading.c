@@ -26,7 +26,7 @@ static int open_to_read(const char *path)
 int run_check(const request *r)
 {
     contents c;
-    int status = load_accepted(&c, r->file, open_to_read(r->file));
+    int status = load_accepted(&c, r->file, open_to_read(r->file), r->profile);
     if (status == CARRIED_OUT) {
         printf("accepted %" PRIu64 " bytes %" PRIu64 " resources\n", c.read.length, c.read.count);
         warn_of(&c, r->file);
@@ -105,7 +105,7 @@ static bytes file_of(const char type[4], bytes held)
 static int get_one(const request *r, const contents *c)
 {
     char pair[PAIR_SIZE];
-    blorb_lookup_answer found = blorb_lookup(c->file, c->length, r->usage, r->number);
+    blorb_lookup_answer found = blorb_lookup(c->file, c->length, c->profile, r->usage, r->number);
     show_pair(r->usage, r->number, pair);
     if (found.refusal != BLORB_DONE)
         return say_refused(r->file, found.refusal, found.place, pair, NULL);
@@ -157,7 +157,7 @@ static int get_all(const request *r, const contents *c)
 int run_get(const request *r)
 {
     contents c;
-    int status = load_accepted(&c, r->file, open_to_read(r->file));
+    int status = load_accepted(&c, r->file, open_to_read(r->file), r->profile);
     if (status == CARRIED_OUT)
         status = r->folder != NULL ? get_all(r, &c) : get_one(r, &c);
     free_contents(&c);

@@ -32,13 +32,13 @@ static void put_number(uint8_t *to, uint32_t n)
 }
 
 /* The table of an accepted file under its temporary name. */
-static int stage_rows(const place *p, bytes file, const struct stat *like)
+static int stage_rows(const place *p, bytes file, uint32_t profile, const struct stat *like)
 {
     numbers *n = malloc(sizeof *n);
     uint8_t *room = malloc(MOST_BYTES);
     int done = -1;
     if (n != NULL && room != NULL) {
-        blorb_build_answer built = blorb_table_build(file.at, file.length, n->at, MOST_NUMBERS);
+        blorb_build_answer built = blorb_table_build(file.at, file.length, profile, n->at, MOST_NUMBERS);
         size_t count = BLORB_ROW_NUMBERS * (size_t)built.rows;
         for (size_t i = 0; i < count; i++)
             put_number(room + NUMBER_SIZE * i, n->at[i]);
@@ -57,11 +57,11 @@ static int table_stands(const place *p)
     return fstatat(p->folder, p->table, &status, AT_SYMLINK_NOFOLLOW) == 0 && S_ISREG(status.st_mode);
 }
 
-int stage_table(const place *p, bytes new_file, const struct stat *like)
+int stage_table(const place *p, bytes new_file, uint32_t profile, const struct stat *like)
 {
     if (!table_stands(p))
         return 0;
-    return stage_rows(p, new_file, like) == 0 ? 1 : -1;
+    return stage_rows(p, new_file, profile, like) == 0 ? 1 : -1;
 }
 
 int settle_table(const place *p, in_place answer)
@@ -84,10 +84,10 @@ int run_table(const request *r)
     contents c = {0};
     int status = open_place(&p, r->file) == 0 ? CARRIED_OUT : say_failed(r->file, "the file cannot be reached");
     if (status == CARRIED_OUT)
-        status = load_accepted(&c, r->file, openat(p.folder, p.name, O_RDONLY | O_CLOEXEC));
+        status = load_accepted(&c, r->file, openat(p.folder, p.name, O_RDONLY | O_CLOEXEC), r->profile);
     if (status == CARRIED_OUT) {
         in_place answer = OLD_IN_PLACE;
-        if (stage_rows(&p, (bytes){c.file, c.length}, &c.status) == 0) {
+        if (stage_rows(&p, (bytes){c.file, c.length}, c.profile, &c.status) == 0) {
             if (install(&p, p.table_temp, p.table) == 0)
                 answer = confirm(&p) == 0 ? NEW_IN_PLACE : NEW_UNCONFIRMED;
             else
@@ -119,7 +119,7 @@ static int read_numbers(int fd, numbers *n)
 /* The library's check; a number that is cut, or one too many, is "more" than the rows. */
 static blorb_check_answer judge(const contents *c, const numbers *n)
 {
-    blorb_check_answer answer = blorb_table_check(c->file, c->length, n->at, n->count);
+    blorb_check_answer answer = blorb_table_check(c->file, c->length, c->profile, n->at, n->count);
     if (answer.refusal == BLORB_DONE && n->bytes != NUMBER_SIZE * n->count)
         answer = (blorb_check_answer){BLORB_TABLE_STALE, n->count / BLORB_ROW_NUMBERS};
     return answer;
@@ -188,7 +188,7 @@ int run_find(const request *r)
     contents c;
     int missing = 0;
     numbers *n = malloc(sizeof *n);
-    int status = load_accepted(&c, r->file, open(r->file, O_RDONLY | O_CLOEXEC));
+    int status = load_accepted(&c, r->file, open(r->file, O_RDONLY | O_CLOEXEC), r->profile);
     if (status == CARRIED_OUT)
         status = load_beside(&c, r->file, n, &missing);
     if (status == CARRIED_OUT && missing)

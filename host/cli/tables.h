@@ -10,8 +10,9 @@
 #include "contents.h"
 #include "files.h"
 
-/* Where FILE.table stands, its successor for the new contents is staged. Gives 1, 0 where there is none, or -1 and errno. */
-int stage_table(const place *p, bytes new_file, const struct stat *like);
+/* Where FILE.table stands, its successor for the new contents, accepted under this profile, is staged. Gives 1, 0 where there is none, or
+ * -1 and errno. */
+int stage_table(const place *p, bytes new_file, uint32_t profile, const struct stat *like);
 
 /* What became of the file decides on the staged table. Gives the exit status where the file itself was written well. */
 int settle_table(const place *p, in_place answer);

@@ -10,10 +10,22 @@
 #include "blorb.h"
 #include "contents.h"
 
-/* The head: a name, the version, the profile of the file's types (only 0 is known), and four bytes for later. */
-enum { NAME_SIZE = 7, VERSION_AT = 7, VERSION_1 = '1', VERSION_2 = '2' };
+/* The head: a name, the version, the profile that the edits were made under (its lowest byte last), and four bytes for later. */
+enum { NAME_SIZE = 7, VERSION_AT = 7, VERSION_1 = '1', PROFILE_AT = 8, PROFILE_LAST = 11 };
 
 static const uint8_t plain_head[JOURNAL_HEAD_SIZE] = "BLORBUN2";
+
+/* The head under a profile: those that are known fit into its last byte. */
+static void make_head(uint8_t head[JOURNAL_HEAD_SIZE], uint32_t profile)
+{
+    memcpy(head, plain_head, JOURNAL_HEAD_SIZE);
+    head[PROFILE_LAST] = (uint8_t)profile;
+}
+
+int knows_file(journal_answer answer)
+{
+    return answer == JOURNAL_READY || answer == JOURNAL_ADRIFT || answer == JOURNAL_PLAIN;
+}
 
 /* A state begins so; a record begins with its kind. */
 static const uint8_t state_name[8] = "STATE";
@@ -216,13 +228,13 @@ static journal_answer make_room(journal *j, const uint8_t *records, size_t used)
     return j->whole != NULL ? JOURNAL_READY : JOURNAL_FAILED;
 }
 
-journal_answer begin_journal(journal *j, const file_id *present, const uint8_t *records, size_t used)
+journal_answer begin_journal(journal *j, const file_id *present, uint32_t profile, const uint8_t *records, size_t used)
 {
     journal_answer answer = make_room(j, records, used);
     if (answer != JOURNAL_READY)
         return answer;
-    memcpy(j->head, plain_head, JOURNAL_HEAD_SIZE);
-    memcpy(j->whole, plain_head, JOURNAL_HEAD_SIZE);
+    make_head(j->head, profile);
+    memcpy(j->whole, j->head, JOURNAL_HEAD_SIZE);
     state s = {.at = JOURNAL_HEAD_SIZE};
     for (size_t at = 0; at < used; at += (size_t)s.record_length) {
         put_state(j, &s, j->whole + s.at);
@@ -262,17 +274,31 @@ static journal_answer load_open(const file_id *present, journal *j)
         return load_version_1(j->fd, (size_t)j->size, present, j);
     if (length < sizeof j->head)
         return JOURNAL_DAMAGED;
-    if (memcmp(j->head, plain_head, sizeof j->head) != 0)
+    uint8_t known[JOURNAL_HEAD_SIZE];
+    make_head(known, number_in(j->head + PROFILE_AT) == BLORB_ADRIFT ? BLORB_ADRIFT : BLORB_PLAIN);
+    if (memcmp(j->head, known, sizeof j->head) != 0)
         return JOURNAL_NEWER;
     return find_present(j, present);
 }
 
-journal_answer load_journal(const place *p, const file_id *present, journal *j)
+/* A journal of another profile is not gone on with, unless there is nothing to undo in it. */
+static journal_answer under_profile(journal *j, const file_id *present, uint32_t profile)
+{
+    uint32_t its = number_in(j->head + PROFILE_AT);
+    if (its == profile)
+        return JOURNAL_READY;
+    if (j->now.edits > 0)
+        return its == BLORB_ADRIFT ? JOURNAL_ADRIFT : JOURNAL_PLAIN;
+    free(j->whole);
+    return begin_journal(j, present, profile, NULL, 0);
+}
+
+journal_answer load_journal(const place *p, const file_id *present, uint32_t profile, journal *j)
 {
     struct stat status;
     *j = (journal){.fd = -1};
     if (fstatat(p->folder, p->undo, &status, AT_SYMLINK_NOFOLLOW) != 0)
-        return errno == ENOENT ? begin_journal(j, present, NULL, 0) : JOURNAL_FAILED;
+        return errno == ENOENT ? begin_journal(j, present, profile, NULL, 0) : JOURNAL_FAILED;
     if (S_ISLNK(status.st_mode))
         return JOURNAL_LINK;
     if (!S_ISREG(status.st_mode))
@@ -285,7 +311,8 @@ journal_answer load_journal(const place *p, const file_id *present, journal *j)
     if (j->fd < 0)
         return JOURNAL_FAILED;
     j->size = (uint64_t)status.st_size;
-    return load_open(present, j);
+    journal_answer answer = load_open(present, j);
+    return answer == JOURNAL_READY ? under_profile(j, present, profile) : answer;
 }
 
 void close_journal(journal *j)

@@ -51,6 +51,8 @@ typedef enum journal_answer {
     JOURNAL_READY,
     JOURNAL_DAMAGED,
     JOURNAL_NOT_ITS, /* of another file */
+    JOURNAL_ADRIFT,  /* the file's, written under the ADRIFT profile where the plain one is asked */
+    JOURNAL_PLAIN,   /* and the other way round */
     JOURNAL_NEWER,   /* of a newer version of this program */
     JOURNAL_OTHER,   /* no journal at all */
     JOURNAL_LINK,    /* a symbolic link */
@@ -60,8 +62,14 @@ typedef enum journal_answer {
 file_id id_of(const uint8_t *file, size_t length);
 int same_file(const file_id *a, const file_id *b);
 
-/* Finds the journal of the present file, or begins one where there is no FILE.undo. It is to be closed after any answer. */
-journal_answer load_journal(const place *p, const file_id *present, journal *j);
+/*
+ * Finds the journal of the present file, or begins one under this profile where there is no FILE.undo, or nothing to undo in it. It is to be
+ * closed after any answer.
+ */
+journal_answer load_journal(const place *p, const file_id *present, uint32_t profile, journal *j);
+
+/* Whether the journal is the present file's, and could be undone under its own profile. */
+int knows_file(journal_answer answer);
 void close_journal(journal *j);
 
 /* The record that undo takes back from a state, to be freed after any answer. */
@@ -77,12 +85,12 @@ int is_journal(int fd);
 void put_state(const journal *j, const state *s, uint8_t to[STATE_SIZE]);
 
 /*
- * A journal in memory with these records (none, or those of an older journal), whose last state names the present file. Gives
- * JOURNAL_DAMAGED where they are no whole records.
+ * A journal in memory with these records (none, or those of an older journal), whose last state names the present file, under this
+ * profile. Gives JOURNAL_DAMAGED where they are no whole records.
  */
-journal_answer begin_journal(journal *j, const file_id *present, const uint8_t *records, size_t used);
+journal_answer begin_journal(journal *j, const file_id *present, uint32_t profile, const uint8_t *records, size_t used);
 
-/* A journal of version 1, read whole from an open file of this size, as one of this version in memory. */
+/* A journal of version 1, read whole from an open file of this size, as one of this version in memory. It is plain. */
 journal_answer load_version_1(int fd, size_t size, const file_id *present, journal *j);
 
 /* Eight bytes as a number, the first one highest. */

@@ -15,6 +15,7 @@
 #include <string.h>
 #include <unistd.h>
 
+#include "blorb.h"
 #include "undo_file.h"
 
 enum { NAME_SIZE = 8, ID_SIZE = 16 + SHA256_SIZE, HEAD_SIZE = NAME_SIZE + 2 * ID_SIZE };
@@ -39,7 +40,7 @@ static journal_answer judge(const uint8_t *held, size_t size, const file_id *pre
     uint64_t used = long_number_in(its);
     if (used > size - HEAD_SIZE - SHA256_SIZE)
         return JOURNAL_DAMAGED;
-    return begin_journal(j, present, held + HEAD_SIZE, (size_t)used);
+    return begin_journal(j, present, BLORB_PLAIN, held + HEAD_SIZE, (size_t)used);
 }
 
 /* Whether a file of this size can be a journal with this head: nothing else is read whole. */

@@ -18,7 +18,11 @@ enum { CARRIED_OUT = 0, REFUSED = 1, FAILED = 2 };
 #define TYPES \
     "Pict takes PNG, JPEG, or Rect with 8 bytes; Snd takes OGGV, MOD, SONG, or FORM with a whole AIFF file whose\n" \
     "  FORM length is its own length less 8; Data takes TEXT or BINA; Exec takes ZCOD, GLUL, TAD2, TAD3, HUGO, ALAN,\n" \
-    "  ADRI, LEVE, AGT, MAGS, ADVS or EXEC."
+    "  ADRI, LEVE, AGT, MAGS, ADVS or EXEC. With --adrift Pict takes GIF too, and Snd takes WAV, MIDI and MP3."
+
+/* For a type that only files of the ADRIFT house may have. */
+#define USE_ADRIFT \
+    "GIF pictures and WAV, MIDI and MP3 sounds are for files of the ADRIFT house: --adrift allows them."
 
 /* Four bytes shown safely: quoted, bytes that are not printable as \xHH. */
 enum { SHOWN_SIZE = 19 };
@@ -35,7 +39,7 @@ void say_safely(const char *text);
 int say_refused(const char *file, uint64_t number, uint64_t place, const char *about, const char *advice);
 
 /* The same without number and place, where these are on standard output. */
-int say_meaning(const char *file, uint64_t number, const char *about);
+int say_meaning(const char *file, uint64_t number, const char *about, const char *advice);
 
 /* Something about a resource (or, where `about` is "", about the file) that no rule forbids. */
 void say_warning(const char *file, const char *about, const char *sentence);

@@ -1,5 +1,6 @@
 # shellcheck shell=bash
-# Completion for blorb in bash. Commands, operands and options come from the program's own help.
+# Completion for blorb in bash. Commands, operands and options come from the program's own help. --adrift may stand anywhere: it is looked for
+# first and then left out of the words.
 
 # The usage lines of a command: what stands behind it.
 _blorb_usage() { # program, command
@@ -28,40 +29,52 @@ _blorb_operand() { # usage lines
 }
 
 # The types that a usage allows.
-_blorb_types() {
+_blorb_types() { # usage, --adrift or nothing
     case $1 in
-        Pict) echo 'PNG JPEG Rect' ;;
-        Snd) echo 'OGGV MOD SONG FORM' ;;
+        Pict) echo "PNG JPEG Rect ${2:+GIF}" ;;
+        Snd) echo "OGGV MOD SONG FORM ${2:+WAV MIDI MP3}" ;;
         Data) echo 'TEXT BINA' ;;
         *) echo 'ZCOD GLUL TAD2 TAD3 HUGO ALAN ADRI LEVE AGT MAGS ADVS EXEC' ;;
     esac
 }
 
 # The numbers that the file has for a usage.
-_blorb_numbers() { # program, file, usage
-    "$1" list "$2" 2> /dev/null | sed -n "s/^$3 *\([0-9][0-9]*\) at .*/\1/p"
+_blorb_numbers() { # program, file, usage, --adrift or nothing
+    "$1" list "$2" ${4:+"$4"} 2> /dev/null | sed -n "s/^$3 *\([0-9][0-9]*\) at .*/\1/p"
 }
 
 _blorb_commands() { # program
     "$1" --help 2> /dev/null | sed -n 's/^  blorb \([a-z][a-z-]*\).*/\1/p'
 }
 
+# The words up to the one under way, without --adrift, which is remembered in `adrift` of the caller.
+_blorb_take_adrift() {
+    local i left=()
+    for ((i = 0; i <= COMP_CWORD; i++)); do
+        if [ "$i" -lt "$COMP_CWORD" ] && [ "${COMP_WORDS[i]}" = --adrift ]; then adrift=--adrift
+        else left+=("${COMP_WORDS[i]}"); fi
+    done
+    COMP_WORDS=("${left[@]}")
+    COMP_CWORD=$((${#left[@]} - 1))
+}
+
 _blorb() {
-    local program=$1 now=$2 usage words
+    local program=$1 now=$2 usage words adrift=
+    _blorb_take_adrift
     if [ "$COMP_CWORD" -eq 1 ]; then
-        mapfile -t COMPREPLY < <(compgen -W "$(_blorb_commands "$program") --help" -- "$now")
+        mapfile -t COMPREPLY < <(compgen -W "$(_blorb_commands "$program") --help --adrift" -- "$now")
         return
     fi
     usage=$(_blorb_usage "$program" "${COMP_WORDS[1]}")
     if [[ $now == -* ]]; then
         words=$(grep -o -e '-[a-z-]*[a-z]' <<< "$usage")
-        mapfile -t COMPREPLY < <(compgen -W "$words --help" -- "$now")
+        mapfile -t COMPREPLY < <(compgen -W "$words --help --adrift" -- "$now")
         return
     fi
     case $(_blorb_operand "$usage") in
         USAGE) mapfile -t COMPREPLY < <(compgen -W 'Pict Snd Data Exec' -- "$now") ;;
-        TYPE) mapfile -t COMPREPLY < <(compgen -W "$(_blorb_types "${COMP_WORDS[3]}")" -- "$now"; compgen -f -- "$now") ;;
-        NUMBER) mapfile -t COMPREPLY < <(compgen -W "$(_blorb_numbers "$program" "${COMP_WORDS[2]}" "${COMP_WORDS[3]}")" -- "$now") ;;
+        TYPE) mapfile -t COMPREPLY < <(compgen -W "$(_blorb_types "${COMP_WORDS[3]}" "$adrift")" -- "$now"; compgen -f -- "$now") ;;
+        NUMBER) mapfile -t COMPREPLY < <(compgen -W "$(_blorb_numbers "$program" "${COMP_WORDS[2]}" "${COMP_WORDS[3]}" "$adrift")" -- "$now") ;;
         COMMAND) mapfile -t COMPREPLY < <(compgen -W "$(_blorb_commands "$program")" -- "$now") ;;
         FOLDER) mapfile -t COMPREPLY < <(compgen -d -- "$now") ;;
         *) mapfile -t COMPREPLY < <(compgen -f -- "$now") ;;

@@ -1,7 +1,7 @@
 //! The library's calls through its C interface, on buffers that lie inside larger guarded arrays.
 
 use crate::fence::{self, Fenced};
-use crate::reference::{blank_file, Answer, Call, Edit, Refusal, State, Tag};
+use crate::reference::{blank_file, Answer, Call, Edit, Refusal, State, Tag, PLAIN};
 use std::ptr;
 
 /// The structures of blorb.h that come back by value.
@@ -63,21 +63,22 @@ mod raw {
 
     #[rustfmt::skip]
     extern "C" {
-        pub fn blorb_table_build(file: *const u8, size: usize, table: *mut u32, numbers: usize) -> Build;
-        pub fn blorb_table_check(file: *const u8, size: usize, table: *const u32, numbers: usize) -> Check;
+        pub fn blorb_version() -> u32;
+        pub fn blorb_table_build(file: *const u8, size: usize, profile: u32, table: *mut u32, numbers: usize) -> Build;
+        pub fn blorb_table_check(file: *const u8, size: usize, profile: u32, table: *const u32, numbers: usize) -> Check;
         pub fn blorb_table_search(table: *const u32, numbers: usize, usage: *const u8, number: u32) -> Search;
-        pub fn blorb_read(file: *const u8, size: usize) -> Read;
-        pub fn blorb_entry(file: *const u8, size: usize, i: usize) -> Entry;
-        pub fn blorb_lookup(file: *const u8, size: usize, usage: *const u8, number: u32) -> Lookup;
+        pub fn blorb_read(file: *const u8, size: usize, profile: u32) -> Read;
+        pub fn blorb_entry(file: *const u8, size: usize, profile: u32, i: usize) -> Entry;
+        pub fn blorb_lookup(file: *const u8, size: usize, profile: u32, usage: *const u8, number: u32) -> Lookup;
         pub fn blorb_blank(file: *mut u8, size: usize) -> Edit;
         pub fn blorb_add(file: *mut u8, size: usize, length: usize, journal: *mut u8, journal_size: usize, used: usize,
-            usage: *const u8, number: u32, tag: *const u8, data: *const u8, data_size: usize) -> Edit;
+            profile: u32, usage: *const u8, number: u32, tag: *const u8, data: *const u8, data_size: usize) -> Edit;
         pub fn blorb_replace(file: *mut u8, size: usize, length: usize, journal: *mut u8, journal_size: usize, used: usize,
-            usage: *const u8, number: u32, tag: *const u8, data: *const u8, data_size: usize) -> Edit;
+            profile: u32, usage: *const u8, number: u32, tag: *const u8, data: *const u8, data_size: usize) -> Edit;
         pub fn blorb_remove(file: *mut u8, size: usize, length: usize, journal: *mut u8, journal_size: usize, used: usize,
-            usage: *const u8, number: u32) -> Edit;
+            profile: u32, usage: *const u8, number: u32) -> Edit;
         pub fn blorb_undo(file: *mut u8, size: usize, length: usize, journal: *const u8, journal_size: usize,
-            used: usize) -> Edit;
+            used: usize, profile: u32) -> Edit;
     }
 }
 
@@ -188,19 +189,24 @@ fn reading<const N: usize>(refusal: u64, place: u64, values: [u64; N]) -> Readin
     }
 }
 
-pub fn read(file: &mut Lent) -> Reading<2> {
-    let answer = unsafe { raw::blorb_read(file.pointer(), file.size) };
+/// The archive's version.
+pub fn version() -> u32 {
+    unsafe { raw::blorb_version() }
+}
+
+pub fn read(file: &mut Lent, profile: u32) -> Reading<2> {
+    let answer = unsafe { raw::blorb_read(file.pointer(), file.size, profile) };
     reading(answer.refusal, answer.place, [answer.length, answer.count])
 }
 
-pub fn entry(file: &mut Lent, i: usize) -> Reading<3> {
-    let answer = unsafe { raw::blorb_entry(file.pointer(), file.size, i) };
+pub fn entry(file: &mut Lent, profile: u32, i: usize) -> Reading<3> {
+    let answer = unsafe { raw::blorb_entry(file.pointer(), file.size, profile, i) };
     reading(answer.refusal, answer.place, [answer.usage as u64, answer.number as u64, answer.start])
 }
 
-pub fn lookup(file: &mut Lent, usage: &Tag, number: u32) -> Reading<3> {
+pub fn lookup(file: &mut Lent, profile: u32, usage: &Tag, number: u32) -> Reading<3> {
     let mut lent_usage = Lent::new(usage, file.shift + 1);
-    let answer = unsafe { raw::blorb_lookup(file.pointer(), file.size, lent_usage.pointer(), number) };
+    let answer = unsafe { raw::blorb_lookup(file.pointer(), file.size, profile, lent_usage.pointer(), number) };
     if let Some(complaint) = lent_usage.complaint("usage", usage) {
         return Err(complaint);
     }
@@ -214,13 +220,13 @@ fn numbers(table: &mut Lent) -> *mut u32 {
     pointer
 }
 
-pub fn table_build(file: &mut Lent, table: &mut Lent, count: usize) -> Reading<1> {
-    let answer = unsafe { raw::blorb_table_build(file.pointer(), file.size, numbers(table), count) };
+pub fn table_build(file: &mut Lent, profile: u32, table: &mut Lent, count: usize) -> Reading<1> {
+    let answer = unsafe { raw::blorb_table_build(file.pointer(), file.size, profile, numbers(table), count) };
     reading(answer.refusal, answer.place, [answer.rows])
 }
 
-pub fn table_check(file: &mut Lent, table: &mut Lent, count: usize) -> Reading<0> {
-    let answer = unsafe { raw::blorb_table_check(file.pointer(), file.size, numbers(table), count) };
+pub fn table_check(file: &mut Lent, profile: u32, table: &mut Lent, count: usize) -> Reading<0> {
+    let answer = unsafe { raw::blorb_table_check(file.pointer(), file.size, profile, numbers(table), count) };
     reading(answer.refusal, answer.place, [])
 }
 
@@ -269,7 +275,7 @@ impl Buffers {
 
 fn call_undo(state: &State, file: &mut Lent, journal: &mut Lent) -> Answer {
     edited(unsafe {
-        raw::blorb_undo(file.pointer(), file.size, state.length, journal.pointer(), journal.size, state.used)
+        raw::blorb_undo(file.pointer(), file.size, state.length, journal.pointer(), journal.size, state.used, state.profile)
     })
 }
 
@@ -285,12 +291,12 @@ fn call_edit(edit: &Edit, state: &State, file: &mut Lent, journal: &mut Lent) ->
     let mut lent_data = Lent::new(data, file.shift / 2);
     let (u, t, d, n) = (lent_usage.pointer(), lent_tag.pointer(), lent_data.pointer(), data.len());
     let (f, size, length) = (file.pointer(), file.size, state.length);
-    let (j, journal_size, used) = (journal.pointer(), journal.size, state.used);
+    let (j, journal_size, used, p) = (journal.pointer(), journal.size, state.used, state.profile);
     let answer = unsafe {
         match edit {
-            Edit::Add { .. } => raw::blorb_add(f, size, length, j, journal_size, used, u, number, t, d, n),
-            Edit::Replace { .. } => raw::blorb_replace(f, size, length, j, journal_size, used, u, number, t, d, n),
-            Edit::Remove { .. } => raw::blorb_remove(f, size, length, j, journal_size, used, u, number),
+            Edit::Add { .. } => raw::blorb_add(f, size, length, j, journal_size, used, p, u, number, t, d, n),
+            Edit::Replace { .. } => raw::blorb_replace(f, size, length, j, journal_size, used, p, u, number, t, d, n),
+            Edit::Remove { .. } => raw::blorb_remove(f, size, length, j, journal_size, used, p, u, number),
         }
     };
     let complaint = lent_usage
@@ -302,6 +308,7 @@ fn call_edit(edit: &Edit, state: &State, file: &mut Lent, journal: &mut Lent) ->
 
 /// Calls that are lent more than 4 GiB: what was called, and what was found and expected: answers, and a file's first bytes.
 pub fn on_huge_arrays(zeros: &mut [u8]) -> Vec<(&'static str, String, String)> {
+    let (p, unknown) = (PLAIN, u32::MAX);
     let numbers = |answer: raw::Edit| [answer.refusal, answer.place, answer.length, answer.used];
     let (mut small, mut journal) = ([0; 100], [0; 100]);
     let (f, j, z, huge) = (small.as_mut_ptr(), journal.as_mut_ptr(), zeros.as_mut_ptr(), zeros.len());
@@ -311,25 +318,29 @@ pub fn on_huge_arrays(zeros: &mut [u8]) -> Vec<(&'static str, String, String)> {
         found.push((what, format!("{found_numbers:?}"), format!("{expected:?}")));
     };
     unsafe {
-        let read = raw::blorb_read(z, huge);
+        let read = raw::blorb_read(z, huge, p);
         check("read of a huge file", [read.refusal, read.place, read.length, read.count], [1, 0, 0, 0]);
-        let remove = raw::blorb_remove(z, huge, huge, j, 100, 0, usage, 7);
+        let read = raw::blorb_read(z, huge, unknown);
+        check("read of a huge file, unknown profile", [read.refusal, read.place, read.length, read.count], [52, 0, 0, 0]);
+        let remove = raw::blorb_remove(z, huge, huge, j, 100, 0, p, usage, 7);
         check("remove from a huge file", numbers(remove), [1, 0, huge as u64, 0]);
+        let remove = raw::blorb_remove(z, huge, huge, j, 100, 0, unknown, usage, 7);
+        check("remove from a huge file, unknown profile", numbers(remove), [52, 0, huge as u64, 0]);
         raw::blorb_blank(f, 100);
-        let add = raw::blorb_add(f, 100, 24, j, 100, 0, usage, 7, tag, z, huge);
+        let add = raw::blorb_add(f, 100, 24, j, 100, 0, p, usage, 7, tag, z, huge);
         check("add of huge data", numbers(add), [101, 0, 24, 0]);
-        let add = raw::blorb_add(f, 100, 24, j, 100, 0, usage, 7, tag, eel, 3);
+        let add = raw::blorb_add(f, 100, 24, j, 100, 0, p, usage, 7, tag, eel, 3);
         check("add of small data", numbers(add), [0, 0, 48, 29]);
-        let replace = raw::blorb_replace(f, 100, 48, j, 100, 29, usage, 7, tag, z, huge);
+        let replace = raw::blorb_replace(f, 100, 48, j, 100, 29, p, usage, 7, tag, z, huge);
         check("replace by huge data", numbers(replace), [101, 0, 48, 29]);
-        let add = raw::blorb_add(f, 100, 48, z, huge, huge - 28, usage, 8, tag, none, 0);
+        let add = raw::blorb_add(f, 100, 48, z, huge, huge - 28, p, usage, 8, tag, none, 0);
         check("add with a huge journal, no room", numbers(add), [25, 0, 48, huge as u64 - 28]);
         check("blank in a huge buffer", numbers(raw::blorb_blank(z, huge)), [0, 0, 24, 0]);
-        let add = raw::blorb_add(z, huge, 24, j, 100, 29, usage, 7, tag, eel, 3);
+        let add = raw::blorb_add(z, huge, 24, j, 100, 29, p, usage, 7, tag, eel, 3);
         check("add in a huge buffer", numbers(add), [0, 0, 48, 58]);
     }
     found.push(("file in a huge buffer", format!("{:?}", &zeros[..100]), format!("{small:?}")));
-    let undo = unsafe { raw::blorb_undo(zeros.as_mut_ptr(), huge, 48, journal.as_ptr(), 100, 58) };
+    let undo = unsafe { raw::blorb_undo(zeros.as_mut_ptr(), huge, 48, journal.as_ptr(), 100, 58, p) };
     found.push(("undo in a huge buffer", format!("{:?}", numbers(undo)), format!("{:?}", [0, 0, 24, 29])));
     small[..48].fill(0);
     small[..24].copy_from_slice(&blank_file());

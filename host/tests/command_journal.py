@@ -93,9 +93,11 @@ def no_journals(work):
         untouched(work, contents(work), f"{other[:20]}", saying="is no journal of this program", advice=aside)
         failed("forget", work / FILE, saying="delete it yourself")
         same(contents(work), {FILE: pair[FILE], UNDO: other}, "what is no journal is not forgotten")
-    for other in (b"BLORBUN3" + bytes(300), put(pair[UNDO], 7, b"9"), put(pair[UNDO], 11, b"\1"), put(pair[UNDO], 15, b"\1")):
+    for other in (b"BLORBUN3" + bytes(300), put(pair[UNDO], 7, b"9"), put(pair[UNDO], 11, b"\2"), put(pair[UNDO], 8, b"\1"), put(pair[UNDO], 15, b"\1")):
         restore(work, {FILE: pair[FILE], UNDO: other})
         untouched(work, contents(work), f"{other[:16]}", saying="was written by a newer version", advice="Use that version")
+    restore(work, {FILE: pair[FILE], UNDO: put(pair[UNDO], 11, b"\1")})
+    untouched(work, contents(work), "another profile in the head, which the seals do not know", saying="is damaged", advice="from a copy")
     for head in (b"", b"BLORBUN1", b"BLORBUN2" + bytes(8), pair[UNDO]):
         restore(work, {FILE: pair[FILE], UNDO: head})
         os.truncate(work / UNDO, 40 << 30)
@@ -127,7 +129,7 @@ def journal_format(work):
         restore(work, {FILE: old})
         done("replace", file, "Data", "3", "BINA", "-", stdin=b"new")
         held, new = undo.read_bytes(), file.read_bytes()
-        _, _, record = editing_reference.replaced(old, b"Data", 3, b"BINA", b"new")
+        _, _, record = editing_reference.replaced(old, reference.PLAIN, b"Data", 3, b"BINA", b"new")
         record = editing_reference.bytes_of(record)
         same(held[:16], JOURNAL_HEAD, "the head")
         same(len(held), 16 + 160 + len(record) + 160, "a first state, a record and a state")

@@ -94,12 +94,12 @@ def refused(number, place, *words, advice=None, **more):
     return refused_saying(number, rf"blorb: .*: refused {number} at {place}: [a-z].+\.", advice, words, result)
 
 
-def refused_list(number, place, *words, **more):
+def refused_list(number, place, *words, advice=None, **more):
     """The same of list: number and place are on standard output, as 01's lister prints them, and the reason on standard error."""
     result = run("list", *words, **more)
     same(result.out, b"refused %d at %d\n" % (number, place), f"list {words}: the lister's line")
     expect(": refused " not in result.err, f"list {words}: said once: {result.err}")
-    return refused_saying(number, r"blorb: .*: [a-z].+\.", None, words, result)
+    return refused_saying(number, r"blorb: .*: [a-z].+\.", advice, words, result)
 
 
 def refused_saying(number, pattern, advice, words, result):
@@ -132,16 +132,16 @@ def restore(folder, files):
         (Path(folder) / name).write_bytes(held)
 
 
-def edited(change, file, *arguments):
+def edited(change, file, *arguments, profile=reference.PLAIN):
     """What the reference makes of a file: change is added, replaced or removed of editing_reference."""
-    entries, chunks, _ = change(file, *arguments)
-    return editing_reference.judged(entries, chunks)
+    entries, chunks, _ = change(file, profile, *arguments)
+    return editing_reference.judged(entries, chunks, profile)
 
 
-def listing(file):
-    """What 01's lister prints of a file, by the reference, without the lister's own limit."""
+def listing(file, profile=reference.PLAIN):
+    """What 01's lister prints of a file, by the reference, without the lister's own limit, and under any profile."""
     try:
-        chunks, entries = reference.parse(file)
+        chunks, entries = reference.parse(file, profile)
     except reference.Refusal as r:
         return b"refused %d at %d\n" % (r.number, r.place)
     by_start = {c.start: c for c in chunks}

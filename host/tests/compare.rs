@@ -12,7 +12,7 @@ mod tables;
 
 use archive::{first_difference, Buffers, Lent};
 use generate::{Rng, PART};
-use reference::{Answer, Call, Edit, Ledger, Refusal, Span, State, Tag};
+use reference::{Answer, Call, Edit, Ledger, Refusal, Span, State, Tag, View, ADRIFT, PLAIN};
 use std::collections::BTreeMap;
 use std::fmt::Debug;
 use std::io::{stderr, IsTerminal};
@@ -25,6 +25,8 @@ const DEFAULT_SEED: u64 = 20_040_204;
 const DEFAULT_COUNT: u64 = 400_000;
 /// So many inputs are asked to show all that can occur.
 const ENOUGH: u64 = DEFAULT_COUNT / 4;
+/// So many of 100 files and single calls are tried under another profile too.
+const AGAIN: usize = 20;
 
 // ---- Reports -------------------------------------------------------------------------------------------------------
 
@@ -88,10 +90,10 @@ fn describe(call: &Call, state: &State) -> String {
         }
         Call::Undo => "blorb_undo".to_string(),
     };
-    let State { file, length, journal, used } = state;
+    let State { profile, file, length, journal, used } = state;
     let (size, journal_size) = (file.len(), journal.len());
     format!(
-        "{call}\n  size={size} length={length} journal_size={journal_size} used={used}\n  file={}\n  journal={}",
+        "{call}\n  size={size} length={length} journal_size={journal_size} used={used} profile={profile}\n  file={}\n  journal={}",
         hex(file),
         hex(journal)
     )
@@ -99,45 +101,77 @@ fn describe(call: &Call, state: &State) -> String {
 
 // ---- Single comparisons --------------------------------------------------------------------------------------------
 
-/// Compares one reading call's answer and counts it.
+/// A file as it is read under a profile, and under the known one that it was made for: beside an unknown profile that tells what 52 comes before.
+pub struct Read<'a> {
+    pub file: &'a [u8],
+    pub profile: u32,
+    pub view: Result<View, Refusal>,
+    pub known: Result<View, Refusal>,
+}
+
+pub fn number_of<T>(answer: &Result<T, Refusal>) -> u64 {
+    answer.as_ref().map_or_else(|refusal| refusal.number, |_| 0)
+}
+
+impl Tally {
+    /// Counts a call's answer, and in the row of its name with "52" what it would have been under a known profile.
+    pub fn count_under<T, U>(&mut self, [row, behind]: [&'static str; 2], expected: &Result<T, Refusal>, known: &Result<U, Refusal>) {
+        self.count_call(row, number_of(expected));
+        if number_of(expected) == 52 {
+            self.count(behind, number_of(known));
+        }
+    }
+}
+
+/// Compares one reading call's answer and counts it. `known` is that under the known profile.
 fn check_reading<T: PartialEq + Debug>(
     tally: &mut Tally,
-    row: &'static str,
+    rows: [&'static str; 2],
     arguments: &str,
-    file: &[u8],
-    expected: Result<T, Refusal>,
+    read: &Read,
+    [expected, known]: [Result<T, Refusal>; 2],
     found: Result<Result<T, Refusal>, String>,
 ) {
-    tally.count_call(row, expected.as_ref().map_or_else(|refusal| refusal.number, |_| 0));
+    tally.count_under(rows, &expected, &known);
     if found.as_ref() != Ok(&expected) {
-        let call = format!("blorb_{row} {arguments} size={}\n  file={}", file.len(), hex(file));
+        let (row, size, profile) = (rows[0], read.file.len(), read.profile);
+        let call = format!("blorb_{row} {arguments} size={size} profile={profile}\n  file={}", hex(read.file));
         tally.fail(&call, &format!("expected {expected:?}\nfound    {found:?}"));
     }
 }
 
-/// The reading calls on one file: all entries and pairs of small files, some of large ones.
+/// The reading calls on one file, under the case's profile and now and then under another one too.
 pub fn check_file(tally: &mut Tally, rng: &mut Rng, file: &[u8]) {
+    let profile = rng.profile;
+    check_file_under(tally, rng, file, profile);
+    if rng.chance(AGAIN) {
+        let other = rng.other_profile(profile);
+        check_file_under(tally, rng, file, other);
+    }
+    if reference::read(file, ADRIFT).is_ok() {
+        tally.count("ADRIFT as plain", number_of(&reference::read(file, PLAIN)));
+    }
+}
+
+/// All entries and pairs of small files, some of large ones.
+pub fn check_file_under(tally: &mut Tally, rng: &mut Rng, file: &[u8], profile: u32) {
     let mut lent = Lent::new(file, rng.below(16));
-    let view = reference::read(file);
-    let found = archive::read(&mut lent);
-    check_reading(tally, "read", "", file, reference::read_answer(file), found);
-    for i in entry_numbers(rng, view.as_ref().map_or(0, |view| view.entries.len())) {
-        let found = archive::entry(&mut lent, i);
-        check_reading(tally, "entry", &format!("i={i}"), file, reference::entry_answer(&view, i), found);
+    let read = Read { file, profile, view: reference::read(file, profile), known: reference::read(file, rng.profile) };
+    let found = archive::read(&mut lent, profile);
+    let expected = [&read.view, &read.known].map(|view| reference::read_answer(file, view));
+    check_reading(tally, ["read", "read 52"], "", &read, expected, found);
+    for i in entry_numbers(rng, read.known.as_ref().map_or(0, |view| view.entries.len())) {
+        let found = archive::entry(&mut lent, profile, i);
+        let expected = [&read.view, &read.known].map(|view| reference::entry_answer(view, i));
+        check_reading(tally, ["entry", "entry 52"], &format!("i={i}"), &read, expected, found);
     }
-    for (usage, number) in lookup_pairs(rng, file, view.is_ok()) {
-        let found = archive::lookup(&mut lent, &usage, number);
+    for (usage, number) in lookup_pairs(rng, file, read.known.is_ok()) {
+        let found = archive::lookup(&mut lent, profile, &usage, number);
         let arguments = format!("usage=\"{}\" number={number}", usage.escape_ascii());
-        check_reading(
-            tally,
-            "lookup",
-            &arguments,
-            file,
-            reference::lookup_answer(file, &view, &usage, number),
-            found,
-        );
+        let expected = [&read.view, &read.known].map(|view| reference::lookup_answer(file, view, &usage, number));
+        check_reading(tally, ["lookup", "lookup 52"], &arguments, &read, expected, found);
     }
-    tables::check(tally, rng, file, &mut lent, &view);
+    tables::check(tally, rng, &mut lent, &read);
     if let Some(complaint) = lent.complaint("file", file) {
         tally.fail(&format!("reading file={}", hex(file)), &complaint);
     }
@@ -195,7 +229,7 @@ fn data_size(call: &Call) -> usize {
 fn count_large(tally: &mut Tally, call: &Call, refusal: u64, state: &State, after: &State) {
     let (large_file, done) = (state.length > PART, refusal == 0);
     let moved = match large_file && done {
-        true => moved(&state.file[..state.length], &after.file[..after.length]),
+        true => moved(state.profile, &state.file[..state.length], &after.file[..after.length]),
         false => 0,
     };
     let copied = data_size(call).max(state.used.abs_diff(after.used).saturating_sub(29));
@@ -212,8 +246,8 @@ fn count_large(tally: &mut Tally, call: &Call, refusal: u64, state: &State, afte
 }
 
 /// The most bytes that went the same way: of the chunks that are the same from the front, and from the back.
-fn moved(before: &[u8], after: &[u8]) -> usize {
-    let (old, new) = (chunks(before), chunks(after));
+fn moved(profile: u32, before: &[u8], after: &[u8]) -> usize {
+    let (old, new) = (chunks(profile, before), chunks(profile, after));
     let front = old.iter().zip(&new).take_while(|(a, b)| a.1 == b.1);
     let kept = front.clone().count();
     let back = old[kept..].iter().rev().zip(new[kept..].iter().rev()).take_while(|(a, b)| a.1 == b.1);
@@ -223,16 +257,53 @@ fn moved(before: &[u8], after: &[u8]) -> usize {
 }
 
 /// Where each chunk behind the index begins, and its bytes.
-fn chunks(file: &[u8]) -> Vec<(usize, &[u8])> {
-    let view = reference::read(file).unwrap_or_else(|_| panic!("an accepted file"));
+fn chunks(profile: u32, file: &[u8]) -> Vec<(usize, &[u8])> {
+    let view = reference::read(file, profile).unwrap_or_else(|_| panic!("an accepted file"));
     let size = |span: &Span| 8 + span.length + span.length % 2;
     view.spans.iter().map(|span| (span.start, &file[span.start..span.start + size(span)])).collect()
 }
 
-/// One editing call on fresh buffers.
+/// One editing call on fresh buffers. Now and then the same call is made on others under another profile too.
 pub fn check_call(tally: &mut Tally, rng: &mut Rng, call: &Call, state: &State) -> (Answer, State) {
     let mut buffers = Buffers::new(state, rng.below(16));
-    check_call_on(tally, &mut buffers, call, state)
+    let (answer, after) = check_call_on(tally, &mut buffers, call, state);
+    if rng.chance(AGAIN) {
+        let other = rng.other_profile(state.profile);
+        check_again(tally, rng, call, state, other, answer);
+    }
+    (answer, after)
+}
+
+/// The rows that count what a call is answered where 52 comes before it, and as plain where it was carried out under the ADRIFT profile.
+fn rows_again(call: &Call) -> [&'static str; 2] {
+    match call {
+        Call::Edit(Edit::Add { .. }) => ["add 52", "add as plain"],
+        Call::Edit(Edit::Replace { .. }) => ["replace 52", "replace as plain"],
+        Call::Edit(Edit::Remove { .. }) => ["remove 52", "remove as plain"],
+        Call::Undo => ["undo 52", "undo as plain"],
+    }
+}
+
+/// The same call under another profile, given what it was answered under its own.
+fn check_again(tally: &mut Tally, rng: &mut Rng, call: &Call, state: &State, profile: u32, own: Answer) {
+    let state = State { profile, ..state.clone() };
+    let mut buffers = Buffers::new(&state, rng.below(16));
+    let (answer, _) = check_call_on(tally, &mut buffers, call, &state);
+    let [unknown, plain] = rows_again(call);
+    match answer.refusal {
+        52 => tally.count(unknown, own.refusal),
+        number if profile > ADRIFT => tally.fail(&describe(call, &state), &format!("an unknown profile, and not 52 but {number}")),
+        number if profile == PLAIN && own.refusal == 0 => tally.count(plain, number),
+        _ => {}
+    }
+}
+
+/// A call that is also made under an unknown profile.
+pub fn check_call_and_52(tally: &mut Tally, rng: &mut Rng, call: &Call, state: &State) -> (Answer, State) {
+    let (answer, after) = check_call(tally, rng, call, state);
+    let unknown = rng.unknown_profile();
+    check_again(tally, rng, call, state, unknown, answer);
+    (answer, after)
 }
 
 // ---- Families ------------------------------------------------------------------------------------------------------
@@ -260,13 +331,13 @@ fn some_draft(rng: &mut Rng) -> generate::Draft {
 
 fn valid_files(tally: &mut Tally, rng: &mut Rng) {
     let file = some_draft(rng).render().bytes;
-    check_expected(tally, &file, None);
+    check_expected(tally, rng, &file, None);
     check_file(tally, rng, &file);
 }
 
 /// The refusal that follows from how a file was built, against the reference.
-pub fn check_expected(tally: &mut Tally, file: &[u8], built: Option<Refusal>) {
-    let judged = reference::read(file).err();
+pub fn check_expected(tally: &mut Tally, rng: &Rng, file: &[u8], built: Option<Refusal>) {
+    let judged = reference::read(file, rng.profile).err();
     if judged != built {
         tally.fail(&format!("file={}", hex(file)), &format!("built {built:?}\nreference {judged:?}"));
     }
@@ -284,7 +355,7 @@ fn fault(rng: &mut Rng) -> u64 {
 fn built_file(tally: &mut Tally, rng: &mut Rng, faults: &[u64]) -> Vec<u8> {
     let draft = some_draft(rng);
     let built = generate::faulty(rng, draft, faults);
-    check_expected(tally, &built.file, built.refusal);
+    check_expected(tally, rng, &built.file, built.refusal);
     if let (&[first, second], 2) = (faults, built.faults) {
         if generate::next_in_order(first) == Some(second) {
             tally.count("pairs", first);
@@ -456,12 +527,13 @@ pub fn check_run(
     next: impl Fn(&mut Rng, &State, usize) -> Call,
 ) {
     let mut state = start;
-    let mut ledger = Ledger::new(&state.file[..state.length], state.file.len(), state.journal.len());
+    let mut ledger = Ledger::new(&state.file[..state.length], state.profile, state.file.len(), state.journal.len());
+    let row = if state.profile == ADRIFT { "ledger ADRIFT" } else { "ledger" };
     let mut buffers = Buffers::new(&state, rng.below(16));
     for step in 0..calls {
         let call = next(rng, &state, step);
         let (answer, after) = check_call_on(tally, &mut buffers, &call, &state);
-        tally.count("ledger", answer.refusal);
+        tally.count(row, answer.refusal);
         if let Some(complaint) = against_ledger(&mut ledger, &call, answer, &after) {
             tally.fail(&describe(&call, &state), &format!("call {step} of the run: {complaint}"));
         }
@@ -524,23 +596,35 @@ fn against_ledger(ledger: &mut Ledger, call: &Call, answer: Answer, after: &Stat
 fn rows() -> Vec<(&'static str, Vec<u64>)> {
     let file: Vec<u64> = (0..=19).chain(27..=29).collect();
     let with = |more: &[u64]| [&file, more].concat();
-    vec![
-        ("read", file.clone()),
-        ("entry", with(&[22])),
-        ("lookup", with(&[22])),
-        ("table_build", with(&[34])),
-        ("table_check", with(&[35])),
+    let in_runs = vec![0, 22, 23, 24, 25, 26, 101, 109, 111, 112, 114, 115, 116, 119];
+    // A call that takes a profile: its numbers, 52 among them, and behind 52 all the others.
+    let taking = |rows: [&'static str; 2], more: &[u64]| [(rows[0], with(&[more, &[52]].concat())), (rows[1], with(more))];
+    let calls = [
+        taking(["read", "read 52"], &[]),
+        taking(["entry", "entry 52"], &[22]),
+        taking(["lookup", "lookup 52"], &[22]),
+        taking(["table_build", "table_build 52"], &[34]),
+        taking(["table_check", "table_check 52"], &[35]),
+        taking(["add", "add 52"], &[20, 24, 25, 101, 109, 111, 112, 114, 115, 116]),
+        taking(["replace", "replace 52"], &[20, 22, 23, 24, 25, 101, 109, 114, 119]),
+        taking(["remove", "remove 52"], &[20, 22, 25, 119]),
+        taking(["undo", "undo 52"], &[20, 21, 24, 26]),
+    ];
+    let others = vec![
         ("table_search", vec![0, 22]),
         ("blank", vec![0, 24]),
-        ("add", with(&[20, 24, 25, 101, 109, 111, 112, 114, 115, 116])),
-        ("replace", with(&[20, 22, 23, 24, 25, 101, 109, 114, 119])),
-        ("remove", with(&[20, 22, 25, 119])),
-        ("undo", with(&[20, 21, 24, 26])),
+        ("ADRIFT as plain", vec![0, 14]),
+        ("add as plain", vec![0, 14, 114]),
+        ("replace as plain", vec![0, 14, 114]),
+        ("remove as plain", vec![0, 14]),
+        ("undo as plain", vec![0, 14, 21]),
         ("built", file.clone()),
         ("pairs", generate::ORDER.into_iter().filter(|&number| generate::next_in_order(number).is_some()).collect()),
-        ("ledger", vec![0, 22, 23, 24, 25, 26, 101, 109, 111, 112, 114, 115, 116, 119]),
+        ("ledger", in_runs.clone()),
+        ("ledger ADRIFT", in_runs),
         ("undone", vec![1, 2, 3, 4]),
-    ]
+    ];
+    calls.into_iter().flatten().chain(others).collect()
 }
 
 /// Prints how often LARGE was seen. False where so many inputs must show it more often.
@@ -566,13 +650,13 @@ fn print_large(tally: &Tally, count: u64) -> bool {
 /// Prints the table. False where a number was seen that cannot be, or (if asked) one that must be was not.
 fn print_table(tally: &Tally, complete: bool) -> bool {
     println!("how often each number was seen (built: refusals by construction, pairs: k with the next in order in one file,");
-    println!("ledger: answers in runs, undone: kinds of records):");
+    println!("ledger: answers in runs, undone: kinds of records; 52: what 52 came before; as plain: of what was good under ADRIFT):");
     let mut good = true;
     for (row, numbers) in rows() {
         let seen: BTreeMap<u64, u64> =
             tally.table.range((row, 0)..=(row, u64::MAX)).map(|((_, number), count)| (*number, *count)).collect();
         let list: Vec<String> = seen.iter().map(|(number, count)| format!("{number}:{count}")).collect();
-        println!("  {row:7} {}", list.join(" "));
+        println!("  {row:16} {}", list.join(" "));
         for number in numbers.iter().filter(|number| complete && !seen.contains_key(number)) {
             println!("compare: {row} never gave {number}");
             good = false;
@@ -683,7 +767,7 @@ fn main() {
         println!("compare: case {case:#x} shows no difference");
         return;
     }
-    println!("compare: seed {} count {}", options.seed, options.count);
+    println!("compare: archive of version {}, seed {} count {}", archive::version(), options.seed, options.count);
     let mut rng = Rng::new(options.seed);
     let mut progress = Progress::new(options.count);
     for i in 0..options.count {

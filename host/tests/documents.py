@@ -1,4 +1,5 @@
-"""The documents against the header and the files: documents.py ROOT. A request that adds a refusal has to add its row to docs/RULES.md."""
+"""The documents against the header and the files: documents.py ROOT. A request that adds a refusal has to add its row to docs/RULES.md and its
+sentence to host/library/sentences.c."""
 import re
 import sys
 from pathlib import Path
@@ -28,6 +29,13 @@ def refusals_of_rules(text):
     return {int(number): name for number, name in rows}
 
 
+def named_refusals(text):
+    """All names that the header lists, 0 and those of 100 + k too, but not the bare 100."""
+    listed = text[text.index("BLORB_DONE = 0"):text.index("BLORB_RESULT_FRONTISPIECE")]
+    names = re.findall(r"^\s*(BLORB_\w+) = ", listed, re.MULTILINE)
+    return sorted({*names, "BLORB_RESULT_FRONTISPIECE"} - {"BLORB_RESULT"})
+
+
 def bytes_of_dump(text, title):
     """The bytes of the first dump behind the title."""
     found = b""
@@ -46,6 +54,8 @@ def main():
     rules = (ROOT / "docs/RULES.md").read_text()
     header = refusals_of_header((ROOT / "include/blorb.h").read_text())
     same("the refusals of docs/RULES.md are those of include/blorb.h", refusals_of_rules(rules), header)
+    sentences = re.findall(r"^    case (BLORB_\w+):$", (ROOT / "host/library/sentences.c").read_text(), re.MULTILINE)
+    same("every refusal has its sentence", sorted(sentences), named_refusals((ROOT / "include/blorb.h").read_text()))
     same("the first example of docs/RULES.md is samples/eel.blb", bytes_of_dump(rules, "## An example in bytes"),
          (ROOT / "samples/eel.blb").read_bytes())
     for document in [ROOT / "README.md", *sorted((ROOT / "docs").glob("*.md"))]:

@@ -3,7 +3,7 @@
 mod faults;
 mod journals;
 
-use crate::reference::{self, Call, Edit, State, Tag, USAGES};
+use crate::reference::{self, Call, Edit, State, Tag, ADRIFT, PLAIN, USAGES};
 pub use faults::{faulty, next_in_order, ORDER};
 pub use journals::undo_state;
 
@@ -14,11 +14,13 @@ pub struct Rng {
     state: u64,
     /// How many of 1,000 data are large.
     large: usize,
+    /// The profile that the case's files are made for and its calls are mostly made under.
+    pub profile: u32,
 }
 
 impl Rng {
     pub fn new(seed: u64) -> Rng {
-        Rng { state: seed, large: 8 }
+        Rng { state: seed, large: 8, profile: PLAIN }
     }
 
     /// The numbers of a case. One case of 60 has large data often and mostly buffers with room for it.
@@ -27,7 +29,21 @@ impl Rng {
         if rng.below(60) == 0 {
             rng.large = 200;
         }
+        rng.profile = rng.pick(&[PLAIN, ADRIFT]);
         rng
+    }
+
+    /// Another profile than this known one: the other known one, or an unknown one.
+    pub fn other_profile(&mut self, profile: u32) -> u32 {
+        match self.chance(50) {
+            true => PLAIN + ADRIFT - profile,
+            false => self.unknown_profile(),
+        }
+    }
+
+    pub fn unknown_profile(&mut self) -> u32 {
+        let any = self.next() as u32 | 1 << self.between(1, 31);
+        self.pick(&[2, 3, 255, 256, 65_536, 1 << 24, 1 << 31, u32::MAX, any])
     }
 
     fn often_large(&self) -> bool {
@@ -112,8 +128,13 @@ const DATA: [&Tag; 2] = [b"TEXT", b"BINA"];
 const EXEC: [&Tag; 12] =
     [b"ZCOD", b"GLUL", b"TAD2", b"TAD3", b"HUGO", b"ALAN", b"ADRI", b"LEVE", b"AGT ", b"MAGS", b"ADVS", b"EXEC"];
 
-fn tags_of(usage: &Tag) -> &'static [&'static Tag] {
+const ADRIFT_PICT: [&Tag; 4] = [b"JPEG", b"PNG ", b"Rect", b"GIF "];
+const ADRIFT_SND: [&Tag; 7] = [b"OGGV", b"MOD ", b"SONG", b"FORM", b"WAV ", b"MIDI", b"MP3 "];
+
+fn tags_of(profile: u32, usage: &Tag) -> &'static [&'static Tag] {
     match usage {
+        b"Pict" if profile == ADRIFT => &ADRIFT_PICT,
+        b"Snd " if profile == ADRIFT => &ADRIFT_SND,
         b"Pict" => &PICT,
         b"Snd " => &SND,
         b"Data" => &DATA,
@@ -123,7 +144,7 @@ fn tags_of(usage: &Tag) -> &'static [&'static Tag] {
 
 /// A type and data that suit the usage.
 fn suited(rng: &mut Rng, usage: &Tag) -> (Tag, Vec<u8>) {
-    let tag = *rng.pick(tags_of(usage));
+    let tag = *rng.pick(tags_of(rng.profile, usage));
     let mut content = data(rng);
     if &tag == b"Rect" {
         content.resize(8, 0);
@@ -137,7 +158,7 @@ fn suited(rng: &mut Rng, usage: &Tag) -> (Tag, Vec<u8>) {
 /// A type and data that do not suit the usage, and are no index and no optional chunk.
 fn unsuited(rng: &mut Rng, usage: &Tag) -> (Tag, Vec<u8>) {
     let content = data(rng);
-    match rng.below(5) {
+    match rng.below(6) {
         0 if usage == b"Pict" => {
             let length = rng.pick(&[0, 4, 7, 9, 10, 16]);
             (*b"Rect", rng.bytes(length))
@@ -152,9 +173,24 @@ fn unsuited(rng: &mut Rng, usage: &Tag) -> (Tag, Vec<u8>) {
             suited(rng, other)
         }
         3 => {
-            let near: [&Tag; 10] =
-                [b"jpeg", b"PNG\0", b"rect", b"MOD\0", b"OGGW", b"TEXU", b"BIN ", b"TAD4", b"AGT\0", b"\0\0\0\0"];
+            let near: [&Tag; 14] = [
+                b"jpeg", b"PNG\0", b"rect", b"MOD\0", b"OGGW", b"TEXU", b"BIN ", b"TAD4", b"AGT\0", b"\0\0\0\0", b"gif ", b"WAV\0",
+                b"MIDi", b"MP3\0",
+            ];
             (*rng.pick(&near), content)
+        }
+        // A type of the ADRIFT profile: under its own usage only where the profile is plain.
+        4 => {
+            let of_pict: [&Tag; 1] = [b"GIF "];
+            let of_snd: [&Tag; 3] = [b"WAV ", b"MIDI", b"MP3 "];
+            let own = rng.profile == PLAIN;
+            let tag = match usage {
+                b"Pict" if own => rng.pick(&of_pict),
+                b"Snd " if own => rng.pick(&of_snd),
+                b"Snd " => rng.pick(&of_pict),
+                _ => rng.pick(&of_snd),
+            };
+            (*tag, content)
         }
         _ => ([b'~', rng.next() as u8, rng.next() as u8, rng.next() as u8], content),
     }
@@ -626,7 +662,7 @@ pub fn lend(rng: &mut Rng, file: Vec<u8>, records: Vec<u8>, file_more: usize, jo
     let (mut file, mut journal) = (file, records);
     file.extend(rng.bytes(file_more));
     journal.extend(rng.bytes(journal_more));
-    State { file, length, journal, used }
+    State { profile: rng.profile, file, length, journal, used }
 }
 
 /// The usual room; where large data comes often, mostly room for some of it too.

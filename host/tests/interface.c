@@ -3,7 +3,7 @@
  *
  * Everything runs three times, on buffers of exactly the size that is named: from malloc (the address sanitizer then sees the C
  * library's moves), with a page behind that may not be touched, and with such a page before. The pages catch the library's own
- * reads and writes too, which no sanitizer has compiled.
+ * reads and writes too, which no sanitizer has compiled. All but the profiles' own tests run under each known profile, with the same answers.
  */
 #define _DEFAULT_SOURCE
 #include <inttypes.h>
@@ -27,6 +27,12 @@ IS(BLORB_ENTRY_SIZE, 12);
 IS(BLORB_HEADER_SIZE, 4 + 4);
 IS(BLORB_RECORD_SIZE, 25 + 4);
 IS(BLORB_ROW_NUMBERS, 3);
+
+/* Profiles (02, P12): 0 plain and 1 ADRIFT. The version is one number. */
+IS(BLORB_PLAIN, 0);
+IS(BLORB_ADRIFT, 1);
+IS(BLORB_VERSION, 2000000);
+IS(BLORB_VERSION, BLORB_VERSION_MAJOR * 1000000 + BLORB_VERSION_MINOR * 1000 + BLORB_VERSION_PATCH);
 
 /* Usages as numbers: four bytes, big-endian. */
 IS(BLORB_PICT, 0x50696374);
@@ -71,6 +77,9 @@ IS(BLORB_NOTHING_TO_UNDO, 26); /* U is 0, nothing to undo */
 /* The refusals of the finding table (02, P2). */
 IS(BLORB_TABLE_ROOM, 34);      /* slice too small */
 IS(BLORB_TABLE_STALE, 35);     /* table isn't this file's */
+
+/* The refusal of the profile (02, P12). */
+IS(BLORB_PROFILE, 52);         /* an unknown profile */
 
 /* 100 + k: the reader would refuse the resulting file with k. */
 IS(BLORB_RESULT, 100);
@@ -133,6 +142,7 @@ LIES_AT(blorb_search_answer, probes, 24, uint64_t);
 enum { FILLER = 0xee, IMAGE_ROOM = 512 };
 enum { FROM_MALLOC, PAGE_BEHIND, PAGE_BEFORE, LENDINGS } lending;
 static unsigned long checks;
+static uint32_t profile; /* that of every call where nothing else is said */
 
 static void expect(int right, const char *what)
 {
@@ -303,16 +313,16 @@ static void give_back(lent *l)
 static void reads(const image *f, uint64_t refusal, uint64_t place, uint64_t count, const char *what)
 {
     lent l = lend(f->at, f->length, f->length);
-    blorb_read_answer r = blorb_read(l.at, l.size);
+    blorb_read_answer r = blorb_read(l.at, l.size, profile);
     uint64_t length = refusal == 0 ? f->length : 0;
     expect(r.refusal == refusal && r.place == place && r.length == length && r.count == count, what);
     size_t beyond[] = {count, count + 1, SIZE_MAX};
     for (int i = 0; i < 3; i++) {
-        blorb_entry_answer e = blorb_entry(l.at, l.size, beyond[i]);
+        blorb_entry_answer e = blorb_entry(l.at, l.size, profile, beyond[i]);
         expect(e.refusal == (refusal != 0 ? refusal : BLORB_NOT_THERE) && e.place == place, what);
         expect(e.usage == 0 && e.number == 0 && e.start == 0, what);
     }
-    blorb_lookup_answer k = blorb_lookup(l.at, l.size, "Pics", 1);
+    blorb_lookup_answer k = blorb_lookup(l.at, l.size, profile, "Pics", 1);
     expect(k.refusal == (refusal != 0 ? refusal : BLORB_NOT_THERE) && k.place == place, what);
     expect(k.type == 0 && k.start == 0 && k.length == 0, what);
     expect(f->length == 0 || memcmp(l.at, f->at, f->length) == 0, what);
@@ -322,10 +332,10 @@ static void reads(const image *f, uint64_t refusal, uint64_t place, uint64_t cou
 static void finds(const image *f, size_t i, const char *usage, uint32_t number, uint64_t start, uint32_t type, uint64_t length)
 {
     lent l = lend(f->at, f->length, f->length);
-    blorb_entry_answer e = blorb_entry(l.at, l.size, i);
+    blorb_entry_answer e = blorb_entry(l.at, l.size, profile, i);
     expect(e.refusal == 0 && e.place == 0 && e.number == number && e.start == start, "entry");
     expect(e.usage == BLORB_TAG(usage[0], usage[1], usage[2], usage[3]), "entry's usage");
-    blorb_lookup_answer k = blorb_lookup(l.at, l.size, usage, number);
+    blorb_lookup_answer k = blorb_lookup(l.at, l.size, profile, usage, number);
     expect(k.refusal == 0 && k.place == 0 && k.type == type && k.start == start + 8 && k.length == length, "lookup");
     give_back(&l);
 }
@@ -404,19 +414,19 @@ static void large_files(void)
 {
     size_t size = (size_t)BLORB_MAX_SIZE + 1;
     lent l = lend(NULL, 0, size);
-    expect(blorb_read(l.at, size).refusal == BLORB_TOO_LONG, "1");
-    expect(blorb_lookup(l.at, size, "Pict", 1).refusal == BLORB_TOO_LONG, "lookup: 1");
+    expect(blorb_read(l.at, size, profile).refusal == BLORB_TOO_LONG, "1");
+    expect(blorb_lookup(l.at, size, profile, "Pict", 1).refusal == BLORB_TOO_LONG, "lookup: 1");
     image f = sample_a();
     memcpy(l.at, f.at, f.length);
     put32(l.at + 4, BLORB_MAX_SIZE - 8);
     memcpy(l.at + 36, "BINA", 4);
     put32(l.at + 40, BLORB_MAX_SIZE - 44);
-    blorb_read_answer r = blorb_read(l.at, BLORB_MAX_SIZE);
+    blorb_read_answer r = blorb_read(l.at, BLORB_MAX_SIZE, profile);
     expect(r.refusal == 0 && r.length == BLORB_MAX_SIZE && r.count == 1, "exactly the limit");
-    blorb_edit_answer a = blorb_add(l.at, size, BLORB_MAX_SIZE, NULL, 0, 0, "Data", 8, "TEXT", NULL, 0);
+    blorb_edit_answer a = blorb_add(l.at, size, BLORB_MAX_SIZE, NULL, 0, 0, profile, "Data", 8, "TEXT", NULL, 0);
     expect(a.refusal == BLORB_RESULT_TOO_LONG && a.place == 0 && a.length == BLORB_MAX_SIZE && a.used == 0, "101");
     lent small = lend(f.at, f.length, f.length);
-    a = blorb_replace(small.at, small.size, f.length, NULL, 0, 0, "Data", 7, "BINA", l.at, size);
+    a = blorb_replace(small.at, small.size, f.length, NULL, 0, 0, profile, "Data", 7, "BINA", l.at, size);
     expect(a.refusal == BLORB_RESULT_TOO_LONG && memcmp(small.at, f.at, f.length) == 0, "replace: 101");
     give_back(&small);
     give_back(&l);
@@ -443,12 +453,12 @@ static lent many(uint32_t count)
 static void many_entries(void)
 {
     lent most = many(BLORB_MAX_ENTRIES), over = many(BLORB_MAX_ENTRIES + 1);
-    blorb_read_answer r = blorb_read(most.at, most.size);
+    blorb_read_answer r = blorb_read(most.at, most.size, profile);
     expect(r.refusal == 0 && r.count == BLORB_MAX_ENTRIES, "4,096 entries");
-    expect(blorb_entry(most.at, most.size, BLORB_MAX_ENTRIES - 1).number == BLORB_MAX_ENTRIES - 1, "the last entry");
-    r = blorb_read(over.at, over.size);
+    expect(blorb_entry(most.at, most.size, profile, BLORB_MAX_ENTRIES - 1).number == BLORB_MAX_ENTRIES - 1, "the last entry");
+    r = blorb_read(over.at, over.size, profile);
     expect(r.refusal == BLORB_TOO_MANY && r.place == 20, "11");
-    blorb_edit_answer a = blorb_add(most.at, most.size, most.size, NULL, 0, 0, "Data", 5000, "TEXT", NULL, 0);
+    blorb_edit_answer a = blorb_add(most.at, most.size, most.size, NULL, 0, 0, profile, "Data", 5000, "TEXT", NULL, 0);
     expect(a.refusal == BLORB_RESULT_TOO_MANY && a.place == 20 && a.length == most.size, "111");
     give_back(&most);
     give_back(&over);
@@ -503,8 +513,8 @@ static void made(pair *p, blorb_edit_answer a, const image *file, const image *r
 static blorb_edit_answer add(pair *p, const char *usage, uint32_t number, const char *type, const char *data, size_t n)
 {
     lent d = lend((const uint8_t *)data, n, n);
-    blorb_edit_answer a = blorb_add(p->file.at, p->file.size, p->length, p->journal.at, p->journal.size, p->used, usage, number,
-                                    type, d.at, d.size);
+    blorb_edit_answer a = blorb_add(p->file.at, p->file.size, p->length, p->journal.at, p->journal.size, p->used, profile, usage,
+                                    number, type, d.at, d.size);
     expect(n == 0 || memcmp(d.at, data, n) == 0, "add leaves the data alone");
     give_back(&d);
     return a;
@@ -513,8 +523,8 @@ static blorb_edit_answer add(pair *p, const char *usage, uint32_t number, const 
 static blorb_edit_answer replace(pair *p, const char *usage, uint32_t number, const char *type, const char *data, size_t n)
 {
     lent d = lend((const uint8_t *)data, n, n);
-    blorb_edit_answer a = blorb_replace(p->file.at, p->file.size, p->length, p->journal.at, p->journal.size, p->used, usage,
-                                        number, type, d.at, d.size);
+    blorb_edit_answer a = blorb_replace(p->file.at, p->file.size, p->length, p->journal.at, p->journal.size, p->used, profile,
+                                        usage, number, type, d.at, d.size);
     expect(n == 0 || memcmp(d.at, data, n) == 0, "replace leaves the data alone");
     give_back(&d);
     return a;
@@ -522,12 +532,12 @@ static blorb_edit_answer replace(pair *p, const char *usage, uint32_t number, co
 
 static blorb_edit_answer removal(pair *p, const char *usage, uint32_t number)
 {
-    return blorb_remove(p->file.at, p->file.size, p->length, p->journal.at, p->journal.size, p->used, usage, number);
+    return blorb_remove(p->file.at, p->file.size, p->length, p->journal.at, p->journal.size, p->used, profile, usage, number);
 }
 
 static blorb_edit_answer undo(pair *p)
 {
-    return blorb_undo(p->file.at, p->file.size, p->length, p->journal.at, p->journal.size, p->used);
+    return blorb_undo(p->file.at, p->file.size, p->length, p->journal.at, p->journal.size, p->used, profile);
 }
 
 static void test_blank(void)
@@ -752,9 +762,9 @@ static void test_lengths(void)
             refused(&p, any_edit(&p, call), 20, 0, "20");
         }
     for (size_t length = 0; length < 2; length++) {
-        blorb_edit_answer r = blorb_undo(NULL, 0, length, NULL, 0, 0);
+        blorb_edit_answer r = blorb_undo(NULL, 0, length, NULL, 0, 0, profile);
         expect(r.refusal == (length == 0 ? 2 : 20) && r.length == length && r.used == 0, "undo without buffers");
-        r = blorb_remove(NULL, 0, length, NULL, 0, 1, "Data", 7);
+        r = blorb_remove(NULL, 0, length, NULL, 0, 1, profile, "Data", 7);
         expect(r.refusal == 20 && r.length == length && r.used == 1, "remove without buffers");
     }
 }
@@ -772,7 +782,7 @@ static void builds(const image *f, size_t numbers, uint64_t refusal, uint64_t pl
     uint32_t filler;
     memset(&filler, FILLER, sizeof filler);
     lent l = lend(f->at, f->length, f->length), t = lend(NULL, 0, 4 * numbers);
-    blorb_build_answer b = blorb_table_build(l.at, l.size, numbers_in(&t), numbers);
+    blorb_build_answer b = blorb_table_build(l.at, l.size, profile, numbers_in(&t), numbers);
     expect(b.refusal == refusal && b.place == place && b.rows == count, "table: build");
     for (size_t i = 0; i < numbers; i++)
         expect(numbers_in(&t)[i] == (i < 3 * count ? rows[i] : filler), "table: the slice after build");
@@ -784,7 +794,7 @@ static void builds(const image *f, size_t numbers, uint64_t refusal, uint64_t pl
 static void checks_table(const image *f, const uint32_t *from, size_t numbers, uint64_t refusal, uint64_t place)
 {
     lent l = lend(f->at, f->length, f->length), t = lend((const uint8_t *)from, 4 * numbers, 4 * numbers);
-    blorb_check_answer c = blorb_table_check(l.at, l.size, numbers_in(&t), numbers);
+    blorb_check_answer c = blorb_table_check(l.at, l.size, profile, numbers_in(&t), numbers);
     expect(c.refusal == refusal && c.place == place, "table: check");
     expect(numbers == 0 || memcmp(t.at, from, 4 * numbers) == 0, "table: check leaves the slice");
     give_back(&l);
@@ -837,25 +847,176 @@ static void test_table(void)
     searches(on_one, 9, "Pict", 3, 72, 2);
 }
 
+/* ---- profiles */
+
+static const uint32_t unknown[] = {2, 3, 255, 256, 65536, 0x80000000, 0xffffffff};
+enum { UNKNOWN = sizeof unknown / sizeof *unknown };
+
+static image with_one(const char *usage, uint32_t number, const char *type)
+{
+    image f = blank();
+    row(&f, usage, number, 36);
+    chunk(&f, type, "RIFF", 4);
+    return f;
+}
+
+/* The types of the ADRIFT profile under every usage: under their own they are good there, and refused as plain. */
+static void test_adrift_types(void)
+{
+    static const char *const types[] = {"GIF ", "WAV ", "MIDI", "MP3 "}, *const usages[] = {"Pict", "Snd ", "Data", "Exec"};
+    image none = {.length = 0};
+    for (int u = 0; u < 4; u++)
+        for (int t = 0; t < 4; t++) {
+            int good = t == 0 ? u == 0 : u == 1;
+            image f = with_one(usages[u], 0, types[t]), from = blank(), rec = record(1, usages[u], 0, 0, 0, "\0\0\0\0", "", 0);
+            profile = BLORB_PLAIN;
+            reads(&f, 14, 24, 0, "14: a type of the ADRIFT profile, plain");
+            pair p = prepared(&from, 60, &none, 40);
+            refused(&p, add(&p, usages[u], 0, types[t], "RIFF", 4), 114, 24, "add: 114, plain");
+            profile = BLORB_ADRIFT;
+            reads(&f, good ? 0 : 14, good ? 0 : 24, good ? 1 : 0, "a type of the ADRIFT profile");
+            p = prepared(&from, 60, &none, 40);
+            if (good)
+                made(&p, add(&p, usages[u], 0, types[t], "RIFF", 4), &f, &rec, 29, "add under the ADRIFT profile");
+            else
+                refused(&p, add(&p, usages[u], 0, types[t], "RIFF", 4), 114, 24, "add: 114");
+        }
+}
+
+/* A 'GIF ' picture found, as the frontispiece, and in the table. */
+static void test_gif(void)
+{
+    image f = with_one("Pict", 1, "GIF "), front = f;
+    uint32_t rows[] = {BLORB_PICT, 1, 36};
+    chunk(&front, "Fspc", "\0\0\0\1", 4);
+    profile = BLORB_ADRIFT;
+    finds(&f, 0, "Pict", 1, 36, BLORB_TAG('G', 'I', 'F', ' '), 4);
+    reads(&front, 0, 0, 1, "a GIF frontispiece");
+    builds(&f, 3, 0, 0, rows, 1);
+    checks_table(&f, rows, 3, 0, 0);
+    profile = BLORB_PLAIN;
+    reads(&front, 14, 24, 0, "a GIF frontispiece, plain");
+    builds(&f, 3, 14, 24, rows, 0);
+    checks_table(&f, rows, 3, 14, 24);
+}
+
+/* The file after an undo is judged under the profile of that call. */
+static void test_undo_under(void)
+{
+    image wav = with_one("Snd ", 1, "WAV "), ogg = with_one("Snd ", 1, "OGGV");
+    image was_ogg = record(2, "Snd ", 1, 0, 36, "OGGV", "RIFF", 4), was_wav = record(2, "Snd ", 1, 0, 36, "WAV ", "RIFF", 4);
+    profile = BLORB_ADRIFT;
+    pair p = prepared(&wav, 60, &was_ogg, 40);
+    made(&p, undo(&p), &ogg, NULL, 0, "undo of a replacement by a WAV");
+    p = prepared(&ogg, 60, &was_wav, 40);
+    made(&p, undo(&p), &wav, NULL, 0, "undo of a replacement of a WAV");
+    profile = BLORB_PLAIN;
+    p = prepared(&wav, 60, &was_ogg, 40);
+    refused(&p, undo(&p), 14, 24, "undo of a replacement by a WAV, plain");
+    p = prepared(&ogg, 60, &was_wav, 40);
+    refused(&p, undo(&p), 21, 0, "undo of a replacement of a WAV, plain");
+}
+
+/* 52 comes before everything else that is wrong with a call, and nothing is written. */
+static void test_unknown_profile(void)
+{
+    image none = {.length = 0}, a = sample_a(), cut = sample_a(), bad = sample_a();
+    uint32_t rows[] = {BLORB_DATA, 7, 36};
+    cut.length = 11;
+    bad.at[0] = 'G';
+    for (int i = 0; i < UNKNOWN; i++) {
+        profile = unknown[i];
+        image *files[] = {&none, &a, &cut, &bad};
+        for (int k = 0; k < 4; k++) {
+            reads(files[k], 52, 0, 0, "52");
+            builds(files[k], 3, 52, 0, rows, 0);
+            builds(files[k], 0, 52, 0, rows, 0);
+            checks_table(files[k], rows, 3, 52, 0);
+            checks_table(files[k], rows, 0, 52, 0);
+            for (int call = 0; call < 4; call++) {
+                pair p = prepared(files[k], 60, &none, 40);
+                refused(&p, any_edit(&p, call), 52, 0, "an edit or undo: 52");
+                p = prepared(files[k], 60, &none, 40);
+                p.length = SIZE_MAX;
+                p.used = SIZE_MAX;
+                refused(&p, any_edit(&p, call), 52, 0, "an edit or undo: 52 before 20");
+            }
+        }
+        lent l = lend(NULL, 0, (size_t)BLORB_MAX_SIZE + 1);
+        expect(blorb_read(l.at, l.size, profile).refusal == 52, "52 before 1");
+        give_back(&l);
+        blorb_edit_answer r = blorb_undo(NULL, 0, 0, NULL, 0, 0, profile);
+        expect(r.refusal == 52 && r.length == 0 && r.used == 0, "undo without buffers: 52");
+    }
+}
+
+/* ---- sentences and the version */
+
+/* Every number of the header has a sentence of its own; any other one is said to be none. */
+static void test_sentences(void)
+{
+    static const uint16_t known[] = {0,  1,  2,  3,  4,  5,  6,  7,  8,  9,  10, 11, 12, 13,  14,  15,  16,  17,  18,  19,  20,  21, 22,
+                                     23, 24, 25, 26, 27, 28, 29, 34, 35, 52, 101, 109, 111, 112, 114, 115, 116, 119};
+    enum { KNOWN = sizeof known / sizeof *known };
+    const char *none = blorb_sentence(UINT64_MAX);
+    expect(none != NULL && strlen(none) > 10, "a sentence for a number that is none");
+    size_t next = 0;
+    for (uint64_t n = 0; n < 70000; n++) {
+        const char *said = blorb_sentence(n);
+        int listed = next < KNOWN && known[next] == n;
+        expect(said != NULL && (strcmp(said, none) == 0) == !listed, "which numbers have a sentence");
+        expect(!listed || (strlen(said) > 10 && said[strlen(said) - 1] != '.'), "a sentence without a full stop");
+        next += (size_t)listed;
+    }
+    expect(next == KNOWN, "every number of the header has a sentence");
+    for (size_t i = 0; i < KNOWN; i++)
+        for (size_t k = 0; k < i; k++)
+            expect(strcmp(blorb_sentence(known[i]), blorb_sentence(known[k])) != 0, "no sentence stands for two numbers");
+    for (int i = 9; i < 64; i++)
+        expect(strcmp(blorb_sentence((uint64_t)1 << i), none) == 0 && strcmp(blorb_sentence(((uint64_t)1 << i) + 7), none) == 0,
+               "large numbers are not cut");
+}
+
+static void test_version(void)
+{
+    char text[32];
+    snprintf(text, sizeof text, "%d.%d.%d", BLORB_VERSION_MAJOR, BLORB_VERSION_MINOR, BLORB_VERSION_PATCH);
+    expect(blorb_version() == BLORB_VERSION, "the archive's version is the header's");
+    expect(strcmp(text, BLORB_VERSION_TEXT) == 0, "the version's text");
+}
+
+/* Under a known profile. */
+static void test_calls(void)
+{
+    accepted_files();
+    refused_files();
+    refused_optional();
+    large_files();
+    many_entries();
+    test_add();
+    test_add_refused();
+    test_replace();
+    test_remove();
+    test_undo();
+    test_undo_damaged();
+    test_broken_off();
+    test_order();
+    test_lengths();
+    test_table();
+}
+
 int main(void)
 {
     for (lending = FROM_MALLOC; lending < LENDINGS; lending++) {
-        accepted_files();
-        refused_files();
-        refused_optional();
-        large_files();
-        many_entries();
+        for (profile = BLORB_PLAIN; profile <= BLORB_ADRIFT; profile++)
+            test_calls();
         test_blank();
-        test_add();
-        test_add_refused();
-        test_replace();
-        test_remove();
-        test_undo();
-        test_undo_damaged();
-        test_broken_off();
-        test_order();
-        test_lengths();
-        test_table();
+        test_adrift_types();
+        test_gif();
+        test_undo_under();
+        test_unknown_profile();
+        test_sentences();
+        test_version();
     }
     printf("interface: %lu checks\ninterface: ok\n", checks);
     return 0;

@@ -3,9 +3,9 @@
 use crate::archive;
 use crate::fence;
 use crate::generate::{self, Rng};
-use crate::reference::{Call, Chunk, Edit, Entry, File, Record, State, Tag, LIMIT, MOST_ENTRIES};
+use crate::reference::{Call, Chunk, Edit, Entry, File, Record, State, Tag, ADRIFT, LIMIT, MOST_ENTRIES, PLAIN};
 use crate::samples::samples;
-use crate::{check_call, check_file, check_run, Tally};
+use crate::{check_call_and_52, check_file, check_file_under, check_run, Tally};
 use std::ops::Range;
 
 const FIRST: usize = 0xE0;
@@ -75,20 +75,28 @@ pub fn remove(usage: &Tag, number: u32) -> Call {
     Call::Edit(Edit::Remove { usage: *usage, number })
 }
 
-/// A call that must be answered with this number, which 01 names for the case. Gives the buffers afterwards.
+/// A call that must be answered with this number, which 01 or 02 names for the case; 52 under an unknown profile too. Gives the buffers
+/// afterwards.
 pub fn expect(tally: &mut Tally, rng: &mut Rng, call: &Call, state: &State, number: u64) -> State {
-    let (answer, after) = check_call(tally, rng, call, state);
+    let (answer, after) = check_call_and_52(tally, rng, call, state);
     if answer.refusal != number {
         tally.fail(call.name(), &format!("must give {number}, gave {answer:?}"));
     }
     after
 }
 
+/// The reading calls on a file, under an unknown profile too.
+fn check_file_and_52(tally: &mut Tally, rng: &mut Rng, file: &[u8]) {
+    check_file(tally, rng, file);
+    let unknown = rng.unknown_profile();
+    check_file_under(tally, rng, file, unknown);
+}
+
 // ---- 16,777,216 bytes ----------------------------------------------------------------------------------------------
 
 fn at_limit(tally: &mut Tally, rng: &mut Rng) {
     let file = filled(rng, LIMIT).write();
-    check_file(tally, rng, &file);
+    check_file_and_52(tally, rng, &file);
     let state = generate::lend(rng, file, Vec::new(), 100, LIMIT);
     expect(tally, rng, &add(b"Data", 9, b"TEXT", vec![]), &state, 101);
     expect(tally, rng, &add(b"Data", 9, b"RIdx", vec![]), &state, 101);
@@ -108,7 +116,7 @@ fn at_limit(tally: &mut Tally, rng: &mut Rng) {
 fn over_limit(tally: &mut Tally, rng: &mut Rng) {
     let good = filled(rng, LIMIT + 2).write();
     for file in [good[..LIMIT + 1].to_vec(), good, vec![0; LIMIT + 1]] {
-        check_file(tally, rng, &file);
+        check_file_and_52(tally, rng, &file);
         tally.count("built", 1);
         let state = generate::lend(rng, file, vec![1; 29], 50, 50);
         for call in
@@ -181,7 +189,7 @@ fn most_entries(tally: &mut Tally, rng: &mut Rng) {
     for chunks in [1, 60, MOST_ENTRIES] {
         let list = many_entries(rng, MOST_ENTRIES, chunks);
         let file = list.write();
-        check_file(tally, rng, &file);
+        check_file_and_52(tally, rng, &file);
         let state = generate::lend(rng, file.clone(), Vec::new(), 100, 100);
         expect(tally, rng, &add(b"Data", 9, b"TEXT", vec![]), &state, 111);
         expect(tally, rng, &add(b"Data", 9, b"RIdx", vec![]), &state, 109);
@@ -203,7 +211,7 @@ fn most_entries(tally: &mut Tally, rng: &mut Rng) {
 
 fn too_many_entries(tally: &mut Tally, rng: &mut Rng) {
     let file = many_entries(rng, MOST_ENTRIES + 1, 50).write();
-    check_file(tally, rng, &file);
+    check_file_and_52(tally, rng, &file);
     let state = generate::lend(rng, file, vec![1; 29], 100, 100);
     for call in [add(b"Data", 9, b"TEXT", vec![]), replace(b"Pict", 2, b"JPEG", vec![]), remove(b"Pict", 2), Call::Undo]
     {
@@ -224,8 +232,23 @@ fn beyond_32_bits(tally: &mut Tally, _: &mut Rng) {
 
 // ---- Runs ----------------------------------------------------------------------------------------------------------
 
-/// The first call goes past the limit.
+/// Both limits under both profiles.
 fn run_at_length_limit(tally: &mut Tally, rng: &mut Rng) {
+    for profile in [PLAIN, ADRIFT] {
+        rng.profile = profile;
+        run_to_length_limit(tally, rng);
+    }
+}
+
+fn run_at_entry_limit(tally: &mut Tally, rng: &mut Rng) {
+    for profile in [PLAIN, ADRIFT] {
+        rng.profile = profile;
+        run_to_entry_limit(tally, rng);
+    }
+}
+
+/// The first call goes past the limit.
+fn run_to_length_limit(tally: &mut Tally, rng: &mut Rng) {
     let file = filled(rng, LIMIT - 60).write();
     let state = generate::lend(rng, file, Vec::new(), 100, 400);
     check_run(tally, rng, state, 40, |rng, _, step| match rng.below(8) {
@@ -244,7 +267,7 @@ fn run_at_length_limit(tally: &mut Tally, rng: &mut Rng) {
 }
 
 /// The third call is one entry too many.
-fn run_at_entry_limit(tally: &mut Tally, rng: &mut Rng) {
+fn run_to_entry_limit(tally: &mut Tally, rng: &mut Rng) {
     let file = many_entries(rng, MOST_ENTRIES - 2, 3).write();
     let state = generate::lend(rng, file, Vec::new(), 200, 400);
     check_run(tally, rng, state, 60, |rng, _, step| match rng.below(8) {

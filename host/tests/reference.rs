@@ -8,6 +8,9 @@ use std::collections::{HashMap, HashSet};
 pub const LIMIT: usize = 16_777_216;
 pub const MOST_ENTRIES: usize = 4_096;
 pub const USAGES: [&Tag; 4] = [b"Pict", b"Snd ", b"Data", b"Exec"];
+/// The profiles that there are.
+pub const PLAIN: u32 = 0;
+pub const ADRIFT: u32 = 1;
 
 pub type Tag = [u8; 4];
 
@@ -58,8 +61,17 @@ pub struct View {
     pub entries: Vec<Entry>,
 }
 
+/// 52 for an unknown profile, which comes before all others.
+fn check_profile(profile: u32) -> Result<(), Refusal> {
+    match profile {
+        PLAIN | ADRIFT => Ok(()),
+        _ => refuse(52, 0),
+    }
+}
+
 /// Accepts the file, or refuses it with the first reason of the table, in its order.
-pub fn read(file: &[u8]) -> Result<View, Refusal> {
+pub fn read(file: &[u8], profile: u32) -> Result<View, Refusal> {
+    check_profile(profile)?;
     if file.len() > LIMIT {
         return refuse(1, 0);
     }
@@ -78,7 +90,7 @@ pub fn read(file: &[u8]) -> Result<View, Refusal> {
     let mut spans = walk(file)?;
     let count = index_count(file, &spans)?;
     spans.remove(0);
-    let entries = read_entries(file, &spans, count)?;
+    let entries = read_entries(file, profile, &spans, count)?;
     let view = View { spans, entries };
     check_optional(file, &view)?;
     Ok(view)
@@ -136,7 +148,7 @@ fn index_count(file: &[u8], spans: &[Span]) -> Result<usize, Refusal> {
 }
 
 /// The entries in their order, which is that of their chunks. Refusals 12 to 16 and 27.
-fn read_entries(file: &[u8], spans: &[Span], count: usize) -> Result<Vec<Entry>, Refusal> {
+fn read_entries(file: &[u8], profile: u32, spans: &[Span], count: usize) -> Result<Vec<Entry>, Refusal> {
     let chunk_at: HashMap<usize, usize> = spans.iter().enumerate().map(|(i, span)| (span.start, i)).collect();
     let mut pairs = HashSet::new();
     let mut entries: Vec<Entry> = Vec::new();
@@ -149,7 +161,7 @@ fn read_entries(file: &[u8], spans: &[Span], count: usize) -> Result<Vec<Entry>,
         let Some(&chunk) = chunk_at.get(&(number_at(file, at + 8) as usize)) else {
             return refuse(13, at + 8);
         };
-        if !suits(&usage, &tag_at(file, spans[chunk].start), spans[chunk].data(file)) {
+        if !suits(profile, &usage, &tag_at(file, spans[chunk].start), spans[chunk].data(file)) {
             return refuse(14, at);
         }
         if &usage == b"Exec" && number != 0 {
@@ -166,8 +178,20 @@ fn read_entries(file: &[u8], spans: &[Span], count: usize) -> Result<Vec<Entry>,
     Ok(entries)
 }
 
+/// The types that the ADRIFT profile has besides, for each usage.
+fn suits_adrift(usage: &Tag, tag: &Tag) -> bool {
+    match usage {
+        b"Pict" => tag == b"GIF ",
+        b"Snd " => [b"WAV ", b"MIDI", b"MP3 "].contains(&tag),
+        _ => false,
+    }
+}
+
 /// Rule 5: may a chunk of this type and with this data stand for this usage?
-pub fn suits(usage: &Tag, tag: &Tag, data: &[u8]) -> bool {
+pub fn suits(profile: u32, usage: &Tag, tag: &Tag, data: &[u8]) -> bool {
+    if profile == ADRIFT && suits_adrift(usage, tag) {
+        return true;
+    }
     match usage {
         b"Pict" => tag == b"JPEG" || tag == &[80, 78, 71, 32] || (tag == b"Rect" && data.len() == 8),
         b"Snd " => {
@@ -211,8 +235,8 @@ fn check_optional(file: &[u8], view: &View) -> Result<(), Refusal> {
 }
 
 /// The answers of the three reading calls, with the numbers that they hand back where they are not refused.
-pub fn read_answer(file: &[u8]) -> Result<[u64; 2], Refusal> {
-    let view = read(file)?;
+pub fn read_answer(file: &[u8], view: &Result<View, Refusal>) -> Result<[u64; 2], Refusal> {
+    let view = view.as_ref().map_err(|&refusal| refusal)?;
     Ok([file.len() as u64, view.entries.len() as u64])
 }
 
@@ -256,8 +280,8 @@ pub struct File {
 }
 
 impl File {
-    pub fn open(file: &[u8]) -> Result<File, Refusal> {
-        let view = read(file)?;
+    pub fn open(file: &[u8], profile: u32) -> Result<File, Refusal> {
+        let view = read(file, profile)?;
         let chunk = |span: &Span| Chunk { tag: tag_at(file, span.start), data: span.data(file).to_vec() };
         Ok(File { chunks: view.spans.iter().map(chunk).collect(), entries: view.entries })
     }
@@ -479,9 +503,10 @@ fn check_target(edit: &Edit, present: &File) -> Result<(), Refusal> {
     Ok(())
 }
 
-/// The buffers' lengths and how much of the journal is in use.
+/// The buffers' lengths, how much of the journal is in use, and the profile that the resulting file is judged under.
 #[derive(Clone, Copy)]
 pub struct Room {
+    pub profile: u32,
     pub file: usize,
     pub journal: usize,
     pub used: usize,
@@ -494,7 +519,7 @@ fn decide(edit: &Edit, present: &File, room: Room) -> Result<(File, Record), Ref
     if result.length() > LIMIT {
         return refuse(101, 0);
     }
-    if let Err(Refusal { number, place }) = read(&result.write()) {
+    if let Err(Refusal { number, place }) = read(&result.write(), room.profile) {
         return Err(Refusal { number: 100 + number, place });
     }
     if result.length() > room.file {
@@ -507,13 +532,13 @@ fn decide(edit: &Edit, present: &File, room: Room) -> Result<(File, Record), Ref
 }
 
 /// The file that undoing this record gives, if the record fits.
-fn take_back(record: &Record, present: &File) -> Option<File> {
+fn take_back(record: &Record, present: &File, profile: u32) -> Option<File> {
     let result = match record.kind {
         1 => take_back_add(record, present)?,
         2 => take_back_replace(record, present)?,
         _ => take_back_remove(record, present)?,
     };
-    (result.length() <= LIMIT && read(&result.write()).is_ok()).then_some(result)
+    (result.length() <= LIMIT && read(&result.write(), profile).is_ok()).then_some(result)
 }
 
 fn take_back_add(record: &Record, present: &File) -> Option<File> {
@@ -563,9 +588,10 @@ fn take_back_remove(record: &Record, present: &File) -> Option<File> {
 
 // ---- Single calls on lent buffers ----------------------------------------------------------------------------------
 
-/// Both whole buffers, and the lengths given with them.
+/// Both whole buffers, and the lengths and the profile given with them.
 #[derive(Clone)]
 pub struct State {
+    pub profile: u32,
     pub file: Vec<u8>,
     pub length: usize,
     pub journal: Vec<u8>,
@@ -607,18 +633,19 @@ pub fn call(call: &Call, state: &State) -> (Answer, State) {
 
 /// The new file, the bytes to be written at `used`, and the new `used`.
 fn attempt(call: &Call, state: &State) -> Result<(Vec<u8>, Vec<u8>, usize), Refusal> {
+    check_profile(state.profile)?;
     if state.length > state.file.len() || state.used > state.journal.len() {
         return refuse(20, 0);
     }
-    let present = File::open(&state.file[..state.length])?;
-    let room = Room { file: state.file.len(), journal: state.journal.len(), used: state.used };
+    let present = File::open(&state.file[..state.length], state.profile)?;
+    let room = Room { profile: state.profile, file: state.file.len(), journal: state.journal.len(), used: state.used };
     match call {
         Call::Edit(edit) => {
             let (result, record) = decide(edit, &present, room)?;
             Ok((result.write(), record.write(), state.used + record.size()))
         }
         Call::Undo => {
-            let (result, used) = undo(&present, &state.journal[..state.used])?;
+            let (result, used) = undo(&present, state.profile, &state.journal[..state.used])?;
             if result.length() > state.file.len() {
                 return refuse(24, 0);
             }
@@ -628,14 +655,14 @@ fn attempt(call: &Call, state: &State) -> Result<(Vec<u8>, Vec<u8>, usize), Refu
 }
 
 /// 26, 21, or the file before the last record's edit and the journal's length without it.
-fn undo(present: &File, journal: &[u8]) -> Result<(File, usize), Refusal> {
+fn undo(present: &File, profile: u32, journal: &[u8]) -> Result<(File, usize), Refusal> {
     if journal.is_empty() {
         return refuse(26, 0);
     }
     let Some(record) = Record::last(journal) else {
         return refuse(21, 0);
     };
-    let Some(result) = take_back(&record, present) else {
+    let Some(result) = take_back(&record, present, profile) else {
         return refuse(21, 0);
     };
     Ok((result, journal.len() - record.size()))
@@ -667,8 +694,9 @@ pub fn blank(buffer: &[u8]) -> (Answer, Vec<u8>) {
 
 // ---- Whole runs ----------------------------------------------------------------------------------------------------
 
-/// The ledger: told the starting file, both buffers' lengths and the calls, no answer and no journal byte.
+/// The ledger: told the starting file, the profile of the whole run, both buffers' lengths and the calls, no answer and no journal byte.
 pub struct Ledger {
+    profile: u32,
     start: File,
     list: Vec<Edit>,
     file_room: usize,
@@ -679,10 +707,10 @@ pub struct Ledger {
 }
 
 impl Ledger {
-    pub fn new(start: &[u8], file_room: usize, journal_room: usize) -> Ledger {
-        let start = File::open(start).expect("a run starts from an accepted file");
+    pub fn new(start: &[u8], profile: u32, file_room: usize, journal_room: usize) -> Ledger {
+        let start = File::open(start, profile).expect("a run starts from an accepted file");
         let file = start.clone();
-        Ledger { start, list: Vec::new(), file_room, journal_room, file, records: Vec::new() }
+        Ledger { profile, start, list: Vec::new(), file_room, journal_room, file, records: Vec::new() }
     }
 
     pub fn file(&self) -> Vec<u8> {
@@ -703,7 +731,7 @@ impl Ledger {
     fn attempt(&mut self, call: &Call) -> Result<(), Refusal> {
         match call {
             Call::Edit(edit) => {
-                let room = Room { file: self.file_room, journal: self.journal_room, used: self.records.len() };
+                let room = Room { profile: self.profile, file: self.file_room, journal: self.journal_room, used: self.records.len() };
                 let (file, record) = decide(edit, &self.file, room)?;
                 self.list.push(edit.clone());
                 self.file = file;

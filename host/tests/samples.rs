@@ -1,11 +1,19 @@
-//! The sample files of the scope paper, with the numbers that it names. They test the reference as much as the library.
+//! The sample files of the scope paper and of the requests, with the numbers that they name. They test the reference as much as the library.
 
 use crate::generate::{self, Rng};
 use crate::large::{add, expect, remove, replace};
-use crate::reference::{self, Call, Refusal, State};
+use crate::reference::{self, Call, Chunk, Entry, File, Record, Refusal, State, Tag, ADRIFT, PLAIN};
 use crate::{check_expected, check_file, Tally};
 
 pub fn samples(tally: &mut Tally, rng: &mut Rng) {
+    for profile in [PLAIN, ADRIFT] {
+        rng.profile = profile;
+        plain_samples(tally, rng);
+    }
+    profile_samples(tally, rng);
+}
+
+fn plain_samples(tally: &mut Tally, rng: &mut Rng) {
     let blank = generate::lend(rng, reference::blank_file(), Vec::new(), 100, 200);
     let a = expect(tally, rng, &add(b"Data", 7, b"TEXT", b"eel".to_vec()), &blank, 0);
     let rectangle = vec![0, 0, 1, 64, 0, 0, 0, 0];
@@ -68,7 +76,56 @@ fn refused(tally: &mut Tally, rng: &mut Rng, a: &[u8], b: &[u8]) {
         ([&b[..24], &b[36..48], &b[24..36], &b[48..]].concat(), 27, 44),
     ];
     for (file, number, place) in samples {
-        check_expected(tally, &file, Some(Refusal { number, place }));
+        check_expected(tally, rng, &file, Some(Refusal { number, place }));
         check_file(tally, rng, &file);
+    }
+}
+
+/// A file of one resource.
+fn file_with(usage: &Tag, number: u32, tag: &Tag, data: &[u8]) -> File {
+    let (chunks, entries) = (vec![Chunk { tag: *tag, data: data.to_vec() }], vec![Entry { usage: *usage, number, chunk: 0 }]);
+    File { chunks, entries }
+}
+
+/// What the file gives under the plain profile, the ADRIFT profile and an unknown one.
+fn under_profiles(tally: &mut Tally, rng: &mut Rng, file: &[u8], plain: Option<(u64, u64)>, adrift: Option<(u64, u64)>) {
+    for (profile, stated) in [(PLAIN, plain), (ADRIFT, adrift), (2, Some((52, 0))), (u32::MAX, Some((52, 0)))] {
+        let judged = reference::read(file, profile).err();
+        if judged != stated.map(|(number, place)| Refusal { number, place }) {
+            tally.fail(&format!("a sample under profile {profile}"), &format!("stated {stated:?}, reference {judged:?}"));
+        }
+        if profile <= ADRIFT {
+            rng.profile = profile;
+            check_file(tally, rng, file);
+        }
+    }
+}
+
+/// The samples of the request for profiles.
+fn profile_samples(tally: &mut Tally, rng: &mut Rng) {
+    let gif = file_with(b"Pict", 1, b"GIF ", b"eel");
+    let mut front = gif.clone();
+    front.chunks.push(Chunk { tag: *b"Fspc", data: vec![0, 0, 0, 1] });
+    under_profiles(tally, rng, &gif.write(), Some((14, 24)), None);
+    under_profiles(tally, rng, &front.write(), Some((14, 24)), None);
+    under_profiles(tally, rng, &file_with(b"Snd ", 1, b"GIF ", b"eel").write(), Some((14, 24)), Some((14, 24)));
+    under_profiles(tally, rng, &reference::blank_file()[..11], Some((2, 0)), Some((2, 0)));
+    let record = |tag: &Tag| {
+        Record { kind: 2, usage: *b"Snd ", number: 1, place: 0, start: 36, tag: *tag, data: b"RIFF".to_vec() }.write()
+    };
+    // A sound that was replaced by a 'WAV ', and a 'WAV ' that was replaced, each undone under both profiles.
+    for (now, before, plain) in [(b"WAV ", b"OGGV", 14), (b"OGGV", b"WAV ", 21)] {
+        for (profile, number) in [(PLAIN, plain), (ADRIFT, 0)] {
+            rng.profile = profile;
+            let state = generate::lend(rng, file_with(b"Snd ", 1, now, b"RIFF").write(), record(before), 20, 3);
+            expect(tally, rng, &Call::Undo, &state, number);
+        }
+    }
+    // Lengths that exceed their buffers, and before them an unknown profile.
+    rng.profile = PLAIN;
+    let mut state = generate::lend(rng, gif.write(), Vec::new(), 5, 5);
+    (state.length, state.used) = (state.file.len() + 1, state.journal.len() + 1);
+    for call in [add(b"Pict", 2, b"GIF ", vec![]), replace(b"Pict", 1, b"GIF ", vec![]), remove(b"Pict", 1), Call::Undo] {
+        expect(tally, rng, &call, &state, 20);
     }
 }

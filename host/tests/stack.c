@@ -16,6 +16,7 @@ static uint8_t file[ROOM], wrong[ROOM], journal[ROOM], data[DATA];
 static uint32_t table[6];
 static ucontext_t outside, inside;
 static int calls;
+static uint32_t profile;
 
 static void gives(uint64_t refusal, uint64_t wanted)
 {
@@ -32,13 +33,22 @@ static void done(uint64_t refusal)
 /* Every call refuses the file in `wrong`. */
 static void refused(size_t length, size_t used, uint64_t refusal)
 {
-    gives(blorb_read(wrong, length).refusal, refusal);
-    gives(blorb_entry(wrong, length, 1).refusal, refusal);
-    gives(blorb_lookup(wrong, length, "Data", 2).refusal, refusal);
-    gives(blorb_add(wrong, ROOM, length, journal, ROOM, used, "Data", 9, "BINA", data, 1).refusal, refusal);
-    gives(blorb_replace(wrong, ROOM, length, journal, ROOM, used, "Data", 2, "BINA", data, 1).refusal, refusal);
-    gives(blorb_remove(wrong, ROOM, length, journal, ROOM, used, "Data", 2).refusal, refusal);
-    gives(blorb_undo(wrong, ROOM, length, journal, ROOM, used).refusal, refusal);
+    gives(blorb_read(wrong, length, profile).refusal, refusal);
+    gives(blorb_entry(wrong, length, profile, 1).refusal, refusal);
+    gives(blorb_lookup(wrong, length, profile, "Data", 2).refusal, refusal);
+    gives(blorb_add(wrong, ROOM, length, journal, ROOM, used, profile, "Data", 9, "BINA", data, 1).refusal, refusal);
+    gives(blorb_replace(wrong, ROOM, length, journal, ROOM, used, profile, "Data", 2, "BINA", data, 1).refusal, refusal);
+    gives(blorb_remove(wrong, ROOM, length, journal, ROOM, used, profile, "Data", 2).refusal, refusal);
+    gives(blorb_undo(wrong, ROOM, length, journal, ROOM, used, profile).refusal, refusal);
+}
+
+/* Every call refuses an unknown profile before it looks at the file. */
+static void unknown(size_t length, size_t used)
+{
+    memcpy(wrong, file, length);
+    profile = 2;
+    refused(length, used, BLORB_PROFILE);
+    profile = BLORB_ADRIFT;
 }
 
 /* The file of `length` bytes cut short, its FORM length right: every call finds the broken chunk. */
@@ -61,30 +71,34 @@ static void turned(size_t length, size_t used)
 
 static void every_call(void)
 {
+    profile = BLORB_ADRIFT;
+    gives(blorb_version(), BLORB_VERSION);
+    gives(blorb_sentence(BLORB_DONE) == NULL, 0);
     blorb_edit_answer a = blorb_blank(file, ROOM);
     done(a.refusal);
     for (uint32_t i = 0; i < 3; i++) {
-        a = blorb_add(file, ROOM, a.length, journal, ROOM, a.used, "Data", i, "BINA", data, DATA - i);
+        a = blorb_add(file, ROOM, a.length, journal, ROOM, a.used, profile, "Data", i, "BINA", data, DATA - i);
         done(a.refusal);
     }
-    a = blorb_replace(file, ROOM, a.length, journal, ROOM, a.used, "Data", 0, "TEXT", data, DATA / 2);
+    a = blorb_replace(file, ROOM, a.length, journal, ROOM, a.used, profile, "Data", 0, "TEXT", data, DATA / 2);
     done(a.refusal);
-    a = blorb_replace(file, ROOM, a.length, journal, ROOM, a.used, "Data", 0, "TEXT", data, DATA);
+    a = blorb_replace(file, ROOM, a.length, journal, ROOM, a.used, profile, "Data", 0, "TEXT", data, DATA);
     done(a.refusal);
-    a = blorb_remove(file, ROOM, a.length, journal, ROOM, a.used, "Data", 1);
+    a = blorb_remove(file, ROOM, a.length, journal, ROOM, a.used, profile, "Data", 1);
     done(a.refusal);
-    done(blorb_read(file, a.length).refusal);
-    done(blorb_entry(file, a.length, 1).refusal);
-    done(blorb_lookup(file, a.length, "Data", 2).refusal);
-    done(blorb_table_build(file, a.length, table, 6).refusal);
-    done(blorb_table_check(file, a.length, table, 6).refusal);
+    done(blorb_read(file, a.length, profile).refusal);
+    done(blorb_entry(file, a.length, profile, 1).refusal);
+    done(blorb_lookup(file, a.length, profile, "Data", 2).refusal);
+    done(blorb_table_build(file, a.length, profile, table, 6).refusal);
+    done(blorb_table_check(file, a.length, profile, table, 6).refusal);
     done(blorb_table_search(table, 6, "Data", 2).refusal);
     broken(a.length, 1, a.used, BLORB_NO_PADDING); /* Data 2 is last, with an odd length */
     broken(a.length, 2, a.used, BLORB_CHUNK_LENGTH);
     broken(a.length, DATA, a.used, BLORB_CHUNK_CUT);
     turned(a.length, a.used);
+    unknown(a.length, a.used);
     while (a.used > 0) {
-        a = blorb_undo(file, ROOM, a.length, journal, ROOM, a.used);
+        a = blorb_undo(file, ROOM, a.length, journal, ROOM, a.used, profile);
         done(a.refusal);
     }
 }

@@ -3,8 +3,8 @@
 
 use crate::archive::{self, Lent};
 use crate::generate::{self, Rng};
-use crate::reference::{self, Refusal, Row, View};
-use crate::{hex, Tally};
+use crate::reference::{self, Refusal, Row};
+use crate::{hex, Read, Tally};
 
 /// The slice's numbers as bytes in the machine's order, as it is lent.
 fn lend(rng: &mut Rng, table: &[u32]) -> Lent {
@@ -15,25 +15,28 @@ fn in_memory(table: &[u32]) -> Vec<u8> {
     table.iter().flat_map(|number| number.to_ne_bytes()).collect()
 }
 
-fn describe(call: &str, file: &[u8], table: &[u32]) -> String {
-    format!("blorb_table_{call} size={} file={}\n  table={table:?}", file.len(), hex(file))
+fn describe(call: &str, read: &Read, table: &[u32]) -> String {
+    format!("blorb_table_{call} size={} profile={} file={}\n  table={table:?}", read.file.len(), read.profile, hex(read.file))
 }
 
+/// The rows of a file's table, under the profile that is asked and under the known one that the file was made for.
+type Rows = [Result<Vec<Row>, Refusal>; 2];
+
 /// All three calls on this file.
-pub fn check(tally: &mut Tally, rng: &mut Rng, file: &[u8], lent_file: &mut Lent, view: &Result<View, Refusal>) {
-    let rows = reference::table_rows(view);
-    let right: Vec<u32> = rows.as_ref().map_or(Vec::new(), |rows| rows.concat());
-    build(tally, rng, file, lent_file, &rows, right.len());
-    check_slice(tally, rng, file, lent_file, &rows, &right);
+pub fn check(tally: &mut Tally, rng: &mut Rng, lent_file: &mut Lent, read: &Read) {
+    let rows = [reference::table_rows(&read.view), reference::table_rows(&read.known)];
+    let right: Vec<u32> = rows[1].as_ref().map_or(Vec::new(), |rows| rows.concat());
+    build(tally, rng, lent_file, read, &rows, right.len());
+    check_slice(tally, rng, lent_file, read, &rows, &right);
     let other = changed(rng, &right);
-    check_slice(tally, rng, file, lent_file, &rows, &other);
+    check_slice(tally, rng, lent_file, read, &rows, &other);
     for table in [right, other] {
-        searches(tally, rng, file, &table);
+        searches(tally, rng, read.file, &table);
     }
 }
 
 /// Building in a slice with room to spare, just enough, or up to three numbers too few.
-fn build(tally: &mut Tally, rng: &mut Rng, file: &[u8], lent_file: &mut Lent, rows: &Result<Vec<Row>, Refusal>, size: usize) {
+fn build(tally: &mut Tally, rng: &mut Rng, lent_file: &mut Lent, read: &Read, rows: &Rows, size: usize) {
     let size = match rng.below(4) {
         0 => size,
         1 => size.saturating_sub(rng.between(1, 3)),
@@ -41,28 +44,28 @@ fn build(tally: &mut Tally, rng: &mut Rng, file: &[u8], lent_file: &mut Lent, ro
         _ => rng.below(size + 4),
     };
     let before: Vec<u32> = (0..size).map(|_| rng.next() as u32).collect();
-    let (expected, after) = reference::table_build(rows, &before);
+    let (expected, after) = reference::table_build(&rows[0], &before);
     let mut table = lend(rng, &before);
-    let found = archive::table_build(lent_file, &mut table, size);
-    tally.count_call("table_build", expected.map_or_else(|refusal| refusal.number, |_| 0));
+    let found = archive::table_build(lent_file, read.profile, &mut table, size);
+    tally.count_under(["table_build", "table_build 52"], &expected, &reference::table_build(&rows[1], &before).0);
     if found != Ok(expected) {
-        tally.fail(&describe("build", file, &before), &format!("expected {expected:?}\nfound    {found:?}"));
+        tally.fail(&describe("build", read, &before), &format!("expected {expected:?}\nfound    {found:?}"));
     }
     if let Some(complaint) = table.complaint("table", &in_memory(&after)) {
-        tally.fail(&describe("build", file, &before), &complaint);
+        tally.fail(&describe("build", read, &before), &complaint);
     }
 }
 
-fn check_slice(tally: &mut Tally, rng: &mut Rng, file: &[u8], lent_file: &mut Lent, rows: &Result<Vec<Row>, Refusal>, table: &[u32]) {
-    let expected = reference::table_check(rows, table);
+fn check_slice(tally: &mut Tally, rng: &mut Rng, lent_file: &mut Lent, read: &Read, rows: &Rows, table: &[u32]) {
+    let expected = reference::table_check(&rows[0], table);
     let mut lent = lend(rng, table);
-    let found = archive::table_check(lent_file, &mut lent, table.len());
-    tally.count_call("table_check", expected.map_or_else(|refusal| refusal.number, |_| 0));
+    let found = archive::table_check(lent_file, read.profile, &mut lent, table.len());
+    tally.count_under(["table_check", "table_check 52"], &expected, &reference::table_check(&rows[1], table));
     if found != Ok(expected) {
-        tally.fail(&describe("check", file, table), &format!("expected {expected:?}\nfound    {found:?}"));
+        tally.fail(&describe("check", read, table), &format!("expected {expected:?}\nfound    {found:?}"));
     }
     if let Some(complaint) = lent.complaint("table", &in_memory(table)) {
-        tally.fail(&describe("check", file, table), &complaint);
+        tally.fail(&describe("check", read, table), &complaint);
     }
 }
 

@@ -12,14 +12,14 @@ use Rattle.blorb.specs.Bytes.{Byte, rd32}
 use Rattle.blorb.specs.Tags.{RIdx, Exec, RelN, Fspc}
 use Rattle.blorb.specs.Format.{Chunk, Ref, size}
 use Rattle.blorb.specs.Verdict.{Rules, accept, _then_, check, noChunk, secondIndex, pairIn, refFault, verdict}
-use Rattle.blorb.specs.Rules.{typeIn, picture, single, chunkRule, chunkRules, optional, plainRules, plainVerdict}
+use Rattle.blorb.specs.Rules.{typeIn, picture, single, chunkRule, chunkRules, optional, rulesOf}
 use Rattle.blorb.specs.Model.{Model, base, file, model}
 use Rattle.blorb.specs.Queries.{noRef, refAt, start}
 use Rattle.blorb.specs.All.{All}
 use Rattle.blorb.specs.Sound.{RefOk, Sound}
 use Rattle.blorb.proofs.AllLaws.{all-getD}
 use Rattle.blorb.proofs.Places.{lower-start}
-use Rattle.blorb.specs.Keeps.{EntryKeeps, Keeps, KeepsRules, ChunkKeeps, ChunksKeep, KeepsPlain}
+use Rattle.blorb.specs.Keeps.{EntryKeeps, Keeps, KeepsRules, ChunkKeeps, ChunksKeep, KeepsUnder}
 use Rattle.blorb.proofs.Checks.{then-accept, check-accept, pass, accepts, holds-last, and-both, both-true}
 use Rattle.blorb.proofs.Accept.{accept-back}
 use Rattle.blorb.proofs.VerdictLaws.{refsFault, modelFault, inOrder, verdict-file, file-judged, file-ordered}
@@ -228,8 +228,8 @@ unfolding optional
 seven-exactly m = (each-told (m .refs) (m .chunks) [] (base (length (m .refs))) (m .chunks), each-fine (m .refs) (m .chunks) [] (base (length (m .refs))) (m .chunks))
 
 -- rule 7 said in another way
-seven-as : (S T : Model → Type 0) (f : List ℕ) (m : Model) → (S m → T m) → Keeps plainRules S f m → Keeps plainRules T f m
-seven-as S T f m g k =
+seven-as : (profile : ℕ) (S T : Model → Type 0) (f : List ℕ) (m : Model) → (S m → T m) → Keeps (rulesOf profile) S f m → Keeps (rulesOf profile) T f m
+seven-as profile S T f m g k =
     record {
       laid-out = k .laid-out;
       sound = k .sound;
@@ -243,8 +243,7 @@ seven-as S T f m g k =
     }
 
 -- a file of bytes is accepted exactly when it keeps 01's rules
-pub plain-exactly : (f : List ℕ) → All Byte f → (plainVerdict f ≡ accept → KeepsPlain f) × (KeepsPlain f → plainVerdict f ≡ accept)
-unfolding plainVerdict
-plain-exactly f bytes =
-    let e = exactly plainRules f bytes in
-    (λ h. let k = e .0 h in (k .0, seven-as _ _ f (k .0) (seven-exactly (k .0) .0) (k .1)), λ k. e .1 (k .0, seven-as _ _ f (k .0) (seven-exactly (k .0) .1) (k .1)))
+pub under-exactly : (profile : ℕ) (f : List ℕ) → All Byte f → (verdict (rulesOf profile) f ≡ accept → KeepsUnder profile f) × (KeepsUnder profile f → verdict (rulesOf profile) f ≡ accept)
+under-exactly profile f bytes =
+    let e = exactly (rulesOf profile) f bytes in
+    (λ h. let k = e .0 h in (k .0, seven-as profile _ _ f (k .0) (seven-exactly (k .0) .0) (k .1)), λ k. e .1 (k .0, seven-as profile _ _ f (k .0) (seven-exactly (k .0) .1) (k .1)))

@@ -7,6 +7,7 @@ pub mod Checks
 pub mod Accept
 pub mod VerdictLaws
 pub mod RunsPast
+pub mod Profiles
 pub mod Exactly
 pub mod Parts
 pub mod UsageLaws

@@ -12,11 +12,11 @@ use Rattle.blorb.specs.Bytes.{rd32}
 use Rattle.blorb.specs.Tags.{FORM, AIFF}
 use Rattle.blorb.specs.Format.{Chunk, chunkOf}
 use Rattle.blorb.specs.Verdict.{knownUsage}
-use Rattle.blorb.specs.Rules.{plainAllows, oneOf}
+use Rattle.blorb.specs.Rules.{plainAllows, adriftAllows, allows, oneOf}
 use Rattle.blorb.specs.declared.Usage.{Usage}
 use Rattle.blorb.specs.declared.Usage.the-variants.{Pict, Snd, Data, Exec}
 use Rattle.blorb.specs.declared.Known.the-variants.{Is, Unknown}
-use Rattle.blorb.specs.Usages.{codeOf, pickKnown, usageOf, pictType, sndType, dataType, execType}
+use Rattle.blorb.specs.Usages.{codeOf, pickKnown, usageOf, pictType, gifType, wavType, sndType, dataType, execType}
 
 pub or-false : (b : Bool) → b || false ≡ b
 or-false true = refl
@@ -119,5 +119,50 @@ module _ (t : ℕ) (d : List ℕ) where
   pub snd-form : t ≡ FORM → 4 ≤ length d → eqb (rd32 d) AIFF ≡ plainAllows (codeOf Snd) (chunkOf t d)
   snd-form e l = sym (plain-snd (chunkOf t d) ∙ rw (e, le-leb 4 (length d) l))
 
-pub plain-known : (u : ℕ) (k : Usage) (c : Chunk) → usageOf u ≡ Is k → plainAllows (codeOf k) c ≡ plainAllows u c
-plain-known u k c e = ap (λ (v : ℕ). plainAllows v c) (sym (known-is u k e .1))
+pub allows-known : (p u : ℕ) (k : Usage) (c : Chunk) → usageOf u ≡ Is k → allows p (codeOf k) c ≡ allows p u c
+allows-known p u k c e = ap (λ (v : ℕ). allows p v c) (sym (known-is u k e .1))
+
+-- the ADRIFT profile's types by usage
+pub adrift-pict : (t : ℕ) → adriftAllows (codeOf Pict) t ≡ gifType t
+unfolding adriftAllows oneOf
+adrift-pict t = simp or-false
+
+pub adrift-snd : (t : ℕ) → adriftAllows (codeOf Snd) t ≡ wavType t
+unfolding adriftAllows oneOf
+adrift-snd t = simp or-false
+
+pub adrift-data : (t : ℕ) → adriftAllows (codeOf Data) t ≡ false
+unfolding adriftAllows oneOf
+adrift-data t = refl
+
+pub adrift-exec : (t : ℕ) → adriftAllows (codeOf Exec) t ≡ false
+unfolding adriftAllows oneOf
+adrift-exec t = refl
+
+-- rule 5 of a profile: what plain allows, or else what ADRIFT does
+pub allows-plain : (p u : ℕ) (c : Chunk) → plainAllows u c ≡ true → true ≡ allows p u c
+unfolding allows
+allows-plain p u c e = rw e
+
+pub allows-else : (p u : ℕ) (c : Chunk) (b : Bool) → plainAllows u c ≡ false → b ≡ eqb p 1 && adriftAllows u (c .type) → b ≡ allows p u c
+unfolding allows
+allows-else p u c b e y = rw e y
+
+pub allows-also : (p u : ℕ) (c : Chunk) → eqb p 1 && adriftAllows u (c .type) ≡ true → allows p u c ≡ true
+unfolding allows
+allows-also p u c e = rw e (go (plainAllows u c))
+  where
+    go : (a : Bool) → a || true ≡ true
+    go true = refl
+    go false = refl
+
+pub allows-unknown : (p u : ℕ) (c : Chunk) → usageOf u ≡ Unknown → allows p u c ≡ false
+unfolding allows adriftAllows
+allows-unknown p u c e =
+    rw (plain-unknown u c e) (none-more (eqb p 1) (eqb u (codeOf Pict)) (eqb u (codeOf Snd)) (eqb u (codeOf Data)) (eqb u (codeOf Exec)) _ _ (known-not u e))
+  where
+    none-more : (p a b c d x y : Bool) → a || b || c || d ≡ false → p && ((a && x) || (b && y)) ≡ false
+    none-more false a b c d x y h = refl
+    none-more true true b c d x y h = let q : _≡_ {A = ℕ} 0 1 = cc in absurd (omega arith)
+    none-more true false true c d x y h = let q : _≡_ {A = ℕ} 0 1 = cc in absurd (omega arith)
+    none-more true false false c d x y h = refl

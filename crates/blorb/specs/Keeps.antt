@@ -10,7 +10,7 @@ use Rattle.blorb.specs.Bytes.{rd32}
 use Rattle.blorb.specs.Tags.{RIdx, Exec, RelN, Fspc}
 use Rattle.blorb.specs.Format.{Chunk, Ref}
 use Rattle.blorb.specs.Verdict.{Rules, accept, noChunk, knownUsage, pairIn}
-use Rattle.blorb.specs.Rules.{typeIn, picture, plainRules}
+use Rattle.blorb.specs.Rules.{typeIn, picture, rulesOf}
 use Rattle.blorb.specs.Model.{Model, base, file}
 use Rattle.blorb.specs.Queries.{refAt, chunkAt, start}
 use Rattle.blorb.specs.All.{All}
@@ -57,6 +57,6 @@ pub record ChunkKeeps (rs : List Ref) (cs earlier : List Chunk) (c : Chunk) : Ty
 abbrev pub ChunksKeep : Model → Type 0
 ChunksKeep m = (i : ℕ) → i < length (m .chunks) → ChunkKeeps (m .refs) (m .chunks) (take i (m .chunks)) (chunkAt m i)
 
--- the file keeps 01's rules and 02's P5: no order of checking and no places in it
-abbrev pub KeepsPlain : List ℕ → Type 0
-KeepsPlain f = (m : Model) × Keeps plainRules ChunksKeep f m
+-- the file keeps 01's rules and 02's P5 with the types of the profile: no order of checking and no places in it
+abbrev pub KeepsUnder : (profile : ℕ) → List ℕ → Type 0
+KeepsUnder profile f = (m : Model) × Keeps (rulesOf profile) ChunksKeep f m

@@ -1,25 +1,35 @@
--- Rule 5 and rule 7 for plain files, and the plain verdict.
+-- Rule 5 under each profile, rule 7, and the verdict under a profile.
 use Prim.Native.Nat.{ℕ, _+_}
 use mathlib.Core.List.{List, [], _∷_, _++_}
 use mathlib.Core.Bool.{Bool, false, _||_, _&&_, not, cond}
 use lib.ListN.{length, getD}
 use lib.Dec.{eqb, leb}
 use Rattle.blorb.specs.Bytes.{rd32}
-use Rattle.blorb.specs.Tags.{FORM, RelN, Fspc, Pict, Snd, Data, Exec, JPEG, PNG, Rect, OGGV, MOD, SONG, AIFF, TEXT, BINA, ZCOD, GLUL, TAD2, TAD3, HUGO, ALAN, ADRI, LEVE, AGT, MAGS, ADVS, EXEC}
+use Rattle.blorb.specs.Tags.{FORM, RelN, Fspc, Pict, Snd, Data, Exec}
+use Rattle.blorb.specs.Tags.{JPEG, PNG, Rect, GIF, OGGV, MOD, SONG, AIFF, WAV, MIDI, MP3, TEXT, BINA}
+use Rattle.blorb.specs.Tags.{ZCOD, GLUL, TAD2, TAD3, HUGO, ALAN, ADRI, LEVE, AGT, MAGS, ADVS, EXEC}
 use Rattle.blorb.specs.Format.{Chunk, Ref, size}
-use Rattle.blorb.specs.Verdict.{Rules, Verdict, accept, _then_, check, noChunk, verdict}
+use Rattle.blorb.specs.Verdict.{Rules, Verdict, accept, _then_, check, noChunk, reading}
 
 unfoldable pub oneOf : ℕ → List ℕ → Bool
 oneOf t [] = false
 oneOf t (x ∷ xs) = eqb t x || oneOf t xs
 
--- rule 5: the types that a usage allows, and what each asks of the chunk besides
+-- rule 5 of plain files: the types that a usage allows, and what each asks of the chunk besides
 unfoldable pub plainAllows : ℕ → Chunk → Bool
 plainAllows u c =
     (eqb u Pict && (oneOf (c .type) (JPEG ∷ (PNG ∷ [])) || (eqb (c .type) Rect && eqb (length (c .body)) 8)))
     || (eqb u Snd && (oneOf (c .type) (OGGV ∷ (MOD ∷ (SONG ∷ []))) || (eqb (c .type) FORM && leb 4 (length (c .body)) && eqb (rd32 (c .body)) AIFF)))
     || (eqb u Data && oneOf (c .type) (TEXT ∷ (BINA ∷ [])))
     || (eqb u Exec && oneOf (c .type) (ZCOD ∷ (GLUL ∷ (TAD2 ∷ (TAD3 ∷ (HUGO ∷ (ALAN ∷ (ADRI ∷ (LEVE ∷ (AGT ∷ (MAGS ∷ (ADVS ∷ (EXEC ∷ [])))))))))))))
+
+-- what ADRIFT allows besides: "'GIF ' pictures and 'WAV ', 'MIDI' and 'MP3 ' sounds under the ADRIFT profile" (02, P12; 001, section 14.5)
+unfoldable pub adriftAllows : ℕ → ℕ → Bool
+adriftAllows u t = (eqb u Pict && eqb t GIF) || (eqb u Snd && oneOf t (WAV ∷ (MIDI ∷ (MP3 ∷ []))))
+
+-- rule 5 under a profile, "0 plain and 1 ADRIFT; plain keeps 01's types"
+unfoldable pub allows : (profile : ℕ) → ℕ → Chunk → Bool
+allows profile u c = plainAllows u c || (eqb profile 1 && adriftAllows u (c .type))
 
 -- rule 7: "The picture named is in the index and isn't a 'Rect'."
 unfoldable pub picture : ℕ → List Chunk → List Ref → Bool
@@ -51,10 +61,10 @@ module _ (rs : List Ref) (all : List Chunk) where
 unfoldable pub optional : ℕ → List Ref → List Chunk → Verdict
 optional base rs cs = chunkRules rs cs [] base cs
 
--- 01's own rules
-abbrev pub plainRules : Rules
-plainRules = record { rule5 = plainAllows; rule7 = optional }
+-- the rules of a profile; 0 and 1 are known
+abbrev pub rulesOf : (profile : ℕ) → Rules
+rulesOf profile = record { known = leb profile 1; rule5 = allows profile; rule7 = optional }
 
--- the verdict of a file
-unfoldable pub plainVerdict : List ℕ → Verdict
-plainVerdict = verdict plainRules
+-- the verdict on a file under a profile: 52, or the table
+unfoldable pub profileVerdict : (profile : ℕ) → List ℕ → Verdict
+profileVerdict profile = reading (rulesOf profile)

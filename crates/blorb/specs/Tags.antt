@@ -44,6 +44,19 @@ PNG = tag 80 78 71 32
 abbrev pub Rect : ℕ
 Rect = tag 82 101 99 116
 
+-- of the ADRIFT house (02, P12)
+abbrev pub GIF : ℕ
+GIF = tag 71 73 70 32
+
+abbrev pub WAV : ℕ
+WAV = tag 87 65 86 32
+
+abbrev pub MIDI : ℕ
+MIDI = tag 77 73 68 73
+
+abbrev pub MP3 : ℕ
+MP3 = tag 77 80 51 32
+
 -- types of sounds (rule 5), and the form type that a 'FORM' must have
 abbrev pub OGGV : ℕ
 OGGV = tag 79 71 71 86

@@ -3,7 +3,7 @@ use Prim.Native.Nat.{ℕ}
 use mathlib.Core.Bool.{Bool, true, false, _&&_, _||_}
 use lib.Dec.{eqb}
 use Rattle.blorb.specs.Tags as tags
-use Rattle.blorb.specs.Tags.{JPEG, PNG, Rect, OGGV, MOD, SONG, TEXT, BINA, ZCOD, GLUL, TAD2, TAD3, HUGO, ALAN, ADRI, LEVE, AGT, MAGS, ADVS, EXEC}
+use Rattle.blorb.specs.Tags.{JPEG, PNG, Rect, GIF, WAV, MIDI, MP3, OGGV, MOD, SONG, TEXT, BINA, ZCOD, GLUL, TAD2, TAD3, HUGO, ALAN, ADRI, LEVE, AGT, MAGS, ADVS, EXEC}
 use Rattle.blorb.specs.declared.Usage.{Usage}
 use Rattle.blorb.specs.declared.Usage.the-variants.{Pict, Snd, Data, Exec}
 use Rattle.blorb.specs.declared.Known.{Known}
@@ -30,6 +30,12 @@ usageOf n =
 -- rule 5 by usage, as the code asks it: over a chunk's type and, for a picture, its length; a sound of type 'FORM' is asked apart
 abbrev pub pictType : ℕ → ℕ → Bool
 pictType t m = eqb t JPEG || (eqb t PNG || (eqb t Rect && eqb m 8))
+
+abbrev pub gifType : ℕ → Bool
+gifType t = eqb t GIF
+
+abbrev pub wavType : ℕ → Bool
+wavType t = eqb t WAV || (eqb t MIDI || eqb t MP3)
 
 abbrev pub sndType : ℕ → Bool
 sndType t = eqb t OGGV || (eqb t MOD || eqb t SONG)

@@ -80,9 +80,10 @@ lastPlace [] = 0
 lastPlace (r ∷ []) = r .chunk
 lastPlace (r ∷ (q ∷ rs)) = lastPlace (q ∷ rs)
 
--- The rules that are a definition of their own: rule 5 for a usage and a chunk, and rule 7 (17 to 19) for the offset of the first chunk
--- behind the index, the entries and the chunks.
+-- The rules of a profile: whether there is such a profile, rule 5 for a usage and a chunk, and rule 7 (17 to 19) for the offset of the
+-- first chunk behind the index, the entries and the chunks.
 pub record Rules : Type 0 where
+  pub known : Bool
   pub rule5 : ℕ → Chunk → Bool
   pub rule7 : ℕ → List Ref → List Chunk → Verdict
 
@@ -122,3 +123,7 @@ module _ (R : Rules) where
   -- the whole table: 1 to 5, then 6, 28, 29 and 7 of all chunks, then 8 to 19 with 27
   unfoldable pub verdict : List ℕ → Verdict
   verdict f = headFault f then (walkFault (length f) 12 (drop 12 f) then layoutFault (chunksOf f))
+
+  -- what the reader answers: 52, "an unknown profile, before all others" (02, P12), then the table
+  unfoldable pub reading : List ℕ → Verdict
+  reading f = check (R .known) 52 0 then verdict f

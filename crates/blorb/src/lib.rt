@@ -1,13 +1,15 @@
 // The terms of the Blorb format that reader and editor share: a number in four bytes, the four usages, and rule 5.
 ghost use mathlib.Core.Path.{_≡_};
 ghost use Prim.Native.Nat.{_+_, _≤_, _<_, _^_};
+ghost use mathlib.Core.Bool.{_&&_};
+ghost use lib.Dec.{eqb};
 ghost use lib.ListN.{length, drop};
 ghost use Rattle.blorb.specs.Bytes.{rd32};
 ghost use Rattle.blorb.specs.Little.{Little, swapped};
 ghost use Rattle.blorb.specs.Format.{chunkOf};
-ghost use Rattle.blorb.specs.Rules.{plainAllows};
+ghost use Rattle.blorb.specs.Rules.{plainAllows, adriftAllows, allows};
 ghost use Rattle.blorb.specs.declared.Usage.the-variants.{Snd};
-ghost use Rattle.blorb.specs.Usages.{codeOf, usageOf, pictType, sndType, dataType, execType};
+ghost use Rattle.blorb.specs.Usages.{codeOf, usageOf, pictType, gifType, wavType, sndType, dataType, execType};
 
 // An entry's usage, once read: one of four kinds.
 pub enum Usage {
@@ -75,6 +77,14 @@ const PNG: u64 = 0x504e4720;
 
 pub const RECT: u64 = 0x52656374;
 
+const GIF: u64 = 0x47494620;
+
+const WAV: u64 = 0x57415620;
+
+const MIDI: u64 = 0x4d494449;
+
+const MP3: u64 = 0x4d503320;
+
 const OGGV: u64 = 0x4f474756;
 
 const MOD: u64 = 0x4d4f4420;
@@ -121,6 +131,18 @@ fn snd_type(t: u64) -> bool
     ensures { λ r. ⌜ r ≡ sndType t ⌝ }
 {
     (t == OGGV) | ((t == MOD) | (t == SONG))
+}
+
+fn gif_type(t: u64) -> bool
+    ensures { λ r. ⌜ r ≡ gifType t ⌝ }
+{
+    t == GIF
+}
+
+fn wav_type(t: u64) -> bool
+    ensures { λ r. ⌜ r ≡ wavType t ⌝ }
+{
+    (t == WAV) | ((t == MIDI) | (t == MP3))
 }
 
 fn data_type(t: u64) -> bool
@@ -197,8 +219,8 @@ impl Usage {
         }
     }
 
-    // Rule 5: whether a chunk of this type and data may stand under this usage.
-    pub fn allows(self, kind: u64, d: &[u8]) -> bool
+    // Rule 5 for plain files; every profile allows as much.
+    pub fn plain_allows(self, kind: u64, d: &[u8]) -> bool
         ensures { λ r. ⌜ r ≡ plainAllows (codeOf self) (chunkOf kind (now (d .entry))) ⌝ }
     {
         match self {
@@ -208,14 +230,43 @@ impl Usage {
             Usage::Exec => exec_type(kind),
         }
     }
+
+    // What the ADRIFT profile allows besides.
+    fn adrift_allows(self, kind: u64) -> bool
+        ensures { λ r. ⌜ r ≡ adriftAllows (codeOf self) kind ⌝ }
+    {
+        match self {
+            Usage::Pict => gif_type(kind),
+            Usage::Snd => wav_type(kind),
+            Usage::Data => false,
+            Usage::Exec => false,
+        }
+    }
+
+    // What the profile allows besides. It stands apart from `allows` for callers that test the plain types by themselves first.
+    pub fn also_allows(self, profile: u32, kind: u64) -> bool
+        ensures { λ r. ⌜ r ≡ (eqb profile 1 && adriftAllows (codeOf self) kind) ⌝ }
+    {
+        (profile == 1) & self.adrift_allows(kind)
+    }
+
+    // Rule 5: whether a chunk of this type and data may stand under this usage, in files of this profile.
+    pub fn allows(self, profile: u32, kind: u64, d: &[u8]) -> bool
+        ensures { λ r. ⌜ r ≡ allows profile (codeOf self) (chunkOf kind (now (d .entry))) ⌝ }
+    {
+        if self.plain_allows(kind, d) {
+            return true;
+        }
+        self.also_allows(profile, kind)
+    }
 }
 
 // Rule 5 for a usage given by its four bytes: an unknown one allows nothing.
-pub fn type_allowed(code: u64, kind: u64, d: &[u8]) -> bool
-    ensures { λ r. ⌜ r ≡ plainAllows code (chunkOf kind (now (d .entry))) ⌝ }
+pub fn type_allowed(profile: u32, code: u64, kind: u64, d: &[u8]) -> bool
+    ensures { λ r. ⌜ r ≡ allows profile code (chunkOf kind (now (d .entry))) ⌝ }
 {
     let Known::Is(usage) = Usage::of_code(code) else {
         return false;
     };
-    usage.allows(kind, d)
+    usage.allows(profile, kind, d)
 }

@@ -21,8 +21,9 @@ code-small Data = omega arith
 code-small Exec = omega arith
 
 -- the editor's promise, in numbers
-pub answered : (s : State) (c : Call) (a : Answer) (r : EditAnswer) (b j : List ℕ) → r ≡ editNumbers a → Called s c a b j → Answered s c r b j
-answered s c a r b j e h =
+pub answered : (profile : ℕ) (s : State) (c : Call) (a : Answer) (r : EditAnswer) (b j : List ℕ) → r ≡ editNumbers a → Called profile s c a b j
+    → Answered profile s c r b j
+answered profile s c a r b j e h =
     rw e (record {
       refusal = ap refusalNumber (h .outcome);
       place = ap refusalPlace (h .outcome);

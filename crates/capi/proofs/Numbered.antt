@@ -10,8 +10,8 @@ use borrow.Author.Tests.{leb-true, ltb-true}
 use Rattle.blorb.specs.Bytes.{rd32}
 use Rattle.blorb.specs.Format.{Chunk, Entry, Ref, refOf}
 use Rattle.blorb.specs.Tags.{RelN, Fspc}
-use Rattle.blorb.specs.Verdict.{Verdict, accept, refuse, _then_, check, headFault, chunkFault, walkFault, secondIndex, indexFault, refFault, entriesFault, restFault, layoutFault, verdict}
-use Rattle.blorb.specs.Rules.{plainRules, plainVerdict, picture, single, chunkRule, chunkRules, optional}
+use Rattle.blorb.specs.Verdict.{Rules, Verdict, accept, refuse, _then_, check, headFault, chunkFault, walkFault, secondIndex, indexFault, refFault, entriesFault, restFault, layoutFault, verdict, reading}
+use Rattle.blorb.specs.Rules.{rulesOf, profileVerdict, picture, single, chunkRule, chunkRules, optional}
 use Rattle.edits.specs.Edit.{Edit, add, replace, remove}
 use Rattle.edits.specs.Run.{State, Call, edit, undo, hundred, targetFault, editedFile, editFault, undoFault, fault}
 use Rattle.blorb.specs.Model.{Model}
@@ -71,15 +71,15 @@ index : (d : List ℕ) → Numbered (indexFault d)
 unfolding indexFault
 index d = more _ _ _ _ (omega arith) (one _ _ _ (omega arith))
 
-ref : (cs : List Chunk) (earlier : List Ref) (p : ℕ) (r : Ref) → Numbered (refFault plainRules cs earlier p r)
+ref : (R : Rules) (cs : List Chunk) (earlier : List Ref) (p : ℕ) (r : Ref) → Numbered (refFault R cs earlier p r)
 unfolding refFault
-ref cs earlier p r = more _ _ _ _ (omega arith) (more _ _ _ _ (omega arith) (one _ _ _ (omega arith)))
+ref R cs earlier p r = more _ _ _ _ (omega arith) (more _ _ _ _ (omega arith) (one _ _ _ (omega arith)))
 
-entries : (at : ℕ) (cs : List Chunk) (earlier : List Ref) (p : ℕ) (es : List Entry) → Numbered (entriesFault plainRules at cs earlier p es)
+entries : (R : Rules) (at : ℕ) (cs : List Chunk) (earlier : List Ref) (p : ℕ) (es : List Entry) → Numbered (entriesFault R at cs earlier p es)
 unfolding entriesFault
-entries at cs earlier p [] = none
-entries at cs earlier p (e ∷ es) =
-    more _ _ _ _ (omega arith) (more _ _ _ _ (omega arith) (both _ _ (ref cs earlier p (refOf at cs e)) (more _ _ _ _ (omega arith) (entries at cs _ _ es))))
+entries R at cs earlier p [] = none
+entries R at cs earlier p (e ∷ es) =
+    more _ _ _ _ (omega arith) (more _ _ _ _ (omega arith) (both _ _ (ref R cs earlier p (refOf at cs e)) (more _ _ _ _ (omega arith) (entries R at cs _ _ es))))
 
 only : (rs : List Ref) (all : List Chunk) (t n : ℕ) (earlier : List Chunk) (at : ℕ) (c : Chunk) → Numbered (single rs all t n earlier at c)
 unfolding single
@@ -96,16 +96,21 @@ unfolding chunkRules
 rules rs all earlier at [] = none
 rules rs all earlier at (c ∷ cs) = both _ _ (rule rs all earlier at c) (rules rs all _ _ cs)
 
-layout : (cs : List Chunk) → Numbered (layoutFault plainRules cs)
+layout : (profile : ℕ) (cs : List Chunk) → Numbered (layoutFault (rulesOf profile) cs)
 unfolding layoutFault restFault optional
-layout [] = unfold Numbered in omega arith
-layout (c ∷ cs) =
+layout profile [] = unfold Numbered in omega arith
+layout profile (c ∷ cs) =
     more _ _ _ _ (omega arith)
-    (both _ _ (second _ cs) (both _ _ (index (c .body)) (both _ _ (entries _ cs [] 24 _) (rules _ cs [] _ cs))))
+    (both _ _ (second _ cs) (both _ _ (index (c .body)) (both _ _ (entries (rulesOf profile) _ cs [] 24 _) (rules _ cs [] _ cs))))
 
-judged : (f : List ℕ) → Numbered (verdict plainRules f)
+judged : (profile : ℕ) (f : List ℕ) → Numbered (verdict (rulesOf profile) f)
 unfolding verdict
-judged f = both _ _ (head f) (both _ _ (walk _ 12 _) (layout _))
+judged profile f = both _ _ (head f) (both _ _ (walk _ 12 _) (layout profile _))
+
+-- what the reader answers
+answer : (profile : ℕ) (f : List ℕ) → Numbered (profileVerdict profile f)
+unfolding profileVerdict reading
+answer profile f = more _ 52 0 _ (omega arith) (judged profile f)
 
 raised : (v : Verdict) → Numbered (hundred v)
 unfolding Numbered
@@ -118,38 +123,41 @@ target m (add u n t d) = none
 target m (replace u n t d) = more _ _ _ _ (omega arith) (one _ _ _ (omega arith))
 target m (remove u n) = one _ _ _ (omega arith)
 
-called : (s : State) (c : Call) → Numbered (fault plainRules s c)
+called : (profile : ℕ) (s : State) (c : Call) → Numbered (fault (rulesOf profile) s c)
 unfolding fault editFault undoFault
-called s (edit e) =
+called profile s (edit e) =
     let f = take (s .L) (s .buffer) in
-    more _ 20 0 _ (omega arith)
-    (both _ _ (judged f)
-    (both _ _ (target _ e) (both _ _ (raised (verdict plainRules (editedFile f e))) (more _ 24 0 _ (omega arith) (one _ 25 0 (omega arith))))))
-called s undo =
-    more _ 20 0 _ (omega arith)
-    (both _ _ (judged _) (more _ 26 0 _ (omega arith) (more _ 21 0 _ (omega arith) (one _ 24 0 (omega arith)))))
+    more _ 52 0 _ (omega arith)
+    (more _ 20 0 _ (omega arith)
+    (both _ _ (judged profile f)
+    (both _ _ (target _ e) (both _ _ (raised (verdict (rulesOf profile) (editedFile f e))) (more _ 24 0 _ (omega arith) (one _ 25 0 (omega arith)))))))
+called profile s undo =
+    more _ 52 0 _ (omega arith)
+    (more _ 20 0 _ (omega arith)
+    (both _ _ (judged profile _) (more _ 26 0 _ (omega arith) (more _ 21 0 _ (omega arith) (one _ 24 0 (omega arith))))))
 
 zero-accepts : (v : Verdict) → Numbered v → refusalNumber v ≡ 0 → v ≡ accept
 zero-accepts accept h e = refl
 zero-accepts (refuse k p) h e = absurd (omega (arith, positive k p h, e))
 
 -- a call that edits and whose `refusal` is 0 was carried out
-pub zero-done : (s : State) (c : Call) → refusalNumber (fault plainRules s c) ≡ 0 → fault plainRules s c ≡ accept
-zero-done s c e = zero-accepts _ (called s c) e
+pub zero-done : (profile : ℕ) (s : State) (c : Call) → refusalNumber (fault (rulesOf profile) s c) ≡ 0 → fault (rulesOf profile) s c ≡ accept
+zero-done profile s c e = zero-accepts _ (called profile s c) e
 
 -- a file whose `refusal` is 0 is accepted
-pub zero-reads : (f : List ℕ) → readNumbers (readOf f) .refusal ≡ 0 → plainVerdict f ≡ accept
-unfolding readOf plainVerdict
-zero-reads f e = go (verdict plainRules f) (judged f) e
+pub zero-reads : (profile : ℕ) (f : List ℕ) → readNumbers (readOf profile f) .refusal ≡ 0 → profileVerdict profile f ≡ accept
+unfolding readOf
+zero-reads profile f e = go (profileVerdict profile f) (answer profile f) e
   where
     go : (v : Verdict) → Numbered v → readNumbers (readBy v (length f) (length (indexOf f))) .refusal ≡ 0 → v ≡ accept
     go accept h e = refl
     go (refuse k p) h e = absurd (omega (arith, positive k p h, e))
 
 -- an entry whose `refusal` is 0 is one of the index of an accepted file
-pub zero-entry : (f : List ℕ) (i : ℕ) → entryNumbers (askedOf f i) .refusal ≡ 0 → (plainVerdict f ≡ accept) × (i < length (indexOf f))
-unfolding askedOf plainVerdict
-zero-entry f i e = go (verdict plainRules f) (judged f) e
+pub zero-entry : (profile : ℕ) (f : List ℕ) (i : ℕ) → entryNumbers (askedOf profile f i) .refusal ≡ 0
+    → (profileVerdict profile f ≡ accept) × (i < length (indexOf f))
+unfolding askedOf
+zero-entry profile f i e = go (profileVerdict profile f) (answer profile f) e
   where
     below : (b : Bool) (x : Entry) → ltb i (length (indexOf f)) ≡ b → entryNumbers (entryBy b x i) .refusal ≡ 0 → i < length (indexOf f)
     below true x t e = ltb-true i (length (indexOf f)) t
@@ -160,10 +168,10 @@ zero-entry f i e = go (verdict plainRules f) (judged f) e
     go (refuse k p) h e = absurd (omega (arith, positive k p h, e))
 
 -- a lookup whose `refusal` is 0 found an entry of an accepted file
-pub zero-found : (f : List ℕ) (u n : ℕ) → lookupNumbers (lookupOf f u n) .refusal ≡ 0
-    → (plainVerdict f ≡ accept) × ((x : ℕ) × (hitIn u n (indexOf f) ≡ At x))
-unfolding lookupOf plainVerdict
-zero-found f u n e = go (verdict plainRules f) (judged f) e
+pub zero-found : (profile : ℕ) (f : List ℕ) (u n : ℕ) → lookupNumbers (lookupOf profile f u n) .refusal ≡ 0
+    → (profileVerdict profile f ≡ accept) × ((x : ℕ) × (hitIn u n (indexOf f) ≡ At x))
+unfolding lookupOf
+zero-found profile f u n e = go (profileVerdict profile f) (answer profile f) e
   where
     hit : (x : Hit) → hitIn u n (indexOf f) ≡ x → lookupNumbers (foundBy f x) .refusal ≡ 0 → (x : ℕ) × (hitIn u n (indexOf f) ≡ At x)
     hit (At x) t e = (x, t)

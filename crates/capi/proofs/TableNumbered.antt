@@ -21,38 +21,39 @@ use Rattle.capi.specs.TableNumbers.{buildNumbers, checkNumbers, foundNum
 use Rattle.capi.proofs.Numbered.{zero-reads}
 
 -- the reader's refusals are not 0
-not-zero : (f : List ℕ) (k p : ℕ) → readOf f ≡ Refused k p → k ≡ 0 → ⊥
-not-zero f k p r e =
-    let a = accepted-when f (zero-reads f (ap (λ (x : Reading). readNumbers x .refusal) r ∙ e)) in
+not-zero : (profile : ℕ) (f : List ℕ) (k p : ℕ) → readOf profile f ≡ Refused k p → k ≡ 0 → ⊥
+not-zero profile f k p r e =
+    let a = accepted-when profile f (zero-reads profile f (ap (λ (x : Reading). readNumbers x .refusal) r ∙ e)) in
     let z : _≡_ {A = ℕ} 0 1 = cc in
     omega arith
 
 -- a build whose `refusal` is 0 has written the rows
-pub zero-built : (f : List ℕ) (size : ℕ) → buildNumbers (buildOf f size) .refusal ≡ 0 → (n : ℕ) × (buildOf f size ≡ built.Rows n)
+pub zero-built : (profile : ℕ) (f : List ℕ) (size : ℕ) → buildNumbers (buildOf profile f size) .refusal ≡ 0 → (n : ℕ) × (buildOf profile f size ≡ built.Rows n)
 unfolding buildOf
-zero-built f size e = go (readOf f) refl e
+zero-built profile f size e = go (readOf profile f) refl e
   where
     room : (b : Bool) (n : ℕ) → buildNumbers (roomFor b n) .refusal ≡ 0 → (m : ℕ) × (roomFor b n ≡ built.Rows m)
     room true n e = (n, refl)
     room false n e = absurd (omega (arith, e))
 
-    go : (r : Reading) → readOf f ≡ r → buildNumbers (buildBy r size) .refusal ≡ 0 → (n : ℕ) × (buildBy r size ≡ built.Rows n)
+    go : (r : Reading) → readOf profile f ≡ r → buildNumbers (buildBy r size) .refusal ≡ 0 → (n : ℕ) × (buildBy r size ≡ built.Rows n)
     go (Accepted l n) t e = room (leb (3 * n) size) n e
-    go (Refused k p) t e = absurd (not-zero f k p t e)
+    go (Refused k p) t e = absurd (not-zero profile f k p t e)
 
 -- a check whose `refusal` is 0 has accepted the table
-pub zero-checked : (f : List ℕ) (rows : List Entry) (size : ℕ) → checkNumbers (checkOf f rows size) .refusal ≡ 0 → checkOf f rows size ≡ checked.Accepted
+pub zero-checked : (profile : ℕ) (f : List ℕ) (rows : List Entry) (size : ℕ) → checkNumbers (checkOf profile f rows size) .refusal ≡ 0
+    → checkOf profile f rows size ≡ checked.Accepted
 unfolding checkOf
-zero-checked f rows size e = go (readOf f) refl e
+zero-checked profile f rows size e = go (readOf profile f) refl e
   where
     same : (b : Bool) (p : ℕ) → checkNumbers (acceptIf b p) .refusal ≡ 0 → acceptIf b p ≡ checked.Accepted
     same true p e = refl
     same false p e = absurd (omega (arith, e))
 
-    go : (r : Reading) → readOf f ≡ r → checkNumbers (checkBy r rows size (tableOf f)) .refusal ≡ 0 → checkBy r rows size (tableOf f) ≡ checked.Accepted
+    go : (r : Reading) → readOf profile f ≡ r → checkNumbers (checkBy r rows size (tableOf f)) .refusal ≡ 0 → checkBy r rows size (tableOf f) ≡ checked.Accepted
     go (Accepted l n) t e =
         same (eqb size (3 * length (tableOf f)) && eqb (agree rows (tableOf f)) (length (tableOf f))) (agree rows (tableOf f)) e
-    go (Refused k p) t e = absurd (not-zero f k p t e)
+    go (Refused k p) t e = absurd (not-zero profile f k p t e)
 
 -- a search whose `refusal` is 0 has found a row
 pub zero-searched : (rows : List Entry) (u n : ℕ) → searchNumbers (searchOf rows u n) .refusal ≡ 0 → (x : ℕ) × (searchOf rows u n .found ≡ found.At x)

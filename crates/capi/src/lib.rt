@@ -23,6 +23,7 @@ ghost use Rattle.editor.specs.Called.{blankAnswer};
 ghost use Rattle.capi.specs.Numbers.{readNumbers, entryNumbers, lookupNumbers, editNumbers};
 ghost use Rattle.capi.specs.TableNumbers.{buildNumbers, checkNumbers, searchNumbers};
 ghost use Rattle.capi.specs.Answered.{Answered};
+ghost use Rattle.capi.specs.Version.{versionNumber};
 
 // In every answer `refusal` is 0 where the call was carried out; then `place` is 0 too. What a refusal leaves out is 0.
 #[repr(C)]
@@ -80,12 +81,20 @@ pub struct SearchAnswer {
     pub probes: usize,
 }
 
-// The verdict: the length and the entry count of an accepted file.
+// The archive's version: 2.0.0.
 #[no_mangle]
-pub extern "C" fn blorb_read(file: &[u8]) -> ReadAnswer
-    ensures { λ r. ⌜ r ≡ readNumbers (readOf (now (file .entry))) ⌝ }
+pub extern "C" fn blorb_version() -> u32
+    ensures { λ r. ⌜ r ≡ versionNumber 2 0 0 ⌝ }
 {
-    match reader::read(file) {
+    2000000
+}
+
+// The verdict under a profile, 0 plain and 1 ADRIFT: the length and the entry count of an accepted file.
+#[no_mangle]
+pub extern "C" fn blorb_read(file: &[u8], profile: u32) -> ReadAnswer
+    ensures { λ r. ⌜ r ≡ readNumbers (readOf profile (now (file .entry))) ⌝ }
+{
+    match reader::read(file, profile) {
         Reading::Accepted { length, count } => ReadAnswer {
             refusal: 0,
             place: 0,
@@ -103,10 +112,10 @@ pub extern "C" fn blorb_read(file: &[u8]) -> ReadAnswer
 
 // Entry i of the index; its usage as the number in its four bytes.
 #[no_mangle]
-pub extern "C" fn blorb_entry(file: &[u8], i: usize) -> EntryAnswer
-    ensures { λ r. ⌜ r ≡ entryNumbers (askedOf (now (file .entry)) i) ⌝ }
+pub extern "C" fn blorb_entry(file: &[u8], profile: u32, i: usize) -> EntryAnswer
+    ensures { λ r. ⌜ r ≡ entryNumbers (askedOf profile (now (file .entry)) i) ⌝ }
 {
-    match reader::entry(file, i) {
+    match reader::entry(file, profile, i) {
         Asked::Given(e) => {
             let usage = e.usage;
             EntryAnswer {
@@ -129,10 +138,15 @@ pub extern "C" fn blorb_entry(file: &[u8], i: usize) -> EntryAnswer
 
 // The chunk of the entry (usage, number): its type, and where its data is.
 #[no_mangle]
-pub extern "C" fn blorb_lookup(file: &[u8], usage: &[u8; 4], number: u32) -> LookupAnswer
-    ensures { λ r. ⌜ r ≡ lookupNumbers (lookupOf (now (file .entry)) (rd32 (now (usage .entry))) number) ⌝ }
+pub extern "C" fn blorb_lookup(
+    file: &[u8],
+    profile: u32,
+    usage: &[u8; 4],
+    number: u32,
+) -> LookupAnswer
+    ensures { λ r. ⌜ r ≡ lookupNumbers (lookupOf profile (now (file .entry)) (rd32 (now (usage .entry))) number) ⌝ }
 {
-    match reader::lookup(file, *usage, number) {
+    match reader::lookup(file, profile, *usage, number) {
         Looked::Found {
             kind,
             start,
@@ -190,14 +204,25 @@ pub extern "C" fn blorb_add(
     length: usize,
     journal: &mut [u8],
     used: usize,
+    profile: u32,
     usage: &[u8; 4],
     number: u32,
     kind: &[u8; 4],
     data: &[u8],
 ) -> EditAnswer
-    ensures { λ r. ⌜ Answered (state (now (file .entry)) length (now (journal .entry)) used) (edit (add (rd32 (now (usage .entry))) number (rd32 (now (kind .entry))) (now («data» .entry)))) r (now (file .exit)) (now (journal .exit)) ⌝ }
+    ensures { λ r. ⌜ Answered profile (state (now (file .entry)) length (now (journal .entry)) used) (edit (add (rd32 (now (usage .entry))) number (rd32 (now (kind .entry))) (now («data» .entry)))) r (now (file .exit)) (now (journal .exit)) ⌝ }
 {
-    numbers(editor::add(file, length, journal, used, *usage, number, *kind, data))
+    numbers(editor::add(
+        file,
+        length,
+        journal,
+        used,
+        profile,
+        *usage,
+        number,
+        *kind,
+        data,
+    ))
 }
 
 // Gives a resource another type and other data.
@@ -207,14 +232,25 @@ pub extern "C" fn blorb_replace(
     length: usize,
     journal: &mut [u8],
     used: usize,
+    profile: u32,
     usage: &[u8; 4],
     number: u32,
     kind: &[u8; 4],
     data: &[u8],
 ) -> EditAnswer
-    ensures { λ r. ⌜ Answered (state (now (file .entry)) length (now (journal .entry)) used) (edit (replace (rd32 (now (usage .entry))) number (rd32 (now (kind .entry))) (now («data» .entry)))) r (now (file .exit)) (now (journal .exit)) ⌝ }
+    ensures { λ r. ⌜ Answered profile (state (now (file .entry)) length (now (journal .entry)) used) (edit (replace (rd32 (now (usage .entry))) number (rd32 (now (kind .entry))) (now («data» .entry)))) r (now (file .exit)) (now (journal .exit)) ⌝ }
 {
-    numbers(editor::replace(file, length, journal, used, *usage, number, *kind, data))
+    numbers(editor::replace(
+        file,
+        length,
+        journal,
+        used,
+        profile,
+        *usage,
+        number,
+        *kind,
+        data,
+    ))
 }
 
 // Removes a resource, and its chunk unless another entry has it.
@@ -224,12 +260,13 @@ pub extern "C" fn blorb_remove(
     length: usize,
     journal: &mut [u8],
     used: usize,
+    profile: u32,
     usage: &[u8; 4],
     number: u32,
 ) -> EditAnswer
-    ensures { λ r. ⌜ Answered (state (now (file .entry)) length (now (journal .entry)) used) (edit (remove (rd32 (now (usage .entry))) number)) r (now (file .exit)) (now (journal .exit)) ⌝ }
+    ensures { λ r. ⌜ Answered profile (state (now (file .entry)) length (now (journal .entry)) used) (edit (remove (rd32 (now (usage .entry))) number)) r (now (file .exit)) (now (journal .exit)) ⌝ }
 {
-    numbers(editor::remove(file, length, journal, used, *usage, number))
+    numbers(editor::remove(file, length, journal, used, profile, *usage, number))
 }
 
 // Takes the last edit back; the journal is only read.
@@ -239,18 +276,19 @@ pub extern "C" fn blorb_undo(
     length: usize,
     journal: &[u8],
     used: usize,
+    profile: u32,
 ) -> EditAnswer
-    ensures { λ r. ⌜ Answered (state (now (file .entry)) length (now (journal .entry)) used) undo r (now (file .exit)) (now (journal .entry)) ⌝ }
+    ensures { λ r. ⌜ Answered profile (state (now (file .entry)) length (now (journal .entry)) used) undo r (now (file .exit)) (now (journal .entry)) ⌝ }
 {
-    numbers(editor::undo(file, length, journal, used))
+    numbers(editor::undo(file, length, journal, used, profile))
 }
 
 // The file's finding table at the front of the slice.
 #[no_mangle]
-pub extern "C" fn blorb_table_build(file: &[u8], table: &mut [u32]) -> BuildAnswer
-    ensures { λ r. ⌜ (r ≡ buildNumbers (buildOf (now (file .entry)) (length (now (table .entry))))) × (now (table .exit) ≡ written (buildOf (now (file .entry)) (length (now (table .entry)))) (flat (tableOf (now (file .entry)))) (now (table .entry))) ⌝ }
+pub extern "C" fn blorb_table_build(file: &[u8], profile: u32, table: &mut [u32]) -> BuildAnswer
+    ensures { λ r. ⌜ (r ≡ buildNumbers (buildOf profile (now (file .entry)) (length (now (table .entry))))) × (now (table .exit) ≡ written (buildOf profile (now (file .entry)) (length (now (table .entry)))) (flat (tableOf (now (file .entry)))) (now (table .entry))) ⌝ }
 {
-    match table::build(file, table) {
+    match table::build(file, profile, table) {
         Built::Rows(rows) => BuildAnswer {
             refusal: 0,
             place: 0,
@@ -266,10 +304,10 @@ pub extern "C" fn blorb_table_build(file: &[u8], table: &mut [u32]) -> BuildAnsw
 
 // Whether the whole slice is just this file's table.
 #[no_mangle]
-pub extern "C" fn blorb_table_check(file: &[u8], table: &[u32]) -> CheckAnswer
-    ensures { λ r. ⌜ r ≡ checkNumbers (checkOf (now (file .entry)) (rowsOf (now (table .entry))) (length (now (table .entry)))) ⌝ }
+pub extern "C" fn blorb_table_check(file: &[u8], profile: u32, table: &[u32]) -> CheckAnswer
+    ensures { λ r. ⌜ r ≡ checkNumbers (checkOf profile (now (file .entry)) (rowsOf (now (table .entry))) (length (now (table .entry)))) ⌝ }
 {
-    match table::check(file, table) {
+    match table::check(file, profile, table) {
         Checked::Accepted => CheckAnswer {
             refusal: 0,
             place: 0,

@@ -1,10 +1,10 @@
 // Runs the editor on the scenarios that stand packed on standard input, and says what it answers.
 //
-// A packed scenario: nine numbers of four bytes (the lengths of its name, of the file buffer, of the journal, how many
-// bytes of each of the two are packed, L, U, how many bytes its steps have, 1 if both buffers are shown at the end), the
-// name, the packed bytes of the file buffer and of the journal, the steps. Behind its packed bytes a buffer is filled with
-// others, so that every byte that a call shouldn't touch is seen. tests/make_editing_samples.py writes them; what a step
-// is stands in `editing_steps`.
+// A packed scenario: ten numbers of four bytes (the lengths of its name, of the file buffer, of the journal, how many
+// bytes of each of the two are packed, L, U, how many bytes its steps have, 1 if both buffers are shown at the end, the
+// profile of its calls), the name, the packed bytes of the file buffer and of the journal, the steps. Behind its packed bytes
+// a buffer is filled with others, so that every byte that a call shouldn't touch is seen. tests/make_editing_samples.py
+// writes them; what a step is stands in `editing_steps`.
 use editing_steps::lengths;
 use editing_steps::step;
 use libc::STDIN_FILENO;
@@ -44,12 +44,19 @@ fn heading(room: usize, journal: usize, len: usize, used: usize) {
     text(b"\n");
 }
 
-fn steps(s: &[u8], file: &mut [u8], jrn: &mut [u8], first_len: usize, first_used: usize) {
+fn steps(
+    s: &[u8],
+    file: &mut [u8],
+    jrn: &mut [u8],
+    first_len: usize,
+    first_used: usize,
+    profile: u32,
+) {
     let mut at = 0;
     let mut len = first_len;
     let mut used = first_used;
     while at < s.len() {
-        let next = step(s, at, file, jrn, len, used);
+        let next = step(s, at, file, jrn, len, used, profile);
         if next.at <= at {
             text(b"bad packing\n");
             return;
@@ -61,9 +68,17 @@ fn steps(s: &[u8], file: &mut [u8], jrn: &mut [u8], first_len: usize, first_used
 }
 
 // The steps of a scenario, and at the end both buffers if they are to be shown.
-fn play(s: &[u8], file: &mut [u8], jrn: &mut [u8], len: usize, used: usize, shown: bool) {
+fn play(
+    s: &[u8],
+    file: &mut [u8],
+    jrn: &mut [u8],
+    len: usize,
+    used: usize,
+    profile: u32,
+    shown: bool,
+) {
     heading(file.len(), jrn.len(), len, used);
-    steps(s, file, jrn, len, used);
+    steps(s, file, jrn, len, used, profile);
     if shown {
         show(file, jrn);
     }
@@ -81,9 +96,9 @@ fn stage(
     file: &mut [u8],
     jrn: &mut [u8],
 )
-    requires { ⌜ (at + 36 ≤ bytes) × ((bytes ≤ records) × ((records ≤ rest) × ((rest ≤ end) × (end ≤ length (now s))))) ⌝ }
+    requires { ⌜ (at + 40 ≤ bytes) × ((bytes ≤ records) × ((records ≤ rest) × ((rest ≤ end) × (end ≤ length (now s))))) ⌝ }
 {
-    let name = at + 36;
+    let name = at + 40;
     text(&s[name..bytes]);
     fill(file, &s[bytes..records]);
     fill(jrn, &s[records..rest]);
@@ -93,6 +108,7 @@ fn stage(
         jrn,
         field(s, at + 20),
         field(s, at + 24),
+        field(s, at + 36) as u32,
         field(s, at + 32) == 1,
     );
 }
@@ -104,7 +120,7 @@ fn scenario(s: &[u8], at: usize, file: &mut [u8], jrn: &mut [u8]) -> usize {
     }
     let lent = field(s, at + 4);
     let journal = field(s, at + 8);
-    let bytes = at + 36 + field(s, at);
+    let bytes = at + 40 + field(s, at);
     let records = bytes + field(s, at + 12);
     let rest = records + field(s, at + 16);
     let end = rest + field(s, at + 28);

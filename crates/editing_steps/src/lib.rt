@@ -59,6 +59,7 @@ fn add(
     jrn: &mut [u8],
     len: usize,
     used: usize,
+    profile: u32,
 ) -> Answer
     requires { ⌜ at + 17 ≤ length (now s) ⌝ }
 {
@@ -69,6 +70,7 @@ fn add(
         len,
         jrn,
         used,
+        profile,
         four(s, at + 1),
         number,
         four(s, at + 9),
@@ -84,6 +86,7 @@ fn replace(
     jrn: &mut [u8],
     len: usize,
     used: usize,
+    profile: u32,
 ) -> Answer
     requires { ⌜ at + 17 ≤ length (now s) ⌝ }
 {
@@ -94,6 +97,7 @@ fn replace(
         len,
         jrn,
         used,
+        profile,
         four(s, at + 1),
         number,
         four(s, at + 9),
@@ -101,17 +105,25 @@ fn replace(
     )
 }
 
-fn remove(s: &[u8], at: usize, file: &mut [u8], jrn: &mut [u8], len: usize, used: usize) -> Answer
+fn remove(
+    s: &[u8],
+    at: usize,
+    file: &mut [u8],
+    jrn: &mut [u8],
+    len: usize,
+    used: usize,
+    profile: u32,
+) -> Answer
     requires { ⌜ at + 17 ≤ length (now s) ⌝ }
 {
     text(b" remove ");
     let number = field(s, at + 5) as u32;
-    editor::remove(file, len, jrn, used, four(s, at + 1), number)
+    editor::remove(file, len, jrn, used, profile, four(s, at + 1), number)
 }
 
-fn undo(file: &mut [u8], jrn: &[u8], len: usize, used: usize) -> Answer {
+fn undo(file: &mut [u8], jrn: &[u8], len: usize, used: usize, profile: u32) -> Answer {
     text(b" undo ");
-    editor::undo(file, len, jrn, used)
+    editor::undo(file, len, jrn, used, profile)
 }
 
 fn blank(file: &mut [u8]) -> Answer {
@@ -128,13 +140,14 @@ fn edit(
     jrn: &mut [u8],
     len: usize,
     used: usize,
+    profile: u32,
 ) -> Answer
     requires { ⌜ at + 17 ≤ length (now s) ⌝ }
 {
     match s[at] {
-        1 => add(s, at, d, file, jrn, len, used),
-        2 => replace(s, at, d, file, jrn, len, used),
-        _ => remove(s, at, file, jrn, len, used),
+        1 => add(s, at, d, file, jrn, len, used, profile),
+        2 => replace(s, at, d, file, jrn, len, used, profile),
+        _ => remove(s, at, file, jrn, len, used, profile),
     }
 }
 
@@ -147,14 +160,15 @@ fn call(
     jrn: &mut [u8],
     len: usize,
     used: usize,
+    profile: u32,
 ) -> Answer
     requires { ⌜ at + 17 ≤ length (now s) ⌝ }
 {
     match s[at] {
         0 => blank(file),
-        1..=3 => edit(s, at, d, file, jrn, len, used),
+        1..=3 => edit(s, at, d, file, jrn, len, used, profile),
         5 => given(s, at),
-        _ => undo(file, jrn, len, used),
+        _ => undo(file, jrn, len, used, profile),
     }
 }
 
@@ -173,7 +187,15 @@ pub struct Next {
 }
 
 // The step at `at`: says what it answers, and the sums of both buffers after it.
-pub fn step(s: &[u8], at: usize, file: &mut [u8], jrn: &mut [u8], len: usize, used: usize) -> Next {
+pub fn step(
+    s: &[u8],
+    at: usize,
+    file: &mut [u8],
+    jrn: &mut [u8],
+    len: usize,
+    used: usize,
+    profile: u32,
+) -> Next {
     if s.len() < 17 {
         return Next { at: 0, len, used };
     }
@@ -185,7 +207,7 @@ pub fn step(s: &[u8], at: usize, file: &mut [u8], jrn: &mut [u8], len: usize, us
     if s.len() < end {
         return Next { at: 0, len, used };
     }
-    let a = call(s, at, &s[from..end], file, jrn, len, used);
+    let a = call(s, at, &s[from..end], file, jrn, len, used, profile);
     told(a);
     sums(file, jrn);
     Next {

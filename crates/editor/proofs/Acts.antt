@@ -40,9 +40,12 @@ pub data Act : Type 0 where
   by-remove : CallOf 2 remove-kinds.ps remove-kinds.r remove-reads.Learnt → Act
   by-undo : CallOf 2 undo-kinds.ps undo-kinds.r undo-reads.Learnt → Act
 
--- the first four parameters of each function: what it is lent and given
+-- the first four parameters of each function: what it is lent and given; the fifth is the profile
 abbrev pub lent : {X : Type 0} → RefT (List ℕ) × (ℕ × (RefT (List ℕ) × (ℕ × X))) → State
 lent (buf, (len, (jrn, (used, rest)))) = state (now buf) len (now jrn) used
+
+abbrev pub profiled : {X : Type 0} → RefT (List ℕ) × (ℕ × (RefT (List ℕ) × (ℕ × (ℕ × X)))) → ℕ
+profiled (buf, (len, (jrn, (used, (profile, rest))))) = profile
 
 abbrev pub stateOf : Act → State
 stateOf (by-add x) = lent (x .given)
@@ -50,16 +53,22 @@ stateOf (by-replace x) = lent (x .given)
 stateOf (by-remove x) = lent (x .given)
 stateOf (by-undo x) = lent (x .given)
 
+abbrev pub profileOf : Act → ℕ
+profileOf (by-add x) = profiled (x .given)
+profileOf (by-replace x) = profiled (x .given)
+profileOf (by-remove x) = profiled (x .given)
+profileOf (by-undo x) = profiled (x .given)
+
 -- what was asked: usages and types "are given to calls as their four bytes"
 abbrev pub callOf : Act → Call
 callOf (by-add x) =
-    let (buf, (len, (jrn, (used, (usage, (number, (kind, (d, end)))))))) = x .given in
+    let (buf, (len, (jrn, (used, (profile, (usage, (number, (kind, (d, end))))))))) = x .given in
     edit (add (rd32 usage) number (rd32 kind) (now d))
 callOf (by-replace x) =
-    let (buf, (len, (jrn, (used, (usage, (number, (kind, (d, end)))))))) = x .given in
+    let (buf, (len, (jrn, (used, (profile, (usage, (number, (kind, (d, end))))))))) = x .given in
     edit (replace (rd32 usage) number (rd32 kind) (now d))
 callOf (by-remove x) =
-    let (buf, (len, (jrn, (used, (usage, (number, end)))))) = x .given in
+    let (buf, (len, (jrn, (used, (profile, (usage, (number, end))))))) = x .given in
     edit (remove (rd32 usage) number)
 callOf (by-undo x) = undo
 
@@ -78,7 +87,7 @@ turnOf (by-undo x) =
     let (buf, rest) = x .left in
     record { call = callOf (by-undo x); answer = x .answer; buffer = now buf; journal = stateOf (by-undo x) .journal }
 
--- "Every call is lent the same two whole buffers and given the L and U last handed back."
-abbrev pub Follows : State → List Act → Type 0
-Follows s [] = Unit {0}
-Follows s (x ∷ xs) = (stateOf x ≡ s) × Follows (stateAfter (turnOf x)) xs
+-- "Every call is lent the same two whole buffers and given the L and U last handed back." "One known profile for the whole run" (02, P12).
+abbrev pub Follows : (profile : ℕ) → State → List Act → Type 0
+Follows profile s [] = Unit {0}
+Follows profile s (x ∷ xs) = (stateOf x ≡ s) × (profileOf x ≡ profile) × Follows profile (stateAfter (turnOf x)) xs

@@ -9,7 +9,7 @@ use lib.Seq.{length-take-le}
 use lib.Dec.{leb}
 use borrow.Author.Tests.{leb-true}
 use Rattle.blorb.specs.Verdict.{Verdict, accept, _then_, check, verdict}
-use Rattle.blorb.specs.Rules.{plainRules}
+use Rattle.blorb.specs.Rules.{rulesOf}
 use Rattle.blorb.specs.Model.{model, file}
 use Rattle.blorb.specs.Format.{chunkOf}
 use Rattle.edits.specs.Edit.{Edit, add, added, edited, givenChunk}
@@ -31,12 +31,12 @@ use Rattle.reader.specs.Inspecting.{targetOf}
 use Rattle.judging.specs.Outcomes.{verdictOf}
 use Rattle.judging.specs.Told.{Counted}
 use Rattle.rewrite.specs.Rewriting.{Stands}
-use Rattle.editor.specs.Post.{planOf}
+use Rattle.editor.specs.Post.{editRefusal, planOf}
 use Rattle.judging.proofs.OpenLaws.{asked, asked-refused, asked-whole}
 use Rattle.edits.proofs.Lengths.{size-given}
-use Rattle.editor.proofs.CallLaws.{plan-go, hundred-fine, open-stands, stands-counted, edit-unopened, edit-told}
+use Rattle.editor.proofs.CallLaws.{plan-go, hundred-fine, open-stands, opened-fine, stands-counted, edit-unopened, edit-told}
 
-module _ (b : List ℕ) (l J U u n t : ℕ) (d : List ℕ) (bytes : All Byte (take l b)) where
+module _ (profile : ℕ) (b : List ℕ) (l J U u n t : ℕ) (d : List ℕ) (bytes : All Byte (take l b)) where
   abbrev pub f : List ℕ
   f = take l b
 
@@ -47,10 +47,10 @@ module _ (b : List ℕ) (l J U u n t : ℕ) (d : List ℕ) (bytes : All Byte (ta
   K = length (model f .refs)
 
   abbrev pub Vd : Verdict
-  Vd = editFault plainRules (length b) J f l U E
+  Vd = editRefusal profile (length b) J f l U E
 
   abbrev pub O : Verdict
-  O = check (leb l (length b) && leb U J) 20 0 then verdict plainRules f
+  O = check (leb profile 1) 52 0 then (check (leb l (length b) && leb U J) 20 0 then verdict (rulesOf profile) f)
 
   on-target : targetFault (model f) E ≡ accept
   unfolding targetFault
@@ -63,32 +63,32 @@ module _ (b : List ℕ) (l J U u n t : ℕ) (d : List ℕ) (bytes : All Byte (ta
   pub add-length : O ≡ accept → length (editedFile f E) ≡ l + (20 + (length d + length d % 2))
   unfolding editedFile edited
   add-length h =
-      let st = open-stands b l U J K bytes h refl in
+      let st = open-stands profile b l U J K bytes h refl in
       let lf : length (file (model f)) ≡ l = ap length (st .0 .whole) ∙ length-take-le l b (st .0 .inside) in
       length-added (model f) u n (givenChunk t d) ∙ omega (arith, size-given t d)
 
-  pub plan-unopened : (x k p : ℕ) → asked b l J U u n x ≡ Refused k p → No k p ≡ planOf Vd K
-  plan-unopened x k p e = ap (λ (v : Verdict). planOf v K) (sym (edit-unopened (length b) J f l U E k p (asked-refused b l J U u n x k p e)))
+  pub plan-unopened : (x k p : ℕ) → asked profile b l J U u n x ≡ Refused k p → No k p ≡ planOf Vd K
+  plan-unopened x k p e = ap (λ (v : Verdict). planOf v K) (sym (edit-unopened profile (length b) J f l U E k p (asked-refused profile b l J U u n x k p e)))
 
-  module _ (x : ℕ) (fs : Facts) (op : asked b l J U u n x ≡ Whole fs) where
+  module _ (x : ℕ) (fs : Facts) (op : asked profile b l J U u n x ≡ Whole fs) where
     ok : O ≡ accept
-    ok = asked-whole b l J U u n x fs op .0
+    ok = asked-whole profile b l J U u n x fs op .0
 
     count-is : fs .count ≡ K
-    count-is = ap (λ (z : Facts). z .count) (asked-whole b l J U u n x fs op .1)
+    count-is = ap (λ (z : Facts). z .count) (asked-whole profile b l J U u n x fs op .1)
 
     pub told-stands : Stands b l (fs .count) × (U ≤ J)
-    told-stands = open-stands b l U J (fs .count) bytes ok count-is
+    told-stands = open-stands profile b l U J (fs .count) bytes ok count-is
 
     -- what add_fault asks
-    pub told-pair : (verdict plainRules f ≡ accept) × (Counted f (fs .count) × (fs .target ≡ targetOf (model f) u n))
-    told-pair = (then-accept _ _ ok .1, (stands-counted b l (fs .count) (told-stands .0), ap (λ (z : Facts). z .target) (asked-whole b l J U u n x fs op .1)))
+    pub told-pair : (verdict (rulesOf profile) f ≡ accept) × (Counted f (fs .count) × (fs .target ≡ targetOf (model f) u n))
+    told-pair = (opened-fine profile (length b) J f l U E ok, (stands-counted b l (fs .count) (told-stands .0), ap (λ (z : Facts). z .target) (asked-whole profile b l J U u n x fs op .1)))
 
-    module _ (j r : Outcome) (judged : verdictOf j ≡ hundred (verdict plainRules (file (added (model f) u n (chunkOf t d)))))
+    module _ (j r : Outcome) (judged : verdictOf j ≡ hundred (verdict (rulesOf profile) (file (added (model f) u n (chunkOf t d)))))
         (e : verdictOf r ≡ verdictOf j then (check (leb (l + (20 + (length d + length d % 2))) (length b)) 24 0 then check (leb 29 (J - U)) 25 0)) where
       told : Vd ≡ verdictOf r
       unfolding editedFile edited givenChunk
-      told = edit-told (length b) J f l U E j r _ _ ok on-target (told-stands .1) judged (sym (add-length ok)) (sym record-29) e
+      told = edit-told profile (length b) J f l U E j r _ _ ok on-target (told-stands .1) judged (sym (add-length ok)) (sym record-29) e
 
       pub plan-refused : (k p : ℕ) → r ≡ outcome.Refused k p → No k p ≡ planOf Vd K
       plan-refused k p q = ap (λ (v : Verdict). planOf v K) (sym (told ∙ ap verdictOf q))
@@ -110,18 +110,19 @@ module _ (b : List ℕ) (l J U u n t : ℕ) (d : List ℕ) (bytes : All Byte (ta
   unfolding editFault
   ready k e =
       let q = plan-go Vd K k e in
-      let h1 = then-accept _ _ (q .0) in
+      let h0 = then-accept _ _ (q .0) in
+      let h1 = then-accept _ _ (h0 .1) in
       let h2 = then-accept _ _ (h1 .1) in
       let h3 = then-accept _ _ (h2 .1) in
       let h4 = then-accept _ _ (h3 .1) in
       let h5 = then-accept _ _ (h4 .1) in
-      let o : O ≡ accept = accepts _ _ (h1 .0) ∙ h2 .0 in
+      let o : O ≡ accept = accepts _ _ (h0 .0) ∙ accepts _ _ (h1 .0) ∙ h2 .0 in
       let room : length (editedFile f E) ≤ length b = leb-true _ _ (check-accept _ _ _ (h5 .0)) in
       let jr : U + length (editRecord f E) ≤ J = leb-true _ _ (check-accept _ _ _ (h5 .1)) in
-      let sh = accept-short plainRules (editedFile f E) (hundred-fine _ (h4 .0)) in
+      let sh = accept-short (rulesOf profile) (editedFile f E) (hundred-fine _ (h4 .0)) in
       let len = add-length o in
       let r29 = record-29 in
-      record { stands = open-stands b l U J k bytes o (q .1) .0; room = omega arith; short = omega arith; journal-room = omega arith; fine = q .0; new-length = sym len; new-record = sym r29 }
+      record { stands = open-stands profile b l U J k bytes o (q .1) .0; room = omega arith; short = omega arith; journal-room = omega arith; fine = q .0; new-length = sym len; new-record = sym r29 }
 
   pub record-written : (j : List ℕ) (k : ℕ) → k ≡ K → noted j U (recBytes (recordOf 1 (record { usage = u; number = n; start = 0 }) k 0 [])) ≡ noted j U (editRecord f E)
   unfolding recordOf editRecord recOf

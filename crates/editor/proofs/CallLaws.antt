@@ -9,7 +9,7 @@ use lib.Seq.{length-take-le}
 use lib.Dec.{leb}
 use borrow.Author.Tests.{le-leb, lt-leb, leb-true, leb-false}
 use Rattle.blorb.specs.Verdict.{Verdict, accept, refuse, _then_, check, verdict}
-use Rattle.blorb.specs.Rules.{plainRules}
+use Rattle.blorb.specs.Rules.{rulesOf}
 use Rattle.blorb.specs.Model.{model, file}
 use Rattle.edits.specs.Edit.{Edit}
 use Rattle.blorb.specs.All.{All}
@@ -26,7 +26,7 @@ use Rattle.judging.specs.Outcomes.{verdictOf}
 use Rattle.judging.specs.Told.{Counted}
 use Rattle.rewrite.specs.Rewriting.{Stands}
 use Rattle.editor.specs.Called.{Called, blankAnswer}
-use Rattle.editor.specs.Post.{refusedWith, doneWith, planOf}
+use Rattle.editor.specs.Post.{refusedWith, doneWith, editRefusal, planOf}
 use Rattle.blorb.proofs.Parts.{file-length}
 
 and-parts : (a b : Bool) → a && b ≡ true → (a ≡ true) × (b ≡ true)
@@ -45,14 +45,15 @@ pub hundred-fine : (v : Verdict) → hundred v ≡ accept → v ≡ accept
 hundred-fine accept h = refl
 hundred-fine (refuse k p) h = cc
 
--- what is known once 20 and the reader's refusals are past
-pub open-stands : (b : List ℕ) (l u J k : ℕ) → All Byte (take l b) → check (leb l (length b) && leb u J) 20 0 then verdict plainRules (take l b) ≡ accept → k ≡ length (model (take l b) .refs)
-    → Stands b l k × (u ≤ J)
-open-stands b l u J k bytes h e =
-    let a = then-accept _ _ h in
+-- what is known once 52, 20 and the reader's refusals are past
+pub open-stands : (profile : ℕ) (b : List ℕ) (l u J k : ℕ) → All Byte (take l b)
+    → check (leb profile 1) 52 0 then (check (leb l (length b) && leb u J) 20 0 then verdict (rulesOf profile) (take l b)) ≡ accept
+    → k ≡ length (model (take l b) .refs) → Stands b l k × (u ≤ J)
+open-stands profile b l u J k bytes h e =
+    let a = then-accept _ _ (then-accept _ _ h .1) in
     let p = and-parts _ _ (check-accept _ _ _ (a .0)) in
     let inside : l ≤ length b = leb-true _ _ (p .0) in
-    let g = accept-back plainRules (take l b) bytes (a .1) in
+    let g = accept-back (rulesOf profile) (take l b) bytes (a .1) in
     let len : length (take l b) ≡ l = length-take-le l b inside in
     let fl : length (file (model (take l b))) ≡ length (take l b) = ap length (g .0) in
     (record { inside = inside; whole = g .0; sound = g .1; entries = e; index = omega (arith, file-length (model (take l b))); short = omega (arith, g .2) }, leb-true _ _ (p .1))
@@ -76,25 +77,40 @@ left-room u y J h = go (leb y (J - u)) refl
     go false e = lt-leb (u + y) J (omega (arith, leb-false y (J - u) e))
 
 -- an edit's refusals in their order
-module _ (N J : ℕ) (f : List ℕ) (L U : ℕ) (e : Edit) where
+module _ (profile N J : ℕ) (f : List ℕ) (L U : ℕ) (e : Edit) where
   abbrev pub opening : Verdict
-  opening = check (leb L N && leb U J) 20 0 then verdict plainRules f
+  opening = check (leb profile 1) 52 0 then (check (leb L N && leb U J) 20 0 then verdict (rulesOf profile) f)
 
-  edit-split : editFault plainRules N J f L U e ≡ opening then (targetFault (model f) e then (hundred (verdict plainRules (editedFile f e)) then (check (leb (length (editedFile f e)) N) 24 0 then check (leb (U + length (editRecord f e)) J) 25 0)))
+  -- the file is accepted under the profile
+  pub opened-fine : opening ≡ accept → verdict (rulesOf profile) f ≡ accept
+  opened-fine h = then-accept _ _ (then-accept _ _ h .1) .1
+
+  abbrev behind : Verdict
+  behind =
+      targetFault (model f) e
+      then hundred (verdict (rulesOf profile) (editedFile f e))
+      then check (leb (length (editedFile f e)) N) 24 0
+      then check (leb (U + length (editRecord f e)) J) 25 0
+
+  edit-split : editRefusal profile N J f L U e ≡ opening then behind
   unfolding editFault
-  edit-split = sym (then-assoc _ _ _)
+  edit-split =
+      let known : Verdict = check (leb profile 1) 52 0 in
+      let lengths : Verdict = check (leb L N && leb U J) 20 0 in
+      let v : Verdict = verdict (rulesOf profile) f in
+      sym (then-assoc known (lengths then v) behind ∙ ap (λ (z : Verdict). known then z) (then-assoc lengths v behind))
 
-  pub edit-unopened : (n p : ℕ) → opening ≡ refuse n p → editFault plainRules N J f L U e ≡ refuse n p
-  edit-unopened n p h = edit-split ∙ ap (λ (v : Verdict). v then (targetFault (model f) e then (hundred (verdict plainRules (editedFile f e)) then (check (leb (length (editedFile f e)) N) 24 0 then check (leb (U + length (editRecord f e)) J) 25 0)))) h ∙ (unfold _then_ in refl)
+  pub edit-unopened : (n p : ℕ) → opening ≡ refuse n p → editRefusal profile N J f L U e ≡ refuse n p
+  edit-unopened n p h = edit-split ∙ ap (λ (v : Verdict). v then behind) h ∙ (unfold _then_ in refl)
 
-  pub edit-off-target : (n p : ℕ) → opening ≡ accept → targetFault (model f) e ≡ refuse n p → editFault plainRules N J f L U e ≡ refuse n p
-  edit-off-target n p h t = edit-split ∙ accepts _ _ h ∙ ap (λ (v : Verdict). v then (hundred (verdict plainRules (editedFile f e)) then (check (leb (length (editedFile f e)) N) 24 0 then check (leb (U + length (editRecord f e)) J) 25 0))) t ∙ (unfold _then_ in refl)
+  pub edit-off-target : (n p : ℕ) → opening ≡ accept → targetFault (model f) e ≡ refuse n p → editRefusal profile N J f L U e ≡ refuse n p
+  edit-off-target n p h t = edit-split ∙ accepts _ _ h ∙ ap (λ (v : Verdict). v then (hundred (verdict (rulesOf profile) (editedFile f e)) then (check (leb (length (editedFile f e)) N) 24 0 then check (leb (U + length (editRecord f e)) J) 25 0))) t ∙ (unfold _then_ in refl)
 
   -- 100 + k, 24 and 25, as the code finds them: j is what was judged, x and y the new file's and the record's length
   pub edit-told : (j r : Outcome) (x y : ℕ) → opening ≡ accept → targetFault (model f) e ≡ accept → U ≤ J
-      → verdictOf j ≡ hundred (verdict plainRules (editedFile f e)) → x ≡ length (editedFile f e) → y ≡ length (editRecord f e)
+      → verdictOf j ≡ hundred (verdict (rulesOf profile) (editedFile f e)) → x ≡ length (editedFile f e) → y ≡ length (editRecord f e)
       → verdictOf r ≡ verdictOf j then (check (leb x N) 24 0 then check (leb y (J - U)) 25 0)
-      → editFault plainRules N J f L U e ≡ verdictOf r
+      → editRefusal profile N J f L U e ≡ verdictOf r
   edit-told j r x y h t le ej ex ey er =
       edit-split ∙ accepts _ _ h ∙ accepts _ _ t
       ∙ (λ i. sym ej i then (check (leb (sym ex i) N) 24 0 then check (left-room U (length (editRecord f e)) J le i) 25 0))
@@ -102,29 +118,29 @@ module _ (N J : ℕ) (f : List ℕ) (L U : ℕ) (e : Edit) where
       ∙ sym er
 
 -- a call's promise
-pub called-refused : (s : State) (c : Call) (n p : ℕ) → fault plainRules s c ≡ refuse n p
-    → Called s c (refusedWith n p (s .L) (s .U)) (s .buffer) (s .journal)
-called-refused s c n p h =
-    let e : step plainRules s c ≡ s = (unfold step in ap (λ (v : Verdict). answered v s (after s c)) h) in
+pub called-refused : (profile : ℕ) (s : State) (c : Call) (n p : ℕ) → fault (rulesOf profile) s c ≡ refuse n p
+    → Called profile s c (refusedWith n p (s .L) (s .U)) (s .buffer) (s .journal)
+called-refused profile s c n p h =
+    let e : step (rulesOf profile) s c ≡ s = (unfold step in ap (λ (v : Verdict). answered v s (after s c)) h) in
     record { outcome = sym h; len = ap (λ (z : State). z .L) (sym e); used = ap (λ (z : State). z .U) (sym e); file = ap (λ (z : State). z .buffer) (sym e); journal = ap (λ (z : State). z .journal) (sym e) }
 
-pub called-done : (s : State) (c : Call) (l u : ℕ) (b j : List ℕ) → fault plainRules s c ≡ accept
+pub called-done : (profile : ℕ) (s : State) (c : Call) (l u : ℕ) (b j : List ℕ) → fault (rulesOf profile) s c ≡ accept
     → l ≡ after s c .L → u ≡ after s c .U → b ≡ after s c .buffer → j ≡ after s c .journal
-    → Called s c (doneWith l u) b j
-called-done s c l u b j h el eu eb ej =
-    let e : step plainRules s c ≡ after s c = (unfold step in ap (λ (v : Verdict). answered v s (after s c)) h) in
+    → Called profile s c (doneWith l u) b j
+called-done profile s c l u b j h el eu eb ej =
+    let e : step (rulesOf profile) s c ≡ after s c = (unfold step in ap (λ (v : Verdict). answered v s (after s c)) h) in
     record { outcome = sym h; len = el ∙ ap (λ (z : State). z .L) (sym e); used = eu ∙ ap (λ (z : State). z .U) (sym e); file = eb ∙ ap (λ (z : State). z .buffer) (sym e); journal = ej ∙ ap (λ (z : State). z .journal) (sym e) }
 
-pub called-as : (s : State) (c c′ : Call) (r : Answer) (b j : List ℕ) → c ≡ c′ → Called s c r b j → Called s c′ r b j
-called-as s c c′ r b j e h = subst (λ (z : Call). Called s z r b j) e h
+pub called-as : (profile : ℕ) (s : State) (c c′ : Call) (r : Answer) (b j : List ℕ) → c ≡ c′ → Called profile s c r b j → Called profile s c′ r b j
+called-as profile s c c′ r b j e h = subst (λ (z : Call). Called profile s z r b j) e h
 
 -- the same of an answer that a function gave
-pub gave-refused : (s : State) (c : Call) (r : Answer) (n p : ℕ) → r ≡ refusedWith n p (s .L) (s .U) → fault plainRules s c ≡ refuse n p → Called s c r (s .buffer) (s .journal)
-gave-refused s c r n p e h = subst (λ (z : Answer). Called s c z (s .buffer) (s .journal)) (sym e) (called-refused s c n p h)
+pub gave-refused : (profile : ℕ) (s : State) (c : Call) (r : Answer) (n p : ℕ) → r ≡ refusedWith n p (s .L) (s .U) → fault (rulesOf profile) s c ≡ refuse n p → Called profile s c r (s .buffer) (s .journal)
+gave-refused profile s c r n p e h = subst (λ (z : Answer). Called profile s c z (s .buffer) (s .journal)) (sym e) (called-refused profile s c n p h)
 
-pub gave-done : (s : State) (c : Call) (r : Answer) (l u : ℕ) (b j : List ℕ) → r ≡ doneWith l u → fault plainRules s c ≡ accept
-    → l ≡ after s c .L → u ≡ after s c .U → b ≡ after s c .buffer → j ≡ after s c .journal → Called s c r b j
-gave-done s c r l u b j e h el eu eb ej = subst (λ (z : Answer). Called s c z b j) (sym e) (called-done s c l u b j h el eu eb ej)
+pub gave-done : (profile : ℕ) (s : State) (c : Call) (r : Answer) (l u : ℕ) (b j : List ℕ) → r ≡ doneWith l u → fault (rulesOf profile) s c ≡ accept
+    → l ≡ after s c .L → u ≡ after s c .U → b ≡ after s c .buffer → j ≡ after s c .journal → Called profile s c r b j
+gave-done profile s c r l u b j e h el eu eb ej = subst (λ (z : Answer). Called profile s c z b j) (sym e) (called-done profile s c l u b j h el eu eb ej)
 
 -- blank's two answers
 pub blank-refused : (N : ℕ) → N < 24 → refusedWith 24 0 0 0 ≡ blankAnswer (leb 24 N)

@@ -1,5 +1,5 @@
 -- Demand 3, of the code: "For every list of edits and undos from an accepted file and an empty journal, refused calls included, the state and
--- every answer are the ledger's." Read Acts for what a run of the code is, edits/specs/Demand3 for where one begins, specs/Runs for `AsLedger`
+-- every answer are the ledger's", with "one known profile for the whole run, its starting file accepted under it" (02, P12). Read Acts for what a run of the code is, edits/specs/Demand3 for where one begins, specs/Runs for `AsLedger`
 -- and edits/specs/Run for the ledger. It holds since the contract of each function is `Called`, and Runs has demand 3 for whatever is `Called`.
 use mathlib.Core.Path.{_≡_, subst}
 use Prim.Native.Nat.{ℕ, _<_}
@@ -12,7 +12,7 @@ use denote.Plain.{UInt}
 use denote.Array.{Array, each}
 use Rattle.blorb.specs.All.{All}
 use Rattle.blorb.specs.Bytes.{rd32, Byte}
-use Rattle.blorb.specs.Rules.{plainRules}
+use Rattle.blorb.specs.Rules.{rulesOf}
 use Rattle.blorb.proofs.Accept.{rd32-small}
 use Rattle.edits.specs.Run.{State, CallOk}
 use Rattle.edits.specs.Demand3.{Begins}
@@ -20,13 +20,13 @@ use Rattle.editor.specs.Called.{Called}
 use Rattle.editor.specs.Runs as runs
 use Rattle.editor.specs.Runs.{Turn, stateAfter, Ran, AsLedger}
 use Rattle.editor.proofs.Runs.{runs-as-ledger}
-use Rattle.editor.proofs.Acts.{Act, by-add, by-replace, by-remove, by-undo, stateOf, turnOf, Follows}
+use Rattle.editor.proofs.Acts.{Act, by-add, by-replace, by-remove, by-undo, stateOf, profileOf, turnOf, Follows}
 
 -- each function's contract is `Called`
-abbrev Kept : State → Turn → Type 0
-Kept s t = Called s (t .call) (t .answer) (t .buffer) (t .journal)
+abbrev pub Kept : (profile : ℕ) → State → Turn → Type 0
+Kept profile s t = Called profile s (t .call) (t .answer) (t .buffer) (t .journal)
 
-called : (x : Act) → Kept (stateOf x) (turnOf x)
+pub called : (x : Act) → Kept (profileOf x) (stateOf x) (turnOf x)
 called (by-add x) = x .told
 called (by-replace x) = x .told
 called (by-remove x) = x .told
@@ -42,20 +42,23 @@ four : (xs : List ℕ) (vs : List Val) → Is (Array (UInt w8) 4) xs vs → rd32
 four xs vs h = rd32-small xs (elements xs (h .0) (h .1 .1))
 
 bounded : (x : Act) → CallOk (turnOf x .call)
-bounded (by-add x) = let (b, (l, (j, (u, (usage, (number, (kind, rest))))))) = x .typed in (four _ _ usage, number .1, four _ _ kind)
-bounded (by-replace x) = let (b, (l, (j, (u, (usage, (number, (kind, rest))))))) = x .typed in (four _ _ usage, number .1, four _ _ kind)
-bounded (by-remove x) = let (b, (l, (j, (u, (usage, (number, rest)))))) = x .typed in (four _ _ usage, number .1)
+bounded (by-add x) = let (b, (l, (j, (u, (p, (usage, (number, (kind, rest)))))))) = x .typed in (four _ _ usage, number .1, four _ _ kind)
+bounded (by-replace x) = let (b, (l, (j, (u, (p, (usage, (number, (kind, rest)))))))) = x .typed in (four _ _ usage, number .1, four _ _ kind)
+bounded (by-remove x) = let (b, (l, (j, (u, (p, (usage, (number, rest))))))) = x .typed in (four _ _ usage, number .1)
 bounded (by-undo x) = tt
 
 all-bounded : (xs : List Act) → All CallOk (map runs.callOf (map turnOf xs))
 all-bounded [] = tt
 all-bounded (x ∷ xs) = (bounded x, all-bounded xs)
 
-ran : (s : State) (xs : List Act) → Follows s xs → Ran s (map turnOf xs)
-ran s [] h = tt
-ran s (x ∷ xs) h = (subst (λ (z : State). Kept z (turnOf x)) (h .0) (called x), ran (stateAfter (turnOf x)) xs (h .1))
+ran : (profile : ℕ) (s : State) (xs : List Act) → Follows profile s xs → Ran profile s (map turnOf xs)
+ran profile s [] h = tt
+ran profile s (x ∷ xs) h = (
+  subst (λ (z : State). Kept profile z (turnOf x)) (h .0) (subst (λ (p : ℕ). Kept p (stateOf x) (turnOf x)) (h .1) (called x)),
+  ran profile (stateAfter (turnOf x)) xs (h .2),
+)
 
 -- "After every run L and U are the ledger's, the first L bytes of the file buffer are its file, that file is accepted, and the first U bytes of
 -- the journal are the records of its list's edits, in order. Each call answered as the ledger did."
-pub code-as-ledger : (s : State) (xs : List Act) → Begins plainRules s → Follows s xs → AsLedger s (map turnOf xs)
-code-as-ledger s xs b f = runs-as-ledger s (map turnOf xs) b (all-bounded xs) (ran s xs f)
+pub code-as-ledger : (profile : ℕ) (s : State) (xs : List Act) → Begins (rulesOf profile) s → Follows profile s xs → AsLedger profile s (map turnOf xs)
+code-as-ledger profile s xs b f = runs-as-ledger profile s (map turnOf xs) b (all-bounded xs) (ran profile s xs f)

@@ -1,5 +1,5 @@
--- A run that meets the hypotheses of demand 3: a blank file in a buffer of 50 bytes, a journal of 60. An add succeeds, a second finds no room (24),
--- an undo takes the first back, and another finds nothing to undo (26). All of it computes.
+-- A run that meets the hypotheses of demand 3, under ADRIFT: a blank file in a buffer of 50 bytes, a journal of 60. An add of a 'GIF ' picture
+-- succeeds, a second add finds no room (24), an undo takes the first back, and another finds nothing to undo (26). All of it computes.
 use mathlib.Core.Path.{_≡_, refl}
 use Prim.Native.Nat.{ℕ, _<_, _*_}
 use mathlib.Core.Bool.{Bool, true, _&&_}
@@ -17,12 +17,12 @@ use denote.Array.{each}
 use Rattle.blorb.specs.All.{All}
 use Rattle.blorb.proofs.Checks.{and-both}
 use Rattle.blorb.specs.Bytes.{be32, rd32, Byte}
-use Rattle.blorb.specs.Tags.{Data, Pict, Rect, TEXT}
+use Rattle.blorb.specs.Tags.{Pict, Rect, GIF}
 use Rattle.blorb.specs.Format.{sized, size, chunkBytes, chunksBytes, total, fileBytes, chunkIn, chunksIn, chunksOf, entryIn, entriesIn}
 use Rattle.blorb.specs.Format.{entryBytes, entriesBytes, indexChunk, entriesOf, isStart, placeOf, refOf}
 use Rattle.blorb.specs.Verdict.{_then_, check, headFault, chunkFault, walkFault, secondIndex, indexFault, pairIn, lastPlace, refFault, entriesFault}
 use Rattle.blorb.specs.Verdict.{restFault, layoutFault, verdict}
-use Rattle.blorb.specs.Rules.{oneOf, plainAllows, picture, typeIn, single, chunkRule, chunkRules, optional, plainVerdict, plainRules}
+use Rattle.blorb.specs.Rules.{oneOf, plainAllows, adriftAllows, allows, picture, typeIn, single, chunkRule, chunkRules, optional, rulesOf}
 use Rattle.blorb.specs.Model.{base, startOf, entryOf, file, modelOf, model}
 use Rattle.blorb.specs.Queries.{without, find, uses, shared, start, frontPlace}
 use Rattle.edits.specs.Edit.{add, with-at, lower, raise, added, givenChunk, edited}
@@ -63,18 +63,18 @@ Four xs = All Byte xs × (length xs ≡ 4)
 
 -- a call c in state s with the answer r, which leaves what c does there
 abbrev Gives : State → Call → Answer → Type 0
-Gives s c r = Called s c r (step plainRules s c .buffer) (step plainRules s c .journal)
+Gives s c r = Called 1 s c r (step (rulesOf 1) s c .buffer) (step (rulesOf 1) s c .journal)
 
 module _ (s : State) (small : Small s) where
   abbrev adding : (usage : List ℕ) (n : ℕ) (kind d : List ℕ) → Four usage → n < 1000 → Four kind → length d < 1000
       → (r : Answer) → Gives s (edit (add (rd32 usage) n (rd32 kind) d)) r → Act
   adding usage n kind d u l k m r told =
-      let t : State = step plainRules s (edit (add (rd32 usage) n (rd32 kind) d)) in
+      let t : State = step (rulesOf 1) s (edit (add (rd32 usage) n (rd32 kind) d)) in
       by-add (record {
         lifetimes = ([], ([], ([], tt)));
-        given = (slice (s .buffer), (s .L, (slice (s .journal), (s .U, (usage, (n, (kind, (slice d, tt))))))));
+        given = (slice (s .buffer), (s .L, (slice (s .journal), (s .U, (1, (usage, (n, (kind, (slice d, tt)))))))));
         answer = r;
-        left = (slice (t .buffer), (s .L, (slice (t .journal), (s .U, (usage, (n, (kind, (slice d, tt))))))));
+        left = (slice (t .buffer), (s .L, (slice (t .journal), (s .U, (1, (usage, (n, (kind, (slice d, tt)))))))));
         typed = (
           room _ (small .buffer),
           (
@@ -84,14 +84,17 @@ module _ (s : State) (small : Small s) where
               (
                 (refl, omega (arith, small .U)),
                 (
-                  (map (vint w8) usage, ((refl, u .1), elements usage (u .0))),
+                  (refl, lit< tt),
                   (
-                    (refl, omega arith),
+                    (map (vint w8) usage, ((refl, u .1), elements usage (u .0))),
                     (
-                      (map (vint w8) kind, ((refl, k .1), elements kind (k .0))),
+                      (refl, omega arith),
                       (
-                        room _ m,
-                        tt,
+                        (map (vint w8) kind, ((refl, k .1), elements kind (k .0))),
+                        (
+                          room _ m,
+                          tt,
+                        ),
                       ),
                     ),
                   ),
@@ -103,14 +106,15 @@ module _ (s : State) (small : Small s) where
         told = told;
       })
 
-  abbrev undoing : (r : Answer) → Called s undo r (step plainRules s undo .buffer) (s .journal) → Act
+  abbrev undoing : (r : Answer) → Called 1 s undo r (step (rulesOf 1) s undo .buffer) (s .journal) → Act
   undoing r told =
       by-undo (record {
         lifetimes = ([], ([], tt));
-        given = (slice (s .buffer), (s .L, (slice (s .journal), (s .U, tt))));
+        given = (slice (s .buffer), (s .L, (slice (s .journal), (s .U, (1, tt)))));
         answer = r;
-        left = (slice (step plainRules s undo .buffer), (s .L, (slice (s .journal), (s .U, tt))));
-        typed = (room _ (small .buffer), ((refl, omega (arith, small .L)), (room _ (small .journal), ((refl, omega (arith, small .U)), tt))));
+        left = (slice (step (rulesOf 1) s undo .buffer), (s .L, (slice (s .journal), (s .U, (1, tt)))));
+        typed =
+            (room _ (small .buffer), ((refl, omega (arith, small .L)), (room _ (small .journal), ((refl, omega (arith, small .U)), ((refl, lit< tt), tt)))));
         told = told;
       })
 
@@ -124,7 +128,7 @@ unfolding entriesOf isStart placeOf refOf _then_ check headFault chunkFault walk
 verdicts = 0
 
 rules : ℕ
-unfolding layoutFault verdict oneOf plainAllows picture typeIn single chunkRule chunkRules optional plainVerdict base startOf entryOf file modelOf model
+unfolding layoutFault verdict oneOf plainAllows adriftAllows allows picture typeIn single chunkRule chunkRules optional base startOf entryOf file modelOf model
 rules = 0
 
 edits : ℕ
@@ -139,12 +143,12 @@ states : ℕ
 unfolding written noted afterEdit afterUndo after fault step
 states = 0
 
--- 01's add of Data 7 'TEXT' "eel", and one of a rectangle, for which there is no room
+-- an add of Pict 7 'GIF ' "eel", and one of a rectangle, for which there is no room
 abbrev eel : List ℕ
 eel = 101 ∷ (101 ∷ (108 ∷ []))
 
 abbrev add-eel : Call
-add-eel = edit (add (rd32 (be32 Data)) 7 (rd32 (be32 TEXT)) eel)
+add-eel = edit (add (rd32 (be32 Pict)) 7 (rd32 (be32 GIF)) eel)
 
 abbrev add-rect : Call
 add-rect = edit (add (rd32 (be32 Pict)) 1 (rd32 (be32 Rect)) (replicate 8 0))
@@ -161,10 +165,10 @@ abbrev begin : State
 begin = state (blankFile ++ replicate 26 9) 24 (replicate 60 7) 0
 
 abbrev with-eel : State
-with-eel = step plainRules begin add-eel
+with-eel = step (rulesOf 1) begin add-eel
 
 abbrev again : State
-again = step plainRules with-eel undo
+again = step (rulesOf 1) with-eel undo
 
 small : Small begin
 unfolding format edits
@@ -187,11 +191,11 @@ no-room : Gives with-eel add-rect (refused 24 48 29)
 unfolding format verdicts rules edits calls states
 no-room = record { outcome = refl; len = refl; used = refl; file = refl; journal = refl }
 
-undone-eel : Called with-eel undo (done 24 0) (again .buffer) (with-eel .journal)
+undone-eel : Called 1 with-eel undo (done 24 0) (again .buffer) (with-eel .journal)
 unfolding format verdicts rules edits calls states
 undone-eel = record { outcome = refl; len = refl; used = refl; file = refl; journal = refl }
 
-nothing-left : Called again undo (refused 26 24 0) (step plainRules again undo .buffer) (again .journal)
+nothing-left : Called 1 again undo (refused 26 24 0) (step (rulesOf 1) again undo .buffer) (again .journal)
 unfolding format verdicts rules edits calls states
 nothing-left = record { outcome = refl; len = refl; used = refl; file = refl; journal = refl }
 
@@ -201,16 +205,16 @@ four t = ((omega arith, (omega arith, (omega arith, (omega arith, tt)))), refl)
 
 abbrev acts : List Act
 acts =
-    adding begin small (be32 Data) 7 (be32 TEXT) eel (four Data) (lit< tt) (four TEXT) (lit< tt) (done 48 29) added-eel
+    adding begin small (be32 Pict) 7 (be32 GIF) eel (four Pict) (lit< tt) (four GIF) (lit< tt) (done 48 29) added-eel
     ∷ (adding with-eel small-eel (be32 Pict) 1 (be32 Rect) (replicate 8 0) (four Pict) (lit< tt) (four Rect) (lit< tt) (refused 24 48 29) no-room
     ∷ (undoing with-eel small-eel (done 24 0) undone-eel
     ∷ (undoing again small-again (refused 26 24 0) nothing-left
     ∷ [])))
 
 -- each call begins where the last one ended
-follows : Follows begin acts
+follows : Follows 1 begin acts
 unfolding format verdicts rules edits calls states
-follows = (refl, (refl, (refl, (refl, tt))))
+follows = (refl, refl, (refl, refl, (refl, refl, (refl, refl, tt))))
 
 below : List ℕ → Bool
 below [] = true
@@ -221,10 +225,10 @@ unfolding below
 bytes [] h = tt
 bytes (x ∷ xs) h = let b = and-both (ltb x 256) (below xs) h in (ltb-true x 256 (b .0), bytes xs (b .1))
 
-begins : Begins plainRules begin
+begins : Begins (rulesOf 1) begin
 unfolding format verdicts rules edits below
-begins = record { bytes = bytes (begin .buffer) refl; inside = lit≤ tt; fresh = refl; fine = refl }
+begins = record { known = refl; bytes = bytes (begin .buffer) refl; inside = lit≤ tt; fresh = refl; fine = refl }
 
 -- demand 3 of this run
-instance : AsLedger begin (map turnOf acts)
-instance = code-as-ledger begin acts begins follows
+instance : AsLedger 1 begin (map turnOf acts)
+instance = code-as-ledger 1 begin acts begins follows

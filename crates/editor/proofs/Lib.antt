@@ -7,6 +7,7 @@ pub mod ReadsBack
 pub mod Runs
 pub mod Acts
 pub mod DemandThree
+pub mod UnknownProfile
 pub mod Instance
 pub mod UndoBack
 pub mod UndoCall

@@ -11,7 +11,7 @@ use lib.Dec.{leb, ltb}
 use borrow.Author.Tests.{leb-true, lt-ltb, ltb-true}
 use Rattle.blorb.specs.Format.{Chunk, size, sized, total}
 use Rattle.blorb.specs.Verdict.{Verdict, accept, refuse, _then_, check, verdict, noChunk}
-use Rattle.blorb.specs.Rules.{plainRules}
+use Rattle.blorb.specs.Rules.{rulesOf}
 use Rattle.blorb.specs.Model.{Model, model, file, startOf, base}
 use Rattle.edits.specs.Edit.{Edit, remove, removed, edited}
 use Rattle.blorb.specs.Queries.{find, refAt, chunkAt, shared, noRef, start}
@@ -42,11 +42,11 @@ use Rattle.editor.specs.Called.{Called}
 use Rattle.edits.specs.GoneSize.{goneSize}
 use Rattle.rewrite.specs.Rewriting.{Stands, Removable}
 use Rattle.judging.specs.Told.{Listed}
-use Rattle.editor.specs.Post.{doneWith, removalOf}
+use Rattle.editor.specs.Post.{doneWith, editRefusal, removalOf}
 use Rattle.blorb.proofs.Parts.{file-length}
 use Rattle.judging.proofs.RemoveFault.{removed-length}
 use Rattle.judging.proofs.ChunkAt.{body-at}
-use Rattle.editor.proofs.CallLaws.{open-stands, stands-as, edit-unopened, edit-off-target, edit-told, gave-done, part-size, part-length}
+use Rattle.editor.proofs.CallLaws.{open-stands, opened-fine, stands-as, edit-unopened, edit-off-target, edit-told, gave-done, part-size, part-length}
 
 -- the size that goes, by what the reader tells
 gone-is : (m : Model) (i : ℕ) (p : Piece) → p ≡ pieceOf m i → cond (p .shared) 0 (8 + (p .length + p .length % 2)) ≡ goneSize m i
@@ -78,7 +78,7 @@ pub removal-no : (v : Verdict) (m : Model) (u n k p : ℕ) → removalOf v m u n
 removal-no accept m u n k p e = let z : _≡_ {A = ℕ} 0 1 = cc in absurd (omega arith)
 removal-no (refuse a b) m u n k p e = cc
 
-module _ (b : List ℕ) (l J U u n : ℕ) (bytes : All Byte (take l b)) where
+module _ (profile : ℕ) (b : List ℕ) (l J U u n : ℕ) (bytes : All Byte (take l b)) where
   abbrev pub f : List ℕ
   f = take l b
 
@@ -98,17 +98,17 @@ module _ (b : List ℕ) (l J U u n : ℕ) (bytes : All Byte (take l b)) where
   kc = refAt (model (take l b)) (find u n (model (take l b) .refs)) .chunk
 
   abbrev pub Vd : Verdict
-  Vd = editFault plainRules (length b) J (take l b) l U (remove u n)
+  Vd = editRefusal profile (length b) J (take l b) l U (remove u n)
 
   abbrev pub O : Verdict
-  O = check (leb l (length b) && leb U J) 20 0 then verdict plainRules (take l b)
+  O = check (leb profile 1) 52 0 then (check (leb l (length b) && leb U J) 20 0 then verdict (rulesOf profile) (take l b))
 
   -- what an entry that is found tells
   pub record Found (k : ℕ) : Type 0 where
     pub stands : Stands b l k
     pub used-in : U ≤ J
     pub length-l : length (file m) ≡ l
-    pub model-fine : modelFault plainRules m ≡ accept
+    pub model-fine : modelFault (rulesOf profile) m ≡ accept
     pub listed : i < K
     pub there : kc < length (m .chunks)
     pub ends : start m kc + size (chunkAt m kc) ≤ l
@@ -116,7 +116,7 @@ module _ (b : List ℕ) (l J U u n : ℕ) (bytes : All Byte (take l b)) where
 
   pub found : O ≡ accept → i < K → Found K
   found h lt =
-      let st = open-stands b l U J K bytes h refl in
+      let st = open-stands profile b l U J K bytes h refl in
       let lm : length (file m) ≡ l = ap length (st .0 .whole) ∙ length-take-le l b (st .0 .inside) in
       let th : kc < length (m .chunks) = all-getD (RefOk (length (m .chunks))) (m .refs) i noRef (st .0 .sound .refs-ok) lt .chunk-there in
       let sb = start-before m kc th in
@@ -124,7 +124,8 @@ module _ (b : List ℕ) (l J U u n : ℕ) (bytes : All Byte (take l b)) where
         stands = st .0;
         used-in = st .1;
         length-l = lm;
-        model-fine = file-judged plainRules m (st .0 .sound) (ap (verdict plainRules) (st .0 .whole) ∙ then-accept _ _ h .1);
+        model-fine =
+            file-judged (rulesOf profile) m (st .0 .sound) (ap (verdict (rulesOf profile)) (st .0 .whole) ∙ opened-fine profile (length b) J f l U E h);
         listed = lt;
         there = th;
         ends = omega (arith, sb .0);
@@ -134,7 +135,7 @@ module _ (b : List ℕ) (l J U u n : ℕ) (bytes : All Byte (take l b)) where
   module _ (w : Found K) where
     pub new-length : length (editedFile f E) ≡ l - (12 + goneSize m i)
     unfolding editedFile edited
-    new-length = let p = find-pair u n (m .refs) (w .listed) in omega (arith, removed-length m i u n (w .stands .sound) (w .model-fine) (w .listed) (p .0) (p .1), w .length-l)
+    new-length = let p = find-pair u n (m .refs) (w .listed) in omega (arith, removed-length profile m i u n (w .stands .sound) (w .model-fine) (w .listed) (p .0) (p .1), w .length-l)
 
     pub record-length : length (editRecord f E) ≡ 29 + cond (shared m i) 0 (length (chunkAt m kc .body))
     unfolding editRecord recOf removal
@@ -148,8 +149,9 @@ module _ (b : List ℕ) (l J U u n : ℕ) (bytes : All Byte (take l b)) where
     unfolding targetFault
     on-target = holds-last _ _ _ (lt-ltb _ _ (w .listed))
 
-  pub plan-unopened : (x k p : ℕ) → asked b l J U u n x ≡ Refused k p → Not k p ≡ removalOf Vd m u n
-  plan-unopened x k p e = ap (λ (v : Verdict). removalOf v m u n) (sym (edit-unopened (length b) J f l U E k p (asked-refused b l J U u n x k p e)))
+  pub plan-unopened : (x k p : ℕ) → asked profile b l J U u n x ≡ Refused k p → Not k p ≡ removalOf Vd m u n
+  plan-unopened x k p e =
+      ap (λ (v : Verdict). removalOf v m u n) (sym (edit-unopened profile (length b) J f l U E k p (asked-refused profile b l J U u n x k p e)))
 
   -- what an inspection tells of the entry
   pub record Told (fs : Facts) (p : Piece) : Type 0 where
@@ -159,24 +161,24 @@ module _ (b : List ℕ) (l J U u n : ℕ) (bytes : All Byte (take l b)) where
     pub front-is : fs .front ≡ frontOf m
     pub piece-is : p ≡ pieceOf m i
 
-  module _ (x : ℕ) (fs : Facts) (e : asked b l J U u n x ≡ Whole fs) where
+  module _ (x : ℕ) (fs : Facts) (e : asked profile b l J U u n x ≡ Whole fs) where
     pub told : (p : Piece) → fs .target ≡ target.At p → Told fs p
     told p t =
-        let w = asked-whole b l J U u n x fs e in
+        let w = asked-whole profile b l J U u n x fs e in
         let h = target-at m u n p (ap (λ (z : Facts). z .target) (sym (w .1)) ∙ t) in
         record { opened = w .0; found = found (w .0) (ltb-true _ _ (h .0)); count-is = ap (λ (z : Facts). z .count) (w .1); front-is = ap (λ (z : Facts). z .front) (w .1); piece-is = h .1 }
 
     -- the entry is not there
     pub told-missing : fs .target ≡ target.Nothing → (O ≡ accept) × (ltb i K ≡ false)
     told-missing t =
-        let w = asked-whole b l J U u n x fs e in
+        let w = asked-whole profile b l J U u n x fs e in
         (w .0, target-nothing m u n (ap (λ (z : Facts). z .target) (sym (w .1)) ∙ t))
 
     pub plan-22 : fs .target ≡ target.Nothing → Not 22 0 ≡ removalOf Vd m u n
     plan-22 t =
         let h = told-missing t in
         let q : targetFault m E ≡ refuse 22 0 = (unfold targetFault check in rw (h .1)) in
-        ap (λ (v : Verdict). removalOf v m u n) (sym (edit-off-target (length b) J f l U E 22 0 (h .0) q))
+        ap (λ (v : Verdict). removalOf v m u n) (sym (edit-off-target profile (length b) J f l U E 22 0 (h .0) q))
 
   -- the sizes of an entry that is there, as the code has them
   module _ (p : Piece) (w : Found K) (e : p ≡ pieceOf m i) where
@@ -198,18 +200,18 @@ module _ (b : List ℕ) (l J U u n : ℕ) (bytes : All Byte (take l b)) where
 
   module _ (fs : Facts) (p : Piece) (w : Told fs p) (a : ℕ) (ea : a ≡ cond (p .shared) 0 (8 + (p .length + p .length % 2))) where
     -- what remove_fault asks
-    pub listed : (verdict plainRules f ≡ accept) × (Listed f u n (p .start) a × (fs .front ≡ frontOf m))
+    pub listed : (verdict (rulesOf profile) f ≡ accept) × (Listed f u n (p .start) a × (fs .front ≡ frontOf m))
     listed =
         let st = w .found .stands in
         let ga = gone-now p (w .found) (w .piece-is) a ea in
-        (then-accept _ _ (w .opened) .1, (record { found = w .found .listed; starts = start-is m i p (w .piece-is); gone = ga; small = omega (arith, gone-sized m i, w .found .ends, st .short) }, w .front-is))
+        (opened-fine profile (length b) J f l U E (w .opened), (record { found = w .found .listed; starts = start-is m i p (w .piece-is); gone = ga; small = omega (arith, gone-sized m i, w .found .ends, st .short) }, w .front-is))
 
-    module _ (x : ℕ) (ex : x ≡ cond (p .shared) 0 (p .length)) (j r : Outcome) (judged : verdictOf j ≡ hundred (verdict plainRules (file (removed m i))))
+    module _ (x : ℕ) (ex : x ≡ cond (p .shared) 0 (p .length)) (j r : Outcome) (judged : verdictOf j ≡ hundred (verdict (rulesOf profile) (file (removed m i))))
         (e : verdictOf r ≡ verdictOf j then (check (leb (l - (12 + a)) (length b)) 24 0 then check (leb (29 + x) (J - U)) 25 0)) where
       judged-is : Vd ≡ verdictOf r
       unfolding editedFile edited
       judged-is =
-          edit-told (length b) J f l U E j r _ _ (w .opened) (on-target (w .found)) (w .found .used-in) judged (length-now p (w .found) (w .piece-is) a ea)
+          edit-told profile (length b) J f l U E j r _ _ (w .opened) (on-target (w .found)) (w .found .used-in) judged (length-now p (w .found) (w .piece-is) a ea)
           (ap (λ (z : ℕ). 29 + z) ex ∙ record-now p (w .found) (w .piece-is)) e
 
       pub plan-refused : (k q : ℕ) → r ≡ outcome.Refused k q → Not k q ≡ removalOf Vd m u n
@@ -230,12 +232,13 @@ module _ (b : List ℕ) (l J U u n : ℕ) (bytes : All Byte (take l b)) where
   unfolding editFault targetFault
   ready k p e =
       let v : Vd ≡ accept = go Vd e in
-      let h1 = then-accept _ _ v in
+      let h0 = then-accept _ _ v in
+      let h1 = then-accept _ _ (h0 .1) in
       let h2 = then-accept _ _ (h1 .1) in
       let h3 = then-accept _ _ (h2 .1) in
       let h4 = then-accept _ _ (h3 .1) in
       let h5 = then-accept _ _ (h4 .1) in
-      let o : O ≡ accept = accepts _ _ (h1 .0) ∙ h2 .0 in
+      let o : O ≡ accept = accepts _ _ (h0 .0) ∙ accepts _ _ (h1 .0) ∙ h2 .0 in
       let lt : i < K = ltb-true _ _ (check-accept _ _ _ (h3 .0)) in
       let q : Take K (pieceOf m i) ≡ Take k p = ap (λ (z : Verdict). removalOf z m u n) (sym v) ∙ e in
       record { fine = v; found = found o lt; count-is = cc; piece-is = cc; journal-room = leb-true _ _ (check-accept _ _ _ (h5 .1)) }
@@ -298,12 +301,12 @@ module _ (b : List ℕ) (l J U u n : ℕ) (bytes : All Byte (take l b)) where
         go false = λ z. record { kind = 3; usage = u; number = n; place = i; start = start m kc; type = chunkAt m kc .type; body = body-of (r .found) z }
 
 -- the call, once its plan goes on: a bytes go, and x bytes of data are kept
-module _ (b j : List ℕ) (l U u n : ℕ) (bytes : All Byte (take l b)) (k : ℕ) (p : Piece) (r : Ready b l (length j) U u n bytes k p) (x : ℕ) (ex : x ≡ cond (p .shared) 0 (p .length)) where
+module _ (profile : ℕ) (b j : List ℕ) (l U u n : ℕ) (bytes : All Byte (take l b)) (k : ℕ) (p : Piece) (r : Ready profile b l (length j) U u n bytes k p) (x : ℕ) (ex : x ≡ cond (p .shared) 0 (p .length)) where
   pub part-in : p .start + 8 + x ≤ length b
-  part-in = omega (arith, body-in b l (length j) U u n bytes k p r, r .found .stands .inside)
+  part-in = omega (arith, body-in profile b l (length j) U u n bytes k p r, r .found .stands .inside)
 
   pub used-room : U + (29 + x) ≤ length j
-  used-room = omega (arith, used-now b l (length j) U u n bytes k p r, r .journal-room)
+  used-room = omega (arith, used-now profile b l (length j) U u n bytes k p r, r .journal-room)
 
   pub record-room : U + (29 + length (take (p .start + 8 + x - (p .start + 8)) (drop (p .start + 8) b))) ≤ length j
   record-room = let h = part-length b (p .start + 8) x part-in in omega (arith, used-room)
@@ -311,12 +314,12 @@ module _ (b j : List ℕ) (l U u n : ℕ) (bytes : All Byte (take l b)) (k : ℕ
   pub made : (a kd t : ℕ) (c : Answer) (b′ j′ : List ℕ) → a ≡ cond (p .shared) 0 (8 + (p .length + p .length % 2)) → kd ≡ cond (p .shared) 4 3 → t ≡ cond (p .shared) 0 (p .kind)
       → c ≡ doneWith (l - (12 + a)) (U + (29 + x)) → b′ ≡ written b l (file (removed (model (take l b)) (p .place)))
       → j′ ≡ noted j U (recBytes (recordOf kd (record { usage = u; number = n; start = p .start }) (p .place) t (take (p .start + 8 + x - (p .start + 8)) (drop (p .start + 8) b))))
-      → Called (state b l j U) (edit (remove u n)) c b′ j′
+      → Called profile (state b l j U) (edit (remove u n)) c b′ j′
   unfolding fault after afterEdit editedFile edited editRecord
   made a kd t c b′ j′ ea ek et ec eb ej =
       let px : p .start + 8 + x - (p .start + 8) ≡ cond (p .shared) 0 (p .length) = part-size (p .start + 8) x ∙ ex in
-      gave-done (state b l j U) (edit (remove u n)) c _ _ b′ j′ ec (r .fine) (length-now b l (length j) U u n bytes p (r .found) (r .piece-is) a ea)
-      (ap (λ (z : ℕ). U + (29 + z)) ex ∙ ap (λ (z : ℕ). U + z) (used-now b l (length j) U u n bytes k p r))
+      gave-done profile (state b l j U) (edit (remove u n)) c _ _ b′ j′ ec (r .fine) (length-now profile b l (length j) U u n bytes p (r .found) (r .piece-is) a ea)
+      (ap (λ (z : ℕ). U + (29 + z)) ex ∙ ap (λ (z : ℕ). U + z) (used-now profile b l (length j) U u n bytes k p r))
       (eb ∙ ap (λ (z : ℕ). written b l (file (removed (model (take l b)) z))) (place-is (model (take l b)) (find u n (model (take l b) .refs)) p (r .piece-is)))
       (ej ∙ (λ z. noted j U (recBytes (recordOf (ek z) (record { usage = u; number = n; start = p .start }) (p .place) (et z) (take (px z) (drop (p .start + 8) b)))))
-      ∙ ap (λ (z : Rec). noted j U (recBytes z)) (record-is b l (length j) U u n bytes k p r))
+      ∙ ap (λ (z : Rec). noted j U (recBytes z)) (record-is profile b l (length j) U u n bytes k p r))

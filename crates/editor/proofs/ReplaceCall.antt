@@ -10,7 +10,7 @@ use lib.Dec.{leb}
 use borrow.Author.Tests.{leb-true, lt-ltb, ltb-true}
 use Rattle.blorb.specs.Format.{chunkOf, size, sized}
 use Rattle.blorb.specs.Verdict.{Verdict, accept, refuse, _then_, check, verdict}
-use Rattle.blorb.specs.Rules.{plainRules}
+use Rattle.blorb.specs.Rules.{rulesOf}
 use Rattle.blorb.specs.Model.{Model, model, file}
 use Rattle.edits.specs.Edit.{Edit, replace, replaced, givenChunk, edited}
 use Rattle.blorb.specs.Queries.{find, refAt, chunkAt, shared, start}
@@ -37,18 +37,18 @@ use Rattle.edits.specs.Run.{state}
 use Rattle.editor.specs.Called.{Called}
 use Rattle.rewrite.specs.Rewriting.{Stands, Replaceable}
 use Rattle.judging.specs.Told.{Own}
-use Rattle.editor.specs.Post.{doneWith, changeOf}
+use Rattle.editor.specs.Post.{doneWith, editRefusal, changeOf}
 use Rattle.edits.proofs.Lengths.{length-replaced}
 use Rattle.edits.proofs.Lengths.{size-given}
 use Rattle.editor.proofs.RemoveCall.{Found, found, Told, told-missing, body-sized, body-of}
 use Rattle.judging.proofs.ReplaceFault.{size-body}
-use Rattle.editor.proofs.CallLaws.{hundred-fine, stands-as, edit-unopened, edit-off-target, edit-told, gave-done, part-size, part-length}
+use Rattle.editor.proofs.CallLaws.{hundred-fine, opened-fine, stands-as, edit-unopened, edit-off-target, edit-told, gave-done, part-size, part-length}
 
 pub change-no : (v : Verdict) (m : Model) (u n k p : ℕ) → changeOf v m u n ≡ Keep k p → v ≡ refuse k p
 change-no accept m u n k p e = let z : _≡_ {A = ℕ} 0 1 = cc in absurd (omega arith)
 change-no (refuse a b) m u n k p e = cc
 
-module _ (b : List ℕ) (l J U u n t : ℕ) (d : List ℕ) (bytes : All Byte (take l b)) where
+module _ (profile : ℕ) (b : List ℕ) (l J U u n t : ℕ) (d : List ℕ) (bytes : All Byte (take l b)) where
   abbrev pub f : List ℕ
   f = take l b
 
@@ -68,24 +68,25 @@ module _ (b : List ℕ) (l J U u n t : ℕ) (d : List ℕ) (bytes : All Byte (ta
   kc = refAt (model (take l b)) (find u n (model (take l b) .refs)) .chunk
 
   abbrev pub Vd : Verdict
-  Vd = editFault plainRules (length b) J (take l b) l U (replace u n t d)
+  Vd = editRefusal profile (length b) J (take l b) l U (replace u n t d)
 
   abbrev pub O : Verdict
-  O = check (leb l (length b) && leb U J) 20 0 then verdict plainRules (take l b)
+  O = check (leb profile 1) 52 0 then (check (leb l (length b) && leb U J) 20 0 then verdict (rulesOf profile) (take l b))
 
   abbrev pub new : ℕ
   new = 8 + (length d + length d % 2)
 
-  pub plan-unopened : (x k p : ℕ) → asked b l J U u n x ≡ Refused k p → Keep k p ≡ changeOf Vd m u n
-  plan-unopened x k p e = ap (λ (v : Verdict). changeOf v m u n) (sym (edit-unopened (length b) J f l U E k p (asked-refused b l J U u n x k p e)))
+  pub plan-unopened : (x k p : ℕ) → asked profile b l J U u n x ≡ Refused k p → Keep k p ≡ changeOf Vd m u n
+  plan-unopened x k p e =
+      ap (λ (v : Verdict). changeOf v m u n) (sym (edit-unopened profile (length b) J f l U E k p (asked-refused profile b l J U u n x k p e)))
 
-  pub plan-22 : (x : ℕ) (fs : Facts) → asked b l J U u n x ≡ Whole fs → fs .target ≡ target.Nothing → Keep 22 0 ≡ changeOf Vd m u n
+  pub plan-22 : (x : ℕ) (fs : Facts) → asked profile b l J U u n x ≡ Whole fs → fs .target ≡ target.Nothing → Keep 22 0 ≡ changeOf Vd m u n
   plan-22 x fs e t =
-      let h = told-missing b l J U u n bytes x fs e t in
+      let h = told-missing profile b l J U u n bytes x fs e t in
       let q : targetFault m E ≡ refuse 22 0 = (unfold targetFault check _then_ in rw (h .1)) in
-      ap (λ (v : Verdict). changeOf v m u n) (sym (edit-off-target (length b) J f l U E 22 0 (h .0) q))
+      ap (λ (v : Verdict). changeOf v m u n) (sym (edit-off-target profile (length b) J f l U E 22 0 (h .0) q))
 
-  new-length : Found b l J U u n bytes K → length (editedFile f E) ≡ l - size (chunkAt m kc) + new
+  new-length : Found profile b l J U u n bytes K → length (editedFile f E) ≡ l - size (chunkAt m kc) + new
   unfolding editedFile edited
   new-length w = omega (arith, length-replaced m kc (givenChunk t d) (w .there), w .length-l, size-given t d, w .ends)
 
@@ -94,7 +95,7 @@ module _ (b : List ℕ) (l J U u n t : ℕ) (d : List ℕ) (bytes : All Byte (ta
   record-length = length-recBytes _
 
   -- an entry's own chunk, by what the reader tells
-  module _ (p : Piece) (w : Found b l J U u n bytes K) (e : p ≡ pieceOf m i) where
+  module _ (p : Piece) (w : Found profile b l J U u n bytes K) (e : p ≡ pieceOf m i) where
     record-now : 29 + p .length ≡ length (editRecord f E)
     record-now = ap (λ (z : Piece). 29 + z .length) e ∙ sym record-length
 
@@ -108,20 +109,20 @@ module _ (b : List ℕ) (l J U u n t : ℕ) (d : List ℕ) (bytes : All Byte (ta
       pub length-now : l - a + new ≡ length (editedFile f E)
       length-now = ap (λ (z : ℕ). l - z + new) size-now ∙ sym (new-length w)
 
-  module _ (fs : Facts) (p : Piece) (w : Told b l J U u n bytes fs p) where
+  module _ (fs : Facts) (p : Piece) (w : Told profile b l J U u n bytes fs p) where
     pub plan-23 : p .shared ≡ true → Keep 23 0 ≡ changeOf Vd m u n
     plan-23 h =
         let q : targetFault m E ≡ refuse 23 0 = (unfold targetFault check _then_ in rw (lt-ltb i K (w .found .listed), sym (shared-is m i p (w .piece-is)) ∙ h)) in
-        ap (λ (v : Verdict). changeOf v m u n) (sym (edit-off-target (length b) J f l U E 23 0 (w .opened) q))
+        ap (λ (v : Verdict). changeOf v m u n) (sym (edit-off-target profile (length b) J f l U E 23 0 (w .opened) q))
 
     module _ (alone : p .shared ≡ false) where
       -- what replace_fault asks
-      pub own : (verdict plainRules f ≡ accept) × (Own f u n p × (fs .front ≡ frontOf m))
+      pub own : (verdict (rulesOf profile) f ≡ accept) × (Own f u n p × (fs .front ≡ frontOf m))
       own =
           let st = w .found .stands in
           let lf : length f ≡ l = length-take-le l b (st .inside) in
           let sz = size-now p (w .found) (w .piece-is) (8 + (p .length + p .length % 2)) refl in (
-            then-accept _ _ (w .opened) .1,
+            opened-fine profile (length b) J f l U E (w .opened),
             (
               record {
                 found = w .found .listed;
@@ -139,11 +140,11 @@ module _ (b : List ℕ) (l J U u n t : ℕ) (d : List ℕ) (bytes : All Byte (ta
       unfolding targetFault
       on-target = pass _ _ _ _ (lt-ltb _ _ (w .found .listed)) ∙ holds-last _ _ _ (ap not (sym (shared-is m i p (w .piece-is)) ∙ alone))
 
-      module _ (a : ℕ) (ea : a ≡ 8 + (p .length + p .length % 2)) (j r : Outcome) (judged : verdictOf j ≡ hundred (verdict plainRules (file (replaced m kc (chunkOf t d)))))
+      module _ (a : ℕ) (ea : a ≡ 8 + (p .length + p .length % 2)) (j r : Outcome) (judged : verdictOf j ≡ hundred (verdict (rulesOf profile) (file (replaced m kc (chunkOf t d)))))
           (e : verdictOf r ≡ verdictOf j then (check (leb (l - a + (8 + (length d + length d % 2))) (length b)) 24 0 then check (leb (29 + p .length) (J - U)) 25 0)) where
         judged-is : Vd ≡ verdictOf r
         unfolding editedFile edited givenChunk
-        judged-is = edit-told (length b) J f l U E j r _ _ (w .opened) on-target (w .found .used-in) judged (length-now p (w .found) (w .piece-is) a ea) (record-now p (w .found) (w .piece-is)) e
+        judged-is = edit-told profile (length b) J f l U E j r _ _ (w .opened) on-target (w .found .used-in) judged (length-now p (w .found) (w .piece-is) a ea) (record-now p (w .found) (w .piece-is)) e
 
         pub plan-refused : (k q : ℕ) → r ≡ outcome.Refused k q → Keep k q ≡ changeOf Vd m u n
         plan-refused k q h = ap (λ (v : Verdict). changeOf v m u n) (sym (judged-is ∙ ap verdictOf h))
@@ -154,7 +155,7 @@ module _ (b : List ℕ) (l J U u n t : ℕ) (d : List ℕ) (bytes : All Byte (ta
   -- what a plan to go on tells
   pub record Ready (k : ℕ) (p : Piece) : Type 0 where
     pub fine : Vd ≡ accept
-    pub found : Found b l J U u n bytes K
+    pub found : Found profile b l J U u n bytes K
     pub count-is : k ≡ K
     pub piece-is : p ≡ pieceOf m i
     pub room : length (editedFile f E) ≤ length b
@@ -165,21 +166,22 @@ module _ (b : List ℕ) (l J U u n t : ℕ) (d : List ℕ) (bytes : All Byte (ta
   unfolding editFault targetFault
   ready k p e =
       let v : Vd ≡ accept = go Vd e in
-      let h1 = then-accept _ _ v in
+      let h0 = then-accept _ _ v in
+      let h1 = then-accept _ _ (h0 .1) in
       let h2 = then-accept _ _ (h1 .1) in
       let h3 = then-accept _ _ (h2 .1) in
       let h4 = then-accept _ _ (h3 .1) in
       let h5 = then-accept _ _ (h4 .1) in
-      let o : O ≡ accept = accepts _ _ (h1 .0) ∙ h2 .0 in
+      let o : O ≡ accept = accepts _ _ (h0 .0) ∙ accepts _ _ (h1 .0) ∙ h2 .0 in
       let lt : i < K = ltb-true _ _ (check-accept _ _ _ (then-accept _ _ (h3 .0) .0)) in
       let q : Put K (pieceOf m i) ≡ Put k p = ap (λ (z : Verdict). changeOf z m u n) (sym v) ∙ e in
       record {
         fine = v;
-        found = found b l J U u n bytes o lt;
+        found = found profile b l J U u n bytes o lt;
         count-is = cc;
         piece-is = cc;
         room = leb-true _ _ (check-accept _ _ _ (h5 .0));
-        short = accept-short plainRules (editedFile f E) (hundred-fine _ (h4 .0));
+        short = accept-short (rulesOf profile) (editedFile f E) (hundred-fine _ (h4 .0));
         journal-room = leb-true _ _ (check-accept _ _ _ (h5 .1));
       }
     where
@@ -218,15 +220,16 @@ module _ (b : List ℕ) (l J U u n t : ℕ) (d : List ℕ) (bytes : All Byte (ta
     unfolding recordOf recOf
     record-is =
         ap (λ (z : Piece). recordOf 2 (record { usage = u; number = n; start = z .start }) (z .place) (z .kind) (take (z .length) (drop (z .start + 8) b))) (r .piece-is)
-        ∙ (λ z. record { kind = 2; usage = u; number = n; place = i; start = start m kc; type = chunkAt m kc .type; body = body-of b l J U u n bytes (r .found) z })
+        ∙ (λ z. record { kind = 2; usage = u; number = n; place = i; start = start m kc; type = chunkAt m kc .type; body = body-of profile b l J U u n bytes (r .found) z })
 
 -- the call, once its plan goes on
-module _ (b j : List ℕ) (l U u n t : ℕ) (d : List ℕ) (bytes : All Byte (take l b)) (k : ℕ) (p : Piece) (r : Ready b l (length j) U u n t d bytes k p) where
+module _ (profile : ℕ) (b j : List ℕ) (l U u n t : ℕ) (d : List ℕ) (bytes : All Byte (take l b)) (k : ℕ) (p : Piece)
+    (r : Ready profile b l (length j) U u n t d bytes k p) where
   pub part-in : p .start + 8 + p .length ≤ length b
-  part-in = omega (arith, body-in b l (length j) U u n t d bytes k p r, r .found .stands .inside)
+  part-in = omega (arith, body-in profile b l (length j) U u n t d bytes k p r, r .found .stands .inside)
 
   pub used-room : U + (29 + p .length) ≤ length j
-  used-room = omega (arith, used-now b l (length j) U u n t d bytes k p r, r .journal-room)
+  used-room = omega (arith, used-now profile b l (length j) U u n t d bytes k p r, r .journal-room)
 
   pub record-room : U + (29 + length (take (p .start + 8 + p .length - (p .start + 8)) (drop (p .start + 8) b))) ≤ length j
   record-room = let h = part-length b (p .start + 8) (p .length) part-in in omega (arith, used-room)
@@ -235,11 +238,11 @@ module _ (b j : List ℕ) (l U u n t : ℕ) (d : List ℕ) (bytes : All Byte (ta
       → c ≡ doneWith (l - a + (8 + (length d + length d % 2))) (U + (29 + p .length))
       → b′ ≡ written b l (file (replaced (model (take l b)) (refAt (model (take l b)) (p .place) .chunk) (chunkOf t d)))
       → j′ ≡ noted j U (recBytes (recordOf 2 (record { usage = u; number = n; start = p .start }) (p .place) (p .kind) (take (p .start + 8 + p .length - (p .start + 8)) (drop (p .start + 8) b))))
-      → Called (state b l j U) (edit (replace u n t d)) c b′ j′
+      → Called profile (state b l j U) (edit (replace u n t d)) c b′ j′
   unfolding fault after afterEdit editedFile edited givenChunk editRecord
   made a c b′ j′ ea ec eb ej =
-      gave-done (state b l j U) (edit (replace u n t d)) c _ _ b′ j′ ec (r .fine) (length-now b l (length j) U u n t d bytes p (r .found) (r .piece-is) a ea)
-      (ap (λ (z : ℕ). U + z) (used-now b l (length j) U u n t d bytes k p r))
+      gave-done profile (state b l j U) (edit (replace u n t d)) c _ _ b′ j′ ec (r .fine) (length-now profile b l (length j) U u n t d bytes p (r .found) (r .piece-is) a ea)
+      (ap (λ (z : ℕ). U + z) (used-now profile b l (length j) U u n t d bytes k p r))
       (eb ∙ ap (λ (z : ℕ). written b l (file (replaced (model (take l b)) (refAt (model (take l b)) z .chunk) (chunkOf t d)))) (place-is (model (take l b)) (find u n (model (take l b) .refs)) p (r .piece-is)))
       (ej ∙ ap (λ (z : ℕ). noted j U (recBytes (recordOf 2 (record { usage = u; number = n; start = p .start }) (p .place) (p .kind) (take z (drop (p .start + 8) b))))) (part-size (p .start + 8) (p .length))
-      ∙ ap (λ (z : Rec). noted j U (recBytes z)) (record-is b l (length j) U u n t d bytes k p r))
+      ∙ ap (λ (z : Rec). noted j U (recBytes z)) (record-is profile b l (length j) U u n t d bytes k p r))

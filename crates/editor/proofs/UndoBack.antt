@@ -11,7 +11,7 @@ use borrow.Author.Tests.{leb-true}
 use Rattle.blorb.specs.Format.{size, chunkOf}
 use Rattle.blorb.specs.Layout.{sizeOf}
 use Rattle.blorb.specs.Verdict.{Verdict, accept, refuse, verdict}
-use Rattle.blorb.specs.Rules.{plainRules}
+use Rattle.blorb.specs.Rules.{rulesOf}
 use Rattle.blorb.specs.Model.{Model, base, startOf, model, file}
 use Rattle.blorb.specs.Queries.{refAt, chunkAt, start, placeAt, shared}
 use Rattle.blorb.specs.All.{All}
@@ -24,7 +24,7 @@ use Rattle.blorb.proofs.ModelLaws.{length-file}
 use Rattle.edits.specs.Edit.{removed, replaced, entered, inserted}
 use Rattle.edits.specs.GoneSize.{goneSize}
 use Rattle.edits.specs.Journal.{Rec, lastRec, wellFormed, fits, fits3, fits4, undo2, undo3, undo4, oldChunk}
-use Rattle.edits.specs.Run.{accepted, undoneFile, undoFault}
+use Rattle.edits.specs.Run.{undo, state, accepted, undoneFile, undoFault, fault}
 use Rattle.edits.proofs.BoolLaws.{and-parts}
 use Rattle.edits.proofs.JudgedLaws.{chunk-in}
 use Rattle.edits.proofs.UndoJudged.{AcceptedFile, accepted-facts, fits1-facts, fits2-facts, undo1-removed, kind-1, kind-2, kind-3, kind-4}
@@ -41,14 +41,14 @@ use Rattle.rewrite.proofs.InsertBytes.{insertable3, insertable4}
 use Rattle.judging.proofs.UndoFits.{chunk-ends, at-1, at-2, at-3, at-4}
 
 -- the undo goes on with these numbers
-pub record Ready (b : List ℕ) (l : ℕ) (j : List ℕ) (u k a s t : ℕ) (r : Record) : Type 0 where
-  pub unrefused : undoFault plainRules (length b) (length j) (take l b) l u (take u j) ≡ accept
+pub record Ready (profile : ℕ) (b : List ℕ) (l : ℕ) (j : List ℕ) (u k a s t : ℕ) (r : Record) : Type 0 where
+  pub unrefused : fault (rulesOf profile) (state b l j u) undo ≡ accept
   pub within : u ≤ length j
   pub stands : Stands b l k
-  pub file-facts : AcceptedFile (take l b)
+  pub file-facts : AcceptedFile profile (take l b)
   pub ends : Ends j u r
   pub fit : fits (lastRec (take u j)) (model (take l b)) ≡ true
-  pub fine : verdict plainRules (undoneFile (take l b) (take u j)) ≡ accept
+  pub fine : verdict (rulesOf profile) (undoneFile (take l b) (take u j)) ≡ accept
   pub room : length (undoneFile (take l b) (take u j)) ≤ length b
   pub at-is : a ≡ chunkStart (lastRec (take u j)) (model (take l b))
   pub size-is : s ≡ chunkSize (lastRec (take u j)) (model (take l b))
@@ -80,32 +80,33 @@ unfolding start startOf base
 start-behind m k = omega arith
 
 -- where the plan goes on
-module _ (b : List ℕ) (l : ℕ) (j : List ℕ) (u k a s t : ℕ) (r : Record) (bytes : All Byte b) (e : undoPlan b l j u ≡ Go k a s t r) where
+module _ (profile : ℕ) (b : List ℕ) (l : ℕ) (j : List ℕ) (u k a s t : ℕ) (r : Record) (bytes : All Byte b) (e : undoPlan profile b l j u ≡ Go k a s t r) where
   abbrev f : List ℕ
   f = take l b
 
   abbrev q : List ℕ
   q = take u j
 
-  planned : (undoFault plainRules (length b) (length j) (take l b) l u (take u j) ≡ accept) × (goOf (take l b) (take u j) ≡ Go k a s t r)
+  planned : (fault (rulesOf profile) (state b l j u) undo ≡ accept) × (goOf (take l b) (take u j) ≡ Go k a s t r)
   unfolding undoPlan
-  planned = plan-goes (undoFault plainRules (length b) (length j) f l u q) f q k a s t r e
+  planned = plan-goes (fault (rulesOf profile) (state b l j u) undo) f q k a s t r e
 
-  pub ready : Ready b l j u k a s t r
-  unfolding undoFault goOf
+  pub ready : Ready profile b l j u k a s t r
+  unfolding fault undoFault goOf
   ready =
-      let h1 = then-accept _ _ (planned .0) in
+      let h0 = then-accept _ _ (planned .0) in
+      let h1 = then-accept _ _ (h0 .1) in
       let h2 = then-accept _ _ (h1 .1) in
       let h3 = then-accept _ _ (h2 .1) in
       let h4 = then-accept _ _ (h3 .1) in
       let lens = and-parts (leb l (length b)) (leb u (length j)) (check-accept _ _ _ (h1 .0)) in
-      let test = and-parts (wellFormed q && fits (lastRec q) (model f)) (accepted (verdict plainRules (undoneFile f q))) (check-accept _ _ _ (h4 .0)) in
+      let test = and-parts (wellFormed q && fits (lastRec q) (model f)) (accepted (verdict (rulesOf profile) (undoneFile f q))) (check-accept _ _ _ (h4 .0)) in
       let good = and-parts (wellFormed q) (fits (lastRec q) (model f)) (test .0) in
       let inside : l ≤ length b = leb-true l (length b) (lens .0) in
       let len : length (take l b) ≡ l = length-take-le l b inside in
       let g : Go (length (model f .refs)) (chunkStart (lastRec q) (model f)) (chunkSize (lastRec q) (model f)) (length (undoneFile f q)) (numbersOf (lastRec q)) ≡ Go k a s t r = planned .1 in
       let n : numbersOf (lastRec q) ≡ r = cc in
-      let st = accepted-facts f (all-take Byte l b bytes) (h2 .0) in
+      let st = accepted-facts profile f (all-take Byte l b bytes) (h2 .0) in
       let count : k ≡ length (model f .refs) = cc in
       record {
         unrefused = planned .0;
@@ -116,7 +117,7 @@ module _ (b : List ℕ) (l : ℕ) (j : List ℕ) (u k a s t : ℕ) (r : Record) 
           sound = st .sound;
           entries = count;
           index = omega (arith, count, index-in (model f), ap length (st .whole));
-          short = omega (arith, accept-short plainRules f (h2 .0));
+          short = omega (arith, accept-short (rulesOf profile) f (h2 .0));
         };
         file-facts = st;
         ends = good-ends j u r (leb-true u (length j) (lens .1)) (formed-last q (good .0) ∙ ap Good n);
@@ -129,7 +130,7 @@ module _ (b : List ℕ) (l : ℕ) (j : List ℕ) (u k a s t : ℕ) (r : Record) 
       }
 
 -- then each writer may be called, and gives the file that the undo is to give
-module _ (b : List ℕ) (l : ℕ) (j : List ℕ) (u k a s t : ℕ) (r : Record) (bytes : All Byte b) (w : Ready b l j u k a s t r) where
+module _ (profile : ℕ) (b : List ℕ) (l : ℕ) (j : List ℕ) (u k a s t : ℕ) (r : Record) (bytes : All Byte b) (w : Ready profile b l j u k a s t r) where
   abbrev m : Model
   m = model (take l b)
 
@@ -164,7 +165,7 @@ module _ (b : List ℕ) (l : ℕ) (j : List ℕ) (u k a s t : ℕ) (r : Record) 
   small = omega (arith, w .file-facts .short)
 
   after-short : length (undoneFile (take l b) (take u j)) ≤ 16777216
-  after-short = accept-short plainRules (undoneFile (take l b) (take u j)) (w .fine)
+  after-short = accept-short (rulesOf profile) (undoneFile (take l b) (take u j)) (w .fine)
 
   -- kind 1
   pub back-added : r .kind ≡ 1 → Stands b l k × Removable b l k (r .place) a s
@@ -204,7 +205,7 @@ module _ (b : List ℕ) (l : ℕ) (j : List ℕ) (u k a s t : ℕ) (r : Record) 
       let ea : a ≡ start m c = w .at-is ∙ at-2 rec m (kind-is 2 h) .0 in
       let es : s ≡ size (chunkAt m c) = w .size-is ∙ at-2 rec m (kind-is 2 h) .1 in
       let to : l - s + (8 + (length d + length d % 2)) ≡ length (undoneFile (take l b) (take u j))
-      = (λ i. sym file-is i - (es ∙ size-is (chunkAt m c)) i + sizeOf (length (body-is i))) ∙ sym (after-2 (take l b) (take u j) (w .file-facts) (all-take Byte u j bj) (kind-is 2 h) fit) in (
+      = (λ i. sym file-is i - (es ∙ size-is (chunkAt m c)) i + sizeOf (length (body-is i))) ∙ sym (after-2 profile (take l b) (take u j) (w .file-facts) (all-take Byte u j bj) (kind-is 2 h) fit) in (
         w .stands,
         (
           record {
@@ -238,7 +239,7 @@ module _ (b : List ℕ) (l : ℕ) (j : List ℕ) (u k a s t : ℕ) (r : Record) 
     back-removed bj =
         let i = insertable3 b l k (w .stands) rec fit-3 in
         let to : length (undoneFile (take l b) (take u j)) ≡ l + 12 + sizeOf (length d)
-        = after-3 (take l b) (take u j) (w .file-facts) (all-take Byte u j bj) (kind-is 3 h) ∙ (λ i. file-is i + 12 + sizeOf (length (sym body-is i))) in
+        = after-3 profile (take l b) (take u j) (w .file-facts) (all-take Byte u j bj) (kind-is 3 h) ∙ (λ i. file-is i + 12 + sizeOf (length (sym body-is i))) in
         (w .stands, (coe 0 1 (z. Insertable b l k (place-is z) (sym at-3-is z)) i, (omega (arith, to, w .room), omega (arith, to, after-short))))
 
     pub written-removed : file (inserted (model (take l b)) (r .place) (placeAt (model (take l b)) a) (r .usage) (r .number) (chunkOf (r .sort) d)) ≡ undoneFile (take l b) (take u j)
@@ -259,7 +260,7 @@ module _ (b : List ℕ) (l : ℕ) (j : List ℕ) (u k a s t : ℕ) (r : Record) 
     back-unlisted bj =
         let i = insertable4 b l k (w .stands) rec fit-4 in
         let to : length (undoneFile (take l b) (take u j)) ≡ l + 12
-        = after-4 (take l b) (take u j) (w .file-facts) (all-take Byte u j bj) (kind-is 4 h) fit-4 ∙ ap (λ (z : ℕ). z + 12) file-is in
+        = after-4 profile (take l b) (take u j) (w .file-facts) (all-take Byte u j bj) (kind-is 4 h) fit-4 ∙ ap (λ (z : ℕ). z + 12) file-is in
         (w .stands, (coe 0 1 (z. Insertable b l k (place-is z) (sym at-4-is z)) i, (omega (arith, to, w .room), omega (arith, to, after-short))))
 
     pub written-unlisted : file (entered (model (take l b)) (r .place) (placeAt (model (take l b)) a) (r .usage) (r .number)) ≡ undoneFile (take l b) (take u j)

@@ -1,4 +1,4 @@
--- What a call of the editor promises: its answer and every byte of both buffers at exit, for every input.
+-- What a call of the editor promises under a profile: its answer and every byte of both buffers at exit, for every input.
 use mathlib.Core.Path.{_≡_}
 use Prim.Native.Nat.{ℕ}
 use mathlib.Core.List.{List}
@@ -6,7 +6,7 @@ use mathlib.Core.Bool.{Bool, true, false}
 use Rattle.editor.specs.declared.Outcome.the-variants.{Done, Refused}
 use Rattle.editor.specs.declared.Outcome.{Outcome}
 use Rattle.blorb.specs.Verdict.{Verdict, accept, refuse}
-use Rattle.blorb.specs.Rules.{plainRules}
+use Rattle.blorb.specs.Rules.{rulesOf}
 use Rattle.edits.specs.Run.{State, Call, fault, step}
 use Rattle.editor.specs.declared.Answer.{Answer}
 
@@ -15,13 +15,19 @@ abbrev pub verdictOf : Outcome → Verdict
 verdictOf Done = accept
 verdictOf (Refused k p) = refuse k p
 
--- a call c in state s gives the answer r and leaves these buffers
-pub record Called (s : State) (c : Call) (r : Answer) (b j : List ℕ) : Type 0 where
-  pub outcome : verdictOf (r .outcome) ≡ fault plainRules s c
-  pub len : r .len ≡ step plainRules s c .L
-  pub used : r .used ≡ step plainRules s c .U
-  pub file : b ≡ step plainRules s c .buffer
-  pub journal : j ≡ step plainRules s c .journal
+-- under this profile a call c in state s gives the answer r and leaves these buffers
+pub record Called (profile : ℕ) (s : State) (c : Call) (r : Answer) (b j : List ℕ) : Type 0 where
+  pub outcome : verdictOf (r .outcome) ≡ fault (rulesOf profile) s c
+  pub len : r .len ≡ step (rulesOf profile) s c .L
+  pub used : r .used ≡ step (rulesOf profile) s c .U
+  pub file : b ≡ step (rulesOf profile) s c .buffer
+  pub journal : j ≡ step (rulesOf profile) s c .journal
+
+-- a call in state s is refused with k at p: it gives its lengths back and leaves both buffers as they were
+pub record Untouched (k p : ℕ) (s : State) (r : Answer) (b j : List ℕ) : Type 0 where
+  pub answer : r ≡ record { outcome = Refused k p; len = s .L; used = s .U }
+  pub file : b ≡ s .buffer
+  pub journal : j ≡ s .journal
 
 -- blank's answer, told whether the buffer has room: "The answer is L = 24, U = 0"; "A buffer under 24 bytes: refusal 24 with L and U 0" (01, The edits)
 abbrev pub blankAnswer : Bool → Answer

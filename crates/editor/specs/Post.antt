@@ -4,14 +4,15 @@ use Prim.Native.Nat.{ℕ, _+_, _*_, _-_, _%_, _≤_, _<_}
 use mathlib.Core.List.{List}
 use mathlib.Core.Bool.{Bool, true, false, cond}
 use lib.ListN.{length, take, replicate}
-use lib.Dec.{ltb}
+use lib.Dec.{leb}
 use Rattle.blorb.specs.Format.{size, placeOf}
-use Rattle.blorb.specs.Verdict.{Verdict, accept, refuse, verdict}
-use Rattle.blorb.specs.Rules.{plainRules}
+use Rattle.blorb.specs.Verdict.{Verdict, accept, refuse, _then_, check}
+use Rattle.blorb.specs.Rules.{rulesOf}
 use Rattle.blorb.specs.Model.{Model, model, base}
 use Rattle.edits.specs.Journal.{Rec}
 use Rattle.blorb.specs.Queries.{refAt, chunkAt, shared, find, start}
-use Rattle.edits.specs.Run.{noted}
+use Rattle.edits.specs.Edit.{Edit}
+use Rattle.edits.specs.Run.{editFault}
 use Rattle.moves.specs.Shift.{slid}
 use Rattle.reader.specs.declared.Piece.{Piece}
 use Rattle.reader.specs.Inspecting.{pieceOf}
@@ -30,6 +31,10 @@ refusedWith k p l u = record { outcome = Refused k p; len = l; used = u }
 
 abbrev pub doneWith : ℕ → ℕ → Answer
 doneWith l u = record { outcome = Done; len = l; used = u }
+
+-- an edit's refusal, as `fault` has it: 52, then the rest (J is the journal's length)
+abbrev pub editRefusal : (profile N J : ℕ) → List ℕ → ℕ → ℕ → Edit → Verdict
+editRefusal profile N J f L U e = check (leb profile 1) 52 0 then editFault (rulesOf profile) N J f L U e
 
 -- go on with k entries, or the refusal
 abbrev pub planOf : Verdict → ℕ → Plan

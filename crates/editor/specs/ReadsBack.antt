@@ -6,7 +6,7 @@ use lib.ListN.{length, take}
 use Rattle.reader.specs.Reading.{lookupOf, partOf}
 use Rattle.reader.specs.declared.Looked.{Looked}
 use Rattle.reader.specs.declared.Looked.the-variants.{Found, Refused}
-use Rattle.blorb.specs.Rules.{plainRules}
+use Rattle.blorb.specs.Rules.{rulesOf}
 use Rattle.edits.specs.Edit.{Edit, add, replace, remove}
 use Rattle.edits.specs.Run.{State, Call, step}
 
@@ -22,30 +22,30 @@ contentBy (Found t a m) f = holds t (partOf (Found t a m) f)
 contentBy (Refused k p) f = nothing
 
 -- what the file f holds for usage u and number n
-unfoldable pub contentOf : List ℕ → ℕ → ℕ → Content
-contentOf f u n = contentBy (lookupOf f u n) f
+unfoldable pub contentOf : (profile : ℕ) → List ℕ → ℕ → ℕ → Content
+contentOf profile f u n = contentBy (lookupOf profile f u n) f
 
 -- "the editor's file is the first L bytes of a lent buffer" (01, What the shelf needs)
 abbrev pub fileOf : State → List ℕ
 fileOf s = take (s .L) (s .buffer)
 
 -- the file after a call
-abbrev pub fileAfter : State → Call → List ℕ
-fileAfter s c = fileOf (step plainRules s c)
+abbrev pub fileAfter : (profile : ℕ) → State → Call → List ℕ
+fileAfter profile s c = fileOf (step (rulesOf profile) s c)
 
 -- the file f holds type t and data d for the pair: its lookup isn't refused, but finds type t and as many data bytes as d has, and these
 -- bytes are d
-pub record Holds (f : List ℕ) (u n t : ℕ) (d : List ℕ) : Type 0 where
+pub record Holds (profile : ℕ) (f : List ℕ) (u n t : ℕ) (d : List ℕ) : Type 0 where
   pub start : ℕ
-  pub found : lookupOf f u n ≡ Found t start (length d)
-  pub content : contentOf f u n ≡ holds t d
+  pub found : lookupOf profile f u n ≡ Found t start (length d)
+  pub content : contentOf profile f u n ≡ holds t d
 
 -- what an edit leaves for its own pair in the file f after it: the type and data that were given, exactly ("the chunk in the same
 -- position takes the new type and data"), or no entry ("the entry goes"; "22 no such entry")
-abbrev pub OwnPair : Edit → List ℕ → Type 0
-OwnPair (add u n t d) f = Holds f u n t d
-OwnPair (replace u n t d) f = Holds f u n t d
-OwnPair (remove u n) f = lookupOf f u n ≡ Refused 22 0
+abbrev pub OwnPair : (profile : ℕ) → Edit → List ℕ → Type 0
+OwnPair profile (add u n t d) f = Holds profile f u n t d
+OwnPair profile (replace u n t d) f = Holds profile f u n t d
+OwnPair profile (remove u n) f = lookupOf profile f u n ≡ Refused 22 0
 
 -- two pairs that aren't the same: not both the usage and the number
 abbrev pub Apart : ℕ → ℕ → ℕ → ℕ → Type 0
@@ -58,8 +58,8 @@ OtherPair (replace u n t d) v k = Apart u n v k
 OtherPair (remove u n) v k = Apart u n v k
 
 -- the edit e has made the file g of the file f, as a reader of both sees it
-pub record ReadsBack (e : Edit) (f g : List ℕ) : Type 0 where
+pub record ReadsBack (profile : ℕ) (e : Edit) (f g : List ℕ) : Type 0 where
   -- its own pair has what was put in
-  pub own : OwnPair e g
+  pub own : OwnPair profile e g
   -- "All other chunks keep their bytes and order" (01, The edits): every other pair has what it had, be it nothing
-  pub others : (v k : ℕ) → OtherPair e v k → contentOf g v k ≡ contentOf f v k
+  pub others : (v k : ℕ) → OtherPair e v k → contentOf profile g v k ≡ contentOf profile f v k

@@ -4,7 +4,7 @@ use Prim.Native.Nat.{ℕ}
 use mathlib.Core.List.{List, [], _∷_, map}
 use lib.ListN.{length, take}
 use Rattle.blorb.specs.Verdict.{accept, verdict}
-use Rattle.blorb.specs.Rules.{plainRules}
+use Rattle.blorb.specs.Rules.{rulesOf}
 use Rattle.edits.specs.Run as edits
 use Rattle.edits.specs.Run.{State, Call, ledgerFile, ledgerUsed, ledgerRecords, ledgerAnswers}
 use Rattle.edits.specs.Demand3.{listAfter}
@@ -29,22 +29,22 @@ answerOf t = record { result = verdictOf (t .answer .outcome); L = t .answer .le
 abbrev pub stateAfter : Turn → State
 stateAfter t = record { buffer = t .buffer; L = t .answer .len; journal = t .journal; U = t .answer .used }
 
--- a run: each call keeps its contract in the state that the last one left
-abbrev pub Ran : State → List Turn → Type 0
-Ran s [] = Unit {0}
-Ran s (t ∷ ts) = Called s (t .call) (t .answer) (t .buffer) (t .journal) × Ran (stateAfter t) ts
+-- a run under one profile: each call keeps its contract in the state that the last one left
+abbrev pub Ran : (profile : ℕ) → State → List Turn → Type 0
+Ran profile s [] = Unit {0}
+Ran profile s (t ∷ ts) = Called profile s (t .call) (t .answer) (t .buffer) (t .journal) × Ran profile (stateAfter t) ts
 
 -- the state after it
 abbrev pub endOf : State → List Turn → State
 endOf s [] = s
 endOf s (t ∷ ts) = endOf (stateAfter t) ts
 
--- demand 3 for a run of calls from state s: every answer and the state after it are the ledger's, which is told the starting file, both
--- buffers' lengths and the calls
-pub record AsLedger (s : State) (ts : List Turn) : Type 0 where
-  pub answers-are : map answerOf ts ≡ ledgerAnswers plainRules (take (s .L) (s .buffer)) (length (s .buffer)) (length (s .journal)) [] (map callOf ts)
-  pub L-is : endOf s ts .L ≡ length (ledgerFile (take (s .L) (s .buffer)) (listAfter plainRules s (map callOf ts)))
-  pub U-is : endOf s ts .U ≡ ledgerUsed (take (s .L) (s .buffer)) (listAfter plainRules s (map callOf ts))
-  pub file-is : take (endOf s ts .L) (endOf s ts .buffer) ≡ ledgerFile (take (s .L) (s .buffer)) (listAfter plainRules s (map callOf ts))
-  pub accepted-is : verdict plainRules (ledgerFile (take (s .L) (s .buffer)) (listAfter plainRules s (map callOf ts))) ≡ accept
-  pub records-are : take (endOf s ts .U) (endOf s ts .journal) ≡ ledgerRecords (take (s .L) (s .buffer)) (listAfter plainRules s (map callOf ts))
+-- demand 3 for a run of calls from state s, all under one profile: every answer and the state after it are the ledger's, which is told the
+-- profile, the starting file, both buffers' lengths and the calls
+pub record AsLedger (profile : ℕ) (s : State) (ts : List Turn) : Type 0 where
+  pub answers-are : map answerOf ts ≡ ledgerAnswers (rulesOf profile) (take (s .L) (s .buffer)) (length (s .buffer)) (length (s .journal)) [] (map callOf ts)
+  pub L-is : endOf s ts .L ≡ length (ledgerFile (take (s .L) (s .buffer)) (listAfter (rulesOf profile) s (map callOf ts)))
+  pub U-is : endOf s ts .U ≡ ledgerUsed (take (s .L) (s .buffer)) (listAfter (rulesOf profile) s (map callOf ts))
+  pub file-is : take (endOf s ts .L) (endOf s ts .buffer) ≡ ledgerFile (take (s .L) (s .buffer)) (listAfter (rulesOf profile) s (map callOf ts))
+  pub accepted-is : verdict (rulesOf profile) (ledgerFile (take (s .L) (s .buffer)) (listAfter (rulesOf profile) s (map callOf ts))) ≡ accept
+  pub records-are : take (endOf s ts .U) (endOf s ts .journal) ≡ ledgerRecords (take (s .L) (s .buffer)) (listAfter (rulesOf profile) s (map callOf ts))

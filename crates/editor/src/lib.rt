@@ -1,15 +1,15 @@
 // The editor: edits and undo in place.
 ghost use mathlib.Core.Path.{_≡_};
-ghost use Prim.Native.Nat.{_+_, _%_, _≤_};
+ghost use Prim.Native.Nat.{ℕ, _+_, _%_, _≤_};
 ghost use mathlib.Core.Bool.{cond, _&&_};
 ghost use lib.ListN.{length, take};
 ghost use lib.Dec.{leb};
 ghost use Rattle.blorb.specs.Bytes.{rd32};
-ghost use Rattle.blorb.specs.Verdict.{_then_, check};
-ghost use Rattle.blorb.specs.Rules.{plainRules, plainVerdict};
+ghost use Rattle.blorb.specs.Verdict.{_then_, check, verdict};
+ghost use Rattle.blorb.specs.Rules.{rulesOf};
 ghost use Rattle.blorb.specs.Model.{model};
 ghost use Rattle.edits.specs.Edit.{add, replace, remove};
-ghost use Rattle.edits.specs.Run.{edit, undo, editFault};
+ghost use Rattle.edits.specs.Run.{edit, undo};
 ghost use Rattle.edits.specs.Run.{written, undoneFile};
 ghost use Rattle.judging.specs.declared.undoing.Undoing.the-variants.{Go};
 ghost use Rattle.judging.specs.UndoPlan.{undoPlan};
@@ -18,7 +18,7 @@ ghost use Rattle.reader.specs.Inspecting.{inspectionOf};
 ghost use Rattle.judging.specs.Outcomes.{verdictOf};
 ghost use Rattle.edits.specs.Run.{state};
 ghost use Rattle.editor.specs.Called.{Called, blankAnswer};
-ghost use Rattle.editor.specs.Post.{refusedWith, doneWith, planOf, removalOf, changeOf};
+ghost use Rattle.editor.specs.Post.{refusedWith, doneWith, editRefusal, planOf, removalOf, changeOf};
 use judging::journal::Record;
 use judging::judge;
 use judging::undoing;
@@ -65,18 +65,25 @@ enum Plan {
     No(u64, usize),
 }
 
-// 20 and the reader's refusals, for the first `len` bytes of `buf` and `used` bytes of a journal of `room`; else what the file tells.
+// 52, 20 and the reader's refusals, for the first `len` bytes of `buf` and `used` bytes of a journal of `room`; else what the file tells.
 fn opened(
     buf: &[u8],
     len: usize,
     room: usize,
     used: usize,
+    profile: u32,
     usage: u32,
     number: u32,
     at: usize,
 ) -> Inspection
-    ensures { λ r. ⌜ r ≡ inspectionOf (check (leb len (length (now (buf .entry))) && leb used room) 20 0 then plainVerdict (take len (now (buf .entry)))) (model (take len (now (buf .entry)))) usage number at ⌝ }
+    ensures { λ r. ⌜ r ≡ inspectionOf (check (leb profile 1) 52 0 then (check (leb len (length (now (buf .entry))) && leb used room) 20 0 then verdict (rulesOf profile) (take len (now (buf .entry))))) (model (take len (now (buf .entry)))) usage number at ⌝ }
 {
+    if 1 < profile {
+        return Inspection::Refused {
+            number: 52,
+            place: 0,
+        };
+    }
     if buf.len() < len {
         return Inspection::Refused {
             number: 20,
@@ -89,7 +96,7 @@ fn opened(
             place: 0,
         };
     }
-    reader::inspect(&buf[..len], usage, number, at)
+    reader::inspect(&buf[..len], profile, usage, number, at)
 }
 
 // What was judged, then 24 and 25: a new file of `size` bytes in a buffer of `room`, a record of `more` bytes where `left` are left.
@@ -120,19 +127,29 @@ fn add_plan(
     len: usize,
     room: usize,
     used: usize,
+    profile: u32,
     usage: u32,
     number: u32,
     kind: u32,
     d: &[u8],
 ) -> Plan
-    ensures { λ r. ⌜ r ≡ planOf (editFault plainRules (length (now (buf .entry))) room (take len (now (buf .entry))) len used (add usage number kind (now (d .entry)))) (length (model (take len (now (buf .entry))) .refs)) ⌝ }
+    ensures { λ r. ⌜ r ≡ planOf (editRefusal profile (length (now (buf .entry))) room (take len (now (buf .entry))) len used (add usage number kind (now (d .entry)))) (length (model (take len (now (buf .entry))) .refs)) ⌝ }
 {
-    match opened(buf, len, room, used, usage, number, 0) {
+    match opened(buf, len, room, used, profile, usage, number, 0) {
         Inspection::Refused { number: k, place } => Plan::No(k, place),
         Inspection::Whole(facts) => {
             let count = facts.count;
             let target = facts.target;
-            let judged = judge::add_fault(&buf[..len], count, target, usage, number, kind, d);
+            let judged = judge::add_fault(
+                &buf[..len],
+                profile,
+                count,
+                target,
+                usage,
+                number,
+                kind,
+                d,
+            );
             let m = d.len();
             match with_room(judged, len + (20 + (m + m % 2)), buf.len(), 29, room - used) {
                 judging::Outcome::Refused { number: k, place } => Plan::No(k, place),
@@ -148,14 +165,15 @@ fn add_entry(
     len: usize,
     jrn: &mut [u8],
     used: usize,
+    profile: u32,
     usage: u32,
     number: u32,
     kind: u32,
     d: &[u8],
 ) -> Answer
-    ensures { λ r. ⌜ Called (state (now (buf .entry)) len (now (jrn .entry)) used) (edit (add usage number kind (now (d .entry)))) r (now (buf .exit)) (now (jrn .exit)) ⌝ }
+    ensures { λ r. ⌜ Called profile (state (now (buf .entry)) len (now (jrn .entry)) used) (edit (add usage number kind (now (d .entry)))) r (now (buf .exit)) (now (jrn .exit)) ⌝ }
 {
-    match add_plan(buf, len, jrn.len(), used, usage, number, kind, d) {
+    match add_plan(buf, len, jrn.len(), used, profile, usage, number, kind, d) {
         Plan::No(k, place) => Answer::refused(k, place, len, used),
         Plan::Go { count } => {
             let m = d.len();
@@ -214,10 +232,18 @@ fn removal_kind(shared: bool) -> u8
 }
 
 // A removal's refusal, or what it needs to be made.
-fn remove_plan(buf: &[u8], len: usize, room: usize, used: usize, usage: u32, number: u32) -> Removal
-    ensures { λ r. ⌜ r ≡ removalOf (editFault plainRules (length (now (buf .entry))) room (take len (now (buf .entry))) len used (remove usage number)) (model (take len (now (buf .entry)))) usage number ⌝ }
+fn remove_plan(
+    buf: &[u8],
+    len: usize,
+    room: usize,
+    used: usize,
+    profile: u32,
+    usage: u32,
+    number: u32,
+) -> Removal
+    ensures { λ r. ⌜ r ≡ removalOf (editRefusal profile (length (now (buf .entry))) room (take len (now (buf .entry))) len used (remove usage number)) (model (take len (now (buf .entry)))) usage number ⌝ }
 {
-    match opened(buf, len, room, used, usage, number, 0) {
+    match opened(buf, len, room, used, profile, usage, number, 0) {
         Inspection::Refused { number: k, place } => Removal::Not(k, place),
         Inspection::Whole(facts) => {
             let target = facts.target;
@@ -227,7 +253,15 @@ fn remove_plan(buf: &[u8], len: usize, room: usize, used: usize, usage: u32, num
             let size = gone_size(piece.shared, piece.length);
             let body = kept_number(piece.shared, piece.length) as usize;
             let front = facts.front;
-            let judged = judge::remove_fault(&buf[..len], front, usage, number, piece.start, size);
+            let judged = judge::remove_fault(
+                &buf[..len],
+                profile,
+                front,
+                usage,
+                number,
+                piece.start,
+                size,
+            );
             match with_room(
                 judged,
                 len - (12 + size as usize),
@@ -251,12 +285,13 @@ fn remove_entry(
     len: usize,
     jrn: &mut [u8],
     used: usize,
+    profile: u32,
     usage: u32,
     number: u32,
 ) -> Answer
-    ensures { λ r. ⌜ Called (state (now (buf .entry)) len (now (jrn .entry)) used) (edit (remove usage number)) r (now (buf .exit)) (now (jrn .exit)) ⌝ }
+    ensures { λ r. ⌜ Called profile (state (now (buf .entry)) len (now (jrn .entry)) used) (edit (remove usage number)) r (now (buf .exit)) (now (jrn .exit)) ⌝ }
 {
-    match remove_plan(buf, len, jrn.len(), used, usage, number) {
+    match remove_plan(buf, len, jrn.len(), used, profile, usage, number) {
         Removal::Not(k, place) => Answer::refused(k, place, len, used),
         Removal::Take { count, piece } => {
             let start = piece.start;
@@ -294,14 +329,15 @@ fn replace_plan(
     len: usize,
     room: usize,
     used: usize,
+    profile: u32,
     usage: u32,
     number: u32,
     kind: u32,
     d: &[u8],
 ) -> Change
-    ensures { λ r. ⌜ r ≡ changeOf (editFault plainRules (length (now (buf .entry))) room (take len (now (buf .entry))) len used (replace usage number kind (now (d .entry)))) (model (take len (now (buf .entry)))) usage number ⌝ }
+    ensures { λ r. ⌜ r ≡ changeOf (editRefusal profile (length (now (buf .entry))) room (take len (now (buf .entry))) len used (replace usage number kind (now (d .entry)))) (model (take len (now (buf .entry)))) usage number ⌝ }
 {
-    match opened(buf, len, room, used, usage, number, 0) {
+    match opened(buf, len, room, used, profile, usage, number, 0) {
         Inspection::Refused { number: k, place } => Change::Keep(k, place),
         Inspection::Whole(facts) => {
             let target = facts.target;
@@ -313,7 +349,16 @@ fn replace_plan(
             }
             let old = gone_size(false, piece.length);
             let front = facts.front;
-            let judged = judge::replace_fault(&buf[..len], front, piece, usage, number, kind, d);
+            let judged = judge::replace_fault(
+                &buf[..len],
+                profile,
+                front,
+                piece,
+                usage,
+                number,
+                kind,
+                d,
+            );
             let m = d.len();
             let size = len - old as usize + (8 + (m + m % 2));
             let more = 29 + piece.length as usize;
@@ -334,14 +379,15 @@ fn replace_chunk(
     len: usize,
     jrn: &mut [u8],
     used: usize,
+    profile: u32,
     usage: u32,
     number: u32,
     kind: u32,
     d: &[u8],
 ) -> Answer
-    ensures { λ r. ⌜ Called (state (now (buf .entry)) len (now (jrn .entry)) used) (edit (replace usage number kind (now (d .entry)))) r (now (buf .exit)) (now (jrn .exit)) ⌝ }
+    ensures { λ r. ⌜ Called profile (state (now (buf .entry)) len (now (jrn .entry)) used) (edit (replace usage number kind (now (d .entry)))) r (now (buf .exit)) (now (jrn .exit)) ⌝ }
 {
-    match replace_plan(buf, len, jrn.len(), used, usage, number, kind, d) {
+    match replace_plan(buf, len, jrn.len(), used, profile, usage, number, kind, d) {
         Change::Keep(k, place) => Answer::refused(k, place, len, used),
         Change::Put { count, piece } => {
             let start = piece.start;
@@ -382,16 +428,17 @@ pub fn add(
     len: usize,
     jrn: &mut [u8],
     used: usize,
+    profile: u32,
     usage: [u8; 4],
     number: u32,
     kind: [u8; 4],
     d: &[u8],
 ) -> Answer
-    ensures { λ r. ⌜ Called (state (now (buf .entry)) len (now (jrn .entry)) used) (edit (add (rd32 usage) number (rd32 kind) (now (d .entry)))) r (now (buf .exit)) (now (jrn .exit)) ⌝ }
+    ensures { λ r. ⌜ Called profile (state (now (buf .entry)) len (now (jrn .entry)) used) (edit (add (rd32 usage) number (rd32 kind) (now (d .entry)))) r (now (buf .exit)) (now (jrn .exit)) ⌝ }
 {
     let u = code_of(usage);
     let t = code_of(kind);
-    add_entry(buf, len, jrn, used, u, number, t, d)
+    add_entry(buf, len, jrn, used, profile, u, number, t, d)
 }
 
 // Replace: the chunk in the same position takes the new type and data.
@@ -400,16 +447,17 @@ pub fn replace(
     len: usize,
     jrn: &mut [u8],
     used: usize,
+    profile: u32,
     usage: [u8; 4],
     number: u32,
     kind: [u8; 4],
     d: &[u8],
 ) -> Answer
-    ensures { λ r. ⌜ Called (state (now (buf .entry)) len (now (jrn .entry)) used) (edit (replace (rd32 usage) number (rd32 kind) (now (d .entry)))) r (now (buf .exit)) (now (jrn .exit)) ⌝ }
+    ensures { λ r. ⌜ Called profile (state (now (buf .entry)) len (now (jrn .entry)) used) (edit (replace (rd32 usage) number (rd32 kind) (now (d .entry)))) r (now (buf .exit)) (now (jrn .exit)) ⌝ }
 {
     let u = code_of(usage);
     let t = code_of(kind);
-    replace_chunk(buf, len, jrn, used, u, number, t, d)
+    replace_chunk(buf, len, jrn, used, profile, u, number, t, d)
 }
 
 // Remove: the entry goes, and its chunk unless another entry has it too.
@@ -418,13 +466,14 @@ pub fn remove(
     len: usize,
     jrn: &mut [u8],
     used: usize,
+    profile: u32,
     usage: [u8; 4],
     number: u32,
 ) -> Answer
-    ensures { λ r. ⌜ Called (state (now (buf .entry)) len (now (jrn .entry)) used) (edit (remove (rd32 usage) number)) r (now (buf .exit)) (now (jrn .exit)) ⌝ }
+    ensures { λ r. ⌜ Called profile (state (now (buf .entry)) len (now (jrn .entry)) used) (edit (remove (rd32 usage) number)) r (now (buf .exit)) (now (jrn .exit)) ⌝ }
 {
     let u = code_of(usage);
-    remove_entry(buf, len, jrn, used, u, number)
+    remove_entry(buf, len, jrn, used, profile, u, number)
 }
 
 // The state that a run of edits begins with: the file's length, and U.
@@ -462,7 +511,7 @@ pub fn blank(buf: &mut [u8]) -> Answer
     Answer::done(fresh.len, fresh.used)
 }
 
-// The file before the last record's edit, written over the present one.
+// The file before the last record's edit, written over the present one. The undo was planned under some profile, which matters no more.
 fn write_back(
     buf: &mut [u8],
     len: usize,
@@ -473,7 +522,7 @@ fn write_back(
     size: usize,
     r: Record,
 )
-    requires { ⌜ undoPlan (now buf) len (now jrn) used ≡ Go count at size (length (undoneFile (take len (now buf)) (take used (now jrn)))) r ⌝ }
+    requires { ⌜ ((profile : ℕ) × (undoPlan profile (now buf) len (now jrn) used ≡ Go count at size (length (undoneFile (take len (now buf)) (take used (now jrn)))) r)) ⌝ }
     ensures { λ _. ⌜ now (buf .exit) ≡ written (now (buf .entry)) len (undoneFile (take len (now (buf .entry))) (take used (now (jrn .entry)))) ⌝ }
 {
     let kind = r.kind;
@@ -497,10 +546,10 @@ fn write_back(
 }
 
 // Undo: the last record's edit is taken back. The journal is only read.
-pub fn undo(buf: &mut [u8], len: usize, jrn: &[u8], used: usize) -> Answer
-    ensures { λ r. ⌜ Called (state (now (buf .entry)) len (now (jrn .entry)) used) undo r (now (buf .exit)) (now (jrn .entry)) ⌝ }
+pub fn undo(buf: &mut [u8], len: usize, jrn: &[u8], used: usize, profile: u32) -> Answer
+    ensures { λ r. ⌜ Called profile (state (now (buf .entry)) len (now (jrn .entry)) used) undo r (now (buf .exit)) (now (jrn .entry)) ⌝ }
 {
-    match undoing::undo_plan(buf, len, jrn, used) {
+    match undoing::undo_plan(buf, len, jrn, used, profile) {
         undoing::Undoing::Not { number: k, place } => Answer {
             outcome: Outcome::Refused { number: k, place },
             len,

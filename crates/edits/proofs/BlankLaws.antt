@@ -9,7 +9,7 @@ use borrow.Author.Tests.{le-leb, lt-leb}
 use Rattle.blorb.specs.Bytes.{be32}
 use Rattle.blorb.specs.Format.{sized, size, total, chunkBytes, chunksBytes, fileBytes, entriesBytes, indexChunk}
 use Rattle.blorb.specs.Verdict.{accept, _then_, check, secondIndex, verdict}
-use Rattle.blorb.specs.Rules.{plainRules, optional, chunkRules}
+use Rattle.blorb.specs.Rules.{rulesOf, optional, chunkRules}
 use Rattle.blorb.specs.Model.{Model, file, model}
 use Rattle.blorb.specs.Sound.{Sound}
 use Rattle.blorb.proofs.ModelLaws.{model-file}
@@ -32,11 +32,11 @@ blank-file = refl
 sound : Sound nothing
 sound = record { refs-ok = tt; chunks-ok = tt }
 
-pub blank-accepted : verdict plainRules blankFile ≡ accept
+pub blank-accepted : (profile : ℕ) → verdict (rulesOf profile) blankFile ≡ accept
 unfolding modelFault check _then_ secondIndex refsFault optional chunkRules
-blank-accepted =
-    ap (verdict plainRules) blank-file ∙ verdict-file plainRules nothing sound (unfold inOrder in refl)
-    ∙ ap (λ (n : ℕ). check (leb n 16777216) 1 0 then modelFault plainRules nothing) (ap length (sym blank-file) ∙ length-blank)
+blank-accepted profile =
+    ap (verdict (rulesOf profile)) blank-file ∙ verdict-file (rulesOf profile) nothing sound (unfold inOrder in refl)
+    ∙ ap (λ (n : ℕ). check (leb n 16777216) 1 0 then modelFault (rulesOf profile) nothing) (ap length (sym blank-file) ∙ length-blank)
 
 pub blank-model : model blankFile ≡ nothing
 blank-model = ap model blank-file ∙ model-file nothing sound (omega (arith, ap length blank-file, length-blank))

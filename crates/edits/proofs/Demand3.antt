@@ -2,7 +2,7 @@
 use mathlib.Core.Path.{_≡_, refl, sym, ap as cong, _∙_}
 use Prim.Native.Nat.{ℕ, _+_, _-_, _≤_}
 use mathlib.Core.List.{List, [], _∷_, _++_}
-use mathlib.Core.Bool.{not}
+use mathlib.Core.Bool.{true, not}
 use native.Mathlib.Omega.{arith}
 use lib.ListN.{length, take, length-append}
 use lib.Seq.{take-take, take-append-seam, length-take-le}
@@ -25,7 +25,7 @@ unfolding ledgerUsed ledgerRecords
 used-is f₀ [] = refl
 used-is f₀ (e ∷ es) = simp length-append (cong (λ (n : ℕ). n + length (editRecord (ledgerFile f₀ es) e)) (used-is f₀ es))
 
-module _ (R : Rules) (f₀ : List ℕ) (N J : ℕ) where
+module _ (R : Rules) (f₀ : List ℕ) (N J : ℕ) (known : R .known ≡ true) where
   -- every edit of the list was made on the file before it
   abbrev Valid : List Edit → Type 0
   Valid [] = Good R f₀ × (length f₀ ≤ N)
@@ -81,8 +81,8 @@ module _ (R : Rules) (f₀ : List ℕ) (N J : ℕ) where
   fault-is : (s : State) (es : List Edit) (c : Call) → Valid es → Match s es → fault R s c ≡ ledgerFault R f₀ N J es c
   unfolding fault ledgerFault
   fault-is s es (edit e) v m = rw (m .file-is, m .buffer-length, m .journal-length, m .L-is, m .U-is)
-  fault-is s [] undo v m = rw (m .records-are, m .file-is, m .buffer-length, m .journal-length, m .L-is, m .U-is) (undo-none v)
-  fault-is s (e ∷ es) undo v m = rw (m .records-are, m .file-is, m .buffer-length, m .journal-length, m .L-is, m .U-is) (undo-last e es v)
+  fault-is s [] undo v m = pass _ _ _ _ known ∙ rw (m .records-are, m .file-is, m .buffer-length, m .journal-length, m .L-is, m .U-is) (undo-none v)
+  fault-is s (e ∷ es) undo v m = pass _ _ _ _ known ∙ rw (m .records-are, m .file-is, m .buffer-length, m .journal-length, m .L-is, m .U-is) (undo-last e es v)
 
   -- the state after a successful call
   edit-match : (s : State) (es : List Edit) (e : Edit) → Valid (e ∷ es) → Match s es → Match (afterEdit s e) (e ∷ es)
@@ -133,7 +133,8 @@ module _ (R : Rules) (f₀ : List ℕ) (N J : ℕ) where
     where
       go : (es : List Edit) (c : Call) → CallOk c → Both s es → (v : Verdict) → ledgerFault R f₀ N J es c ≡ v → Both (answered v s (after s c)) (kept v es (ledgerAfter es c))
       go es c ok b (refuse k p) e = b
-      go es (edit d) ok b accept e = let v : Valid (d ∷ es) = (b .valid, ok, e) in record { valid = v; match = edit-match s es d v (b .match) }
+      go es (edit d) ok b accept e =
+          let v : Valid (d ∷ es) = (b .valid, ok, sym (pass _ _ _ _ known) ∙ e) in record { valid = v; match = edit-match s es d v (b .match) }
       go [] undo ok b accept e = let z : _≡_ {A = ℕ} 0 1 = cc in absurd (omega arith)
       go (d ∷ es) undo ok b accept e = record { valid = b .valid .0; match = undo-match s es d (b .valid) (b .match) }
 
@@ -147,7 +148,7 @@ module _ (R : Rules) (f₀ : List ℕ) (N J : ℕ) where
       (λ i. record { result = fault-is s es c (b .valid) (b .match) i; L = n .match .L-is i; U = n .match .U-is i } ∷ r .0 i, r .1)
 
 module _ (R : Rules) (s : State) (cs : List Call) (b : Begins R s) (args : All CallOk cs) where
-  first : Both R (take (s .L) (s .buffer)) (length (s .buffer)) (length (s .journal)) s []
+  first : Both R (take (s .L) (s .buffer)) (length (s .buffer)) (length (s .journal)) (b .known) s []
   unfolding ledgerFile ledgerUsed ledgerRecords
   first =
       let f : List ℕ = take (s .L) (s .buffer) in
@@ -164,8 +165,8 @@ module _ (R : Rules) (s : State) (cs : List Call) (b : Begins R s) (args : All C
       let f : List ℕ = take (s .L) (s .buffer) in
       let N : ℕ = length (s .buffer) in
       let J : ℕ = length (s .journal) in
-      let r = agree R f N J s [] cs args first in
-      let h = holds R f N J (ledgerRun R f N J [] cs) (r .1 .valid) in
+      let r = agree R f N J (b .known) s [] cs args first in
+      let h = holds R f N J (b .known) (ledgerRun R f N J [] cs) (r .1 .valid) in
       record {
         answers-are = r .0;
         L-is = r .1 .match .L-is;

@@ -13,7 +13,7 @@ use Rattle.blorb.specs.Bytes.{rd32, Byte}
 use Rattle.blorb.specs.Tags.{RelN, Fspc}
 use Rattle.blorb.specs.Format.{Ref, Chunk}
 use Rattle.blorb.specs.Verdict.{Verdict, accept, refuse, _then_, check, secondIndex, refFault, verdict}
-use Rattle.blorb.specs.Rules.{plainRules, picture, single, chunkRule, chunkRules, optional}
+use Rattle.blorb.specs.Rules.{rulesOf, picture, single, chunkRule, chunkRules, optional}
 use Rattle.blorb.specs.Model.{Model, base, model, file}
 use Rattle.blorb.specs.Queries.{find, refAt, shared}
 use Rattle.blorb.specs.All.{All}
@@ -67,12 +67,12 @@ unfolding secondIndex
 second at [] = tt
 second at (c ∷ cs) = more _ 27 9 at _ refl (second _ cs)
 
-entries : (cs : List Chunk) (earlier : List Ref) (p : ℕ) (rs : List Ref) → Never 27 (refsFault plainRules cs earlier p rs)
+entries : (profile : ℕ) (cs : List Chunk) (earlier : List Ref) (p : ℕ) (rs : List Ref) → Never 27 (refsFault (rulesOf profile) cs earlier p rs)
 unfolding refsFault refFault
-entries cs earlier p [] = tt
-entries cs earlier p (r ∷ rs) =
+entries profile cs earlier p [] = tt
+entries profile cs earlier p (r ∷ rs) =
     more _ 27 12 p _ refl
-    (both 27 _ _ (more _ 27 14 p _ refl (more _ 27 15 (p + 4) _ refl (other _ 27 16 p refl))) (entries cs _ _ rs))
+    (both 27 _ _ (more _ 27 14 p _ refl (more _ 27 15 (p + 4) _ refl (other _ 27 16 p refl))) (entries profile cs _ _ rs))
 
 chunk : (rs : List Ref) (all earlier : List Chunk) (at : ℕ) (c : Chunk) → Never 27 (chunkRule rs all earlier at c)
 unfolding chunkRule single
@@ -86,9 +86,10 @@ unfolding chunkRules
 chunks rs all earlier at [] = tt
 chunks rs all earlier at (c ∷ cs) = both 27 _ _ (chunk rs all earlier at c) (chunks rs all _ _ cs)
 
-left : (m : Model) → Never 27 (modelFault plainRules m)
+left : (profile : ℕ) (m : Model) → Never 27 (modelFault (rulesOf profile) m)
 unfolding modelFault optional
-left m = both 27 _ _ (second _ (m .chunks)) (more _ 27 11 20 _ refl (both 27 _ _ (entries (m .chunks) [] 24 (m .refs)) (chunks _ _ [] _ (m .chunks))))
+left profile m =
+    both 27 _ _ (second _ (m .chunks)) (more _ 27 11 20 _ refl (both 27 _ _ (entries profile (m .chunks) [] 24 (m .refs)) (chunks _ _ [] _ (m .chunks))))
 
 -- the answer: 20, 22, 23, 100 + k, 24, 25
 hundred-never : (v : Verdict) → Never 27 v → Never 127 (hundred v)
@@ -102,39 +103,40 @@ target-never m (replace u n t d) = more _ 127 22 0 _ refl (other _ 127 23 0 refl
 target-never m (remove u n) = other _ 127 22 0 refl
 
 -- f: an accepted file
-module _ (f : List ℕ) (bytes : All Byte f) (fine : verdict plainRules f ≡ accept) (e : Edit) (args : ArgsOk e) where
-  result-never-27 : Applies (model f) e → Never 27 (verdict plainRules (editedFile f e))
+module _ (profile : ℕ) (f : List ℕ) (bytes : All Byte f) (fine : verdict (rulesOf profile) f ≡ accept) (e : Edit) (args : ArgsOk e) where
+  result-never-27 : Applies (model f) e → Never 27 (verdict (rulesOf profile) (editedFile f e))
   unfolding editedFile
   result-never-27 a =
-      let g = accept-back plainRules f bytes fine in
-      let o : inOrder 0 (model f .refs) ≡ true = file-ordered plainRules (model f) (g .1) (ap (verdict plainRules) (g .0) ∙ fine) in
+      let g = accept-back (rulesOf profile) f bytes fine in
+      let o : inOrder 0 (model f .refs) ≡ true = file-ordered (rulesOf profile) (model f) (g .1) (ap (verdict (rulesOf profile)) (g .0) ∙ fine) in
       let r = edited (model f) e in
-      let v : verdict plainRules (file r) ≡ check (leb (length (file r)) 16777216) 1 0 then modelFault plainRules r
-      = verdict-file plainRules r (edit-sound (model f) e (g .1) args a) (edits-keep-order (model f) e (g .1) o) in
-      rw v (more _ 27 1 0 _ refl (left r))
+      let v : verdict (rulesOf profile) (file r) ≡ check (leb (length (file r)) 16777216) 1 0 then modelFault (rulesOf profile) r
+      = verdict-file (rulesOf profile) r (edit-sound (model f) e (g .1) args a) (edits-keep-order (model f) e (g .1) o) in
+      rw v (more _ 27 1 0 _ refl (left profile r))
 
-  behind : (v w : Verdict) → targetFault (model f) e ≡ v → Never 127 v → Never 127 w → Never 127 (v then hundred (verdict plainRules (editedFile f e)) then w)
+  behind : (v w : Verdict) → targetFault (model f) e ≡ v → Never 127 v → Never 127 w
+      → Never 127 (v then hundred (verdict (rulesOf profile) (editedFile f e)) then w)
   unfolding _then_
   behind accept w q h hw =
-      let v : Verdict = verdict plainRules (editedFile f e) in
+      let v : Verdict = verdict (rulesOf profile) (editedFile f e) in
       both 127 (hundred v) w (hundred-never v (result-never-27 (target-applies (model f) e q))) hw
   behind (refuse k p) w q h hw = h
 
-  answer-never : (N J L U : ℕ) → Never 127 (editFault plainRules N J f L U e)
+  answer-never : (N J L U : ℕ) → Never 127 (editFault (rulesOf profile) N J f L U e)
   unfolding editFault
   answer-never N J L U =
       more _ 127 20 0 _ refl
       (rw fine (unfold _then_ in behind (targetFault (model f) e) _ refl (target-never (model f) e) (more _ 127 24 0 _ refl (other _ 127 25 0 refl))))
 
   -- no edit's result is refused with 27
-  pub result-in-order : (p : ℕ) → Applies (model f) e → verdict plainRules (editedFile f e) ≡ refuse 27 p → ⊥
+  pub result-in-order : (p : ℕ) → Applies (model f) e → verdict (rulesOf profile) (editedFile f e) ≡ refuse 27 p → ⊥
   result-in-order p a q = absurd-by (rw q at (result-never-27 a))
     where
       absurd-by : eqb 27 27 ≡ false → ⊥
       absurd-by h = eqb-false 27 27 h refl
 
   -- no edit is refused with 127
-  pub never-127 : (N J L U p : ℕ) → editFault plainRules N J f L U e ≡ refuse 127 p → ⊥
+  pub never-127 : (N J L U p : ℕ) → editFault (rulesOf profile) N J f L U e ≡ refuse 127 p → ⊥
   never-127 N J L U p q = absurd-by (rw q at (answer-never N J L U))
     where
       absurd-by : eqb 127 127 ≡ false → ⊥

@@ -12,7 +12,7 @@ use lib.Dec.{eqb, leb, ltb}
 use borrow.Author.Tests.{eqb-true, eq-eqb, leb-true, lt-ltb, ltb-true}
 use Rattle.blorb.specs.Format.{Chunk, size, sized, total, isStart, placeOf}
 use Rattle.blorb.specs.Verdict.{accept, noChunk}
-use Rattle.blorb.specs.Rules.{plainRules}
+use Rattle.blorb.specs.Rules.{rulesOf}
 use Rattle.blorb.specs.Model.{Model, base, startOf, file}
 use Rattle.blorb.specs.Queries.{find, refAt, chunkAt, shared, start}
 use Rattle.blorb.specs.Sound.{Sound}
@@ -71,7 +71,7 @@ told1 r m L i =
 abbrev pub told2 : Rec → Model → ℕ → Bool
 told2 r m i = ltb i (length (m .refs)) && (eqb i (r .place) && (eqb (start m (refAt m i .chunk)) (r .start) && not (shared m i)))
 
-module _ (r : Rec) (m : Model) (s : Sound m) (ok : modelFault plainRules m ≡ accept) where
+module _ (profile : ℕ) (r : Rec) (m : Model) (s : Sound m) (ok : modelFault (rulesOf profile) m ≡ accept) where
   abbrev at : ℕ
   at = find (r .usage) (r .number) (m .refs)
 
@@ -85,7 +85,7 @@ module _ (r : Rec) (m : Model) (s : Sound m) (ok : modelFault plainRules m ≡ a
       let k : ℕ = refAt m (r .place) .chunk in
       let e : start m k + (8 + (length (chunkAt m k .body) + length (chunkAt m k .body) % 2)) ≡ length (file m)
       = ap (λ (z : ℕ). start m k + z) (sym (size-is (chunkAt m k))) ∙ ends-last m k (chunk-in m (r .place) s l) (f .last) in
-      ap (told1 r m (length (file m))) (found-at r m ok l (f .usage-is) (f .number-is))
+      ap (told1 r m (length (file m))) (found-at profile r m ok l (f .usage-is) (f .number-is))
       ∙ rw (lt-ltb (r .place) (length (m .refs)) l, eq-eqb (r .place) (r .place) refl, eq-eqb (length (m .refs)) (r .place + 1) (omega (arith, f .count)), eq-eqb _ _ e, f .alone)
 
   told1-fits : told1 r m (length (file m)) at ≡ true → fits1 r m ≡ true
@@ -109,7 +109,7 @@ module _ (r : Rec) (m : Model) (s : Sound m) (ok : modelFault plainRules m ≡ a
   fits2-tells : fits2 r m ≡ true → told2 r m at ≡ true
   fits2-tells fit =
       let f = fits2-facts r m fit in
-      ap (told2 r m) (found-at r m ok (f .inside) (f .usage-is) (f .number-is))
+      ap (told2 r m) (found-at profile r m ok (f .inside) (f .usage-is) (f .number-is))
       ∙ rw (lt-ltb (r .place) (length (m .refs)) (f .inside), eq-eqb (r .place) (r .place) refl, eq-eqb (start m (refAt m (r .place) .chunk)) (r .start) (f .starts), f .alone)
 
   told2-fits : told2 r m at ≡ true → fits2 r m ≡ true

@@ -11,7 +11,7 @@ use borrow.Author.Tests.{lt-ltb, le-ltb, leb-true, leb-false}
 use Rattle.blorb.specs.Format.{Ref, Chunk, size, total}
 use Rattle.blorb.specs.Tags.{RIdx, Pict, Exec, Rect, Fspc}
 use Rattle.blorb.specs.Verdict.{Rules, accept, noChunk, pairIn, refFault, secondIndex, knownUsage, verdict}
-use Rattle.blorb.specs.Rules.{plainAllows, picture, typeIn, optional, plainRules}
+use Rattle.blorb.specs.Rules.{allows, picture, typeIn, optional, rulesOf}
 use Rattle.blorb.specs.Model.{Model, base, file}
 use Rattle.blorb.specs.Queries.{find, frontNumber}
 use Rattle.blorb.specs.All.{All}
@@ -25,7 +25,7 @@ use Rattle.edits.specs.Run.{accepted}
 use Rattle.edits.proofs.AddVerdict.{second-any}
 use Rattle.edits.proofs.Starts.{map-append}
 use Rattle.edits.proofs.FaultLaws.{pair-found}
-use Rattle.edits.proofs.RuleSeven.{plain-plain}
+use Rattle.edits.proofs.RuleSeven.{allowed-plain}
 use Rattle.edits.proofs.FrontLaws.{Like, like-self, like-with, optional-like, front-picture}
 use Rattle.edits.proofs.UndoVerdict.{accepted-then, accepted-check, refs-with}
 use Rattle.edits.proofs.JudgedLaws.{model-parts, accepted-file, accepted-front}
@@ -119,19 +119,19 @@ second-with at at′ (x ∷ cs) (suc k) c ok =
     ap accepted (pass _ _ _ _ (check-accept _ _ _ (p .0))) ∙ second-with (at + size x) (at′ + size x) cs k c (p .1)
 
 -- 12 and 14 to 16 of an entry (u, n) on chunk c, rs being the others
-abbrev pub entryTests : ℕ → ℕ → Chunk → List Ref → Bool
-entryTests u n c rs = knownUsage u && (plainAllows u c && ((not (eqb u Exec) || eqb n 0) && not (pairIn u n rs)))
+abbrev pub entryTests : (profile : ℕ) → ℕ → ℕ → Chunk → List Ref → Bool
+entryTests profile u n c rs = knownUsage u && (allows profile u c && ((not (eqb u Exec) || eqb n 0) && not (pairIn u n rs)))
 
 -- the last of them by the place that the reader gives for the pair
-pub entry-new : (u n : ℕ) (c : Chunk) (rs : List Ref) → length rs ≤ find u n rs → entryTests u n c rs ≡ (knownUsage u && (plainAllows u c && (not (eqb u Exec) || eqb n 0)))
-entry-new u n c rs h =
+pub entry-new : (profile u n : ℕ) (c : Chunk) (rs : List Ref) → length rs ≤ find u n rs → entryTests profile u n c rs ≡ (knownUsage u && (allows profile u c && (not (eqb u Exec) || eqb n 0)))
+entry-new profile u n c rs h =
     let e : pairIn u n rs ≡ false = pair-found u n rs ∙ le-ltb (find u n rs) (length rs) h in
     rw (e, and-true (not (eqb u Exec) || eqb n 0))
 
-pub entry-twice : (u n : ℕ) (c : Chunk) (rs : List Ref) → find u n rs < length rs → entryTests u n c rs ≡ false
-entry-twice u n c rs h =
+pub entry-twice : (profile u n : ℕ) (c : Chunk) (rs : List Ref) → find u n rs < length rs → entryTests profile u n c rs ≡ false
+entry-twice profile u n c rs h =
     let e : pairIn u n rs ≡ true = pair-found u n rs ∙ lt-ltb (find u n rs) (length rs) h in
-    rw e (none (knownUsage u) (plainAllows u c) (not (eqb u Exec) || eqb n 0))
+    rw e (none (knownUsage u) (allows profile u c) (not (eqb u Exec) || eqb n 0))
   where
     none : (a b c : Bool) → a && (b && (c && false)) ≡ false
     none true true true = refl
@@ -139,12 +139,12 @@ entry-twice u n c rs h =
     none true false c = refl
     none false b c = refl
 
-entry-tests : (cs : List Chunk) (i : ℕ) (x : Ref) (rs : List Ref) → refsFault plainRules cs [] 24 rs ≡ accept
-    → accepted (refsFault plainRules cs [] 24 (with-at i x rs)) ≡ entryTests (x .usage) (x .number) (getD cs (x .chunk) noChunk) rs
+entry-tests : (profile : ℕ) (cs : List Chunk) (i : ℕ) (x : Ref) (rs : List Ref) → refsFault (rulesOf profile) cs [] 24 rs ≡ accept
+    → accepted (refsFault (rulesOf profile) cs [] 24 (with-at i x rs)) ≡ entryTests profile (x .usage) (x .number) (getD cs (x .chunk) noChunk) rs
 unfolding pairIn
-entry-tests cs i x rs ok =
-    refs-with plainRules cs x [] 24 i rs ok
-    ∙ turn (knownUsage (x .usage)) (plainAllows (x .usage) (getD cs (x .chunk) noChunk)) (not (eqb (x .usage) Exec) || eqb (x .number) 0) (not (pairIn (x .usage) (x .number) rs))
+entry-tests profile cs i x rs ok =
+    refs-with (rulesOf profile) cs x [] 24 i rs ok
+    ∙ turn (knownUsage (x .usage)) (allows profile (x .usage) (getD cs (x .chunk) noChunk)) (not (eqb (x .usage) Exec) || eqb (x .number) 0) (not (pairIn (x .usage) (x .number) rs))
   where
     turn : (a b c d : Bool) → (a && (b && c)) && d ≡ a && (b && (c && d))
     turn true true c d = refl
@@ -164,7 +164,7 @@ front-stays at at′ rs rs′ a b l h f =
     go true e = ap (λ (z : Bool). not (not z)) (f (front-picture at rs a h e))
 
 -- an entry put in at i
-module _ (m : Model) (i k u n : ℕ) (s : Sound m) (ok : modelFault plainRules m ≡ accept) (fits : RefOk (length (m .chunks)) (record { usage = u; number = n; chunk = k })) where
+module _ (profile : ℕ) (m : Model) (i k u n : ℕ) (s : Sound m) (ok : modelFault (rulesOf profile) m ≡ accept) (fits : RefOk (length (m .chunks)) (record { usage = u; number = n; chunk = k })) where
   abbrev new : Ref
   new = record { usage = u; number = n; chunk = k }
 
@@ -176,25 +176,25 @@ module _ (m : Model) (i k u n : ℕ) (s : Sound m) (ok : modelFault plainRules m
   unfolding entered base
   entered-length = rw (length-file (entered m i k u n), length-file m) (omega (arith, length-with i new (m .refs)))
 
-  pub entered-accepted : accepted (verdict plainRules (file (entered m i k u n)))
+  pub entered-accepted : accepted (verdict (rulesOf profile) (file (entered m i k u n)))
       ≡ (inOrder 0 (entered m i k u n .refs)
-      && (leb (length (file m) + 12) 16777216 && (leb (suc (length (m .refs))) 4096 && entryTests u n (getD (m .chunks) k noChunk) (m .refs))))
+      && (leb (length (file m) + 12) 16777216 && (leb (suc (length (m .refs))) 4096 && entryTests profile u n (getD (m .chunks) k noChunk) (m .refs))))
   unfolding entered
   entered-accepted =
-      let p = model-parts m ok in
+      let p = model-parts profile m ok in
       let at : ℕ = base (length (m .refs)) in
       let at′ : ℕ = base (suc (length (m .refs))) in
       let rs′ : List Ref = with-at i new (m .refs) in
-      accepted-file (entered m i k u n) entered-sound
+      accepted-file profile (entered m i k u n) entered-sound
       ∙ rw (
         entered-length,
         length-with i new (m .refs),
         second-any at at′ (m .chunks) (p .no-second),
-        entry-tests (m .chunks) i new (m .refs) (p .entries-fine),
+        entry-tests profile (m .chunks) i new (m .refs) (p .entries-fine),
         front-stays at at′ (m .refs) rs′ (m .chunks) (m .chunks) (like-self (m .chunks)) (p .seven) (picture-with (frontNumber (m .chunks)) (m .chunks) i new (m .refs)),
       )
       (ap (λ (b : Bool). inOrder 0 rs′ && (leb (length (file m) + 12) 16777216 && (leb (suc (length (m .refs))) 4096 && b)))
-      (and-true (entryTests u n (getD (m .chunks) k noChunk) (m .refs))))
+      (and-true (entryTests profile u n (getD (m .chunks) k noChunk) (m .refs))))
 
 -- an entry put in at i and its chunk at k
 raise-ok : (k n : ℕ) (r : Ref) → RefOk n r → RefOk (suc n) (raise k r)
@@ -205,7 +205,7 @@ raise-ok k n r ok = record { usage-fits = ok .usage-fits; number-fits = ok .numb
     go true = omega (arith, ok .chunk-there)
     go false = omega (arith, ok .chunk-there)
 
-module _ (m : Model) (i k u n : ℕ) (c : Chunk) (s : Sound m) (ok : modelFault plainRules m ≡ accept) (here : k ≤ length (m .chunks)) where
+module _ (profile : ℕ) (m : Model) (i k u n : ℕ) (c : Chunk) (s : Sound m) (ok : modelFault (rulesOf profile) m ≡ accept) (here : k ≤ length (m .chunks)) where
   abbrev x : Ref
   x = record { usage = u; number = n; chunk = k }
 
@@ -232,25 +232,25 @@ module _ (m : Model) (i k u n : ℕ) (c : Chunk) (s : Sound m) (ok : modelFault 
   unfolding inserted base
   inserted-length = rw (length-file (inserted m i k u n c), length-file m) (omega (arith, inserted-count, total-with k c (m .chunks)))
 
-  pub inserted-accepted : u < W → n < W → c .type < W → accepted (verdict plainRules (file (inserted m i k u n c)))
+  pub inserted-accepted : u < W → n < W → c .type < W → accepted (verdict (rulesOf profile) (file (inserted m i k u n c)))
       ≡ (inOrder 0 (inserted m i k u n c .refs)
-      && (leb (length (file m) + 12 + size c) 16777216 && (not (eqb (c .type) RIdx) && (leb (suc (length (m .refs))) 4096 && entryTests u n c (m .refs)))))
+      && (leb (length (file m) + 12 + size c) 16777216 && (not (eqb (c .type) RIdx) && (leb (suc (length (m .refs))) 4096 && entryTests profile u n c (m .refs)))))
   unfolding inserted
   inserted-accepted hu hn ht =
-      let p = model-parts m ok in
+      let p = model-parts profile m ok in
       let at : ℕ = base (length (m .refs)) in
       let at′ : ℕ = base (suc (length (m .refs))) in
-      let e : accepted (refsFault plainRules cs′ [] 24 (with-at i x up)) ≡ entryTests u n c (m .refs)
-      = entry-tests cs′ i x up (refs-raise plainRules (m .chunks) k c [] 24 (m .refs) here ∙ p .entries-fine)
+      let e : accepted (refsFault (rulesOf profile) cs′ [] 24 (with-at i x up)) ≡ entryTests profile u n c (m .refs)
+      = entry-tests profile cs′ i x up (refs-raise (rulesOf profile) (m .chunks) k c [] 24 (m .refs) here ∙ p .entries-fine)
       ∙ rw (getD-with-same k c (m .chunks) noChunk here, pair-raise k u n (m .refs)) in
-      let q : plainAllows u c ≡ true → accepted (optional at′ (with-at i x up) cs′) ≡ true
-      = λ pl. front-stays at at′ (m .refs) (with-at i x up) (m .chunks) cs′ (like-with (m .chunks) k c (plain-plain u c pl)) (p .seven)
+      let q : allows profile u c ≡ true → accepted (optional at′ (with-at i x up) cs′) ≡ true
+      = λ pl. front-stays at at′ (m .refs) (with-at i x up) (m .chunks) cs′ (like-with (m .chunks) k c (allowed-plain profile u c pl)) (p .seven)
       (λ h. picture-with (frontNumber (m .chunks)) cs′ i x up (picture-raise (frontNumber (m .chunks)) (m .chunks) k c (m .refs) here ∙ h)) in
-      accepted-file (inserted m i k u n c) (inserted-sound hu hn ht)
+      accepted-file profile (inserted m i k u n c) (inserted-sound hu hn ht)
       ∙ rw (inserted-length, inserted-count, second-with at at′ (m .chunks) k c (p .no-second), e)
       (ap (λ (b : Bool). inOrder 0 (with-at i x up)
       && (leb (length (file m) + 12 + size c) 16777216 && (not (eqb (c .type) RIdx) && (leb (suc (length (m .refs))) 4096 && b))))
-      (last (knownUsage u) (plainAllows u c) ((not (eqb u Exec) || eqb n 0) && not (pairIn u n (m .refs))) (accepted (optional at′ (with-at i x up) cs′)) q))
+      (last (knownUsage u) (allows profile u c) ((not (eqb u Exec) || eqb n 0) && not (pairIn u n (m .refs))) (accepted (optional at′ (with-at i x up) cs′)) q))
     where
       last : (a b c z : Bool) → (b ≡ true → z ≡ true) → (a && (b && c)) && z ≡ a && (b && c)
       last true true c z f = rw (f refl) (and-true c)

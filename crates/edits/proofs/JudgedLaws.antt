@@ -10,7 +10,7 @@ use borrow.Author.Tests.{leb-true, lt-ltb}
 use Rattle.blorb.specs.Format.{Ref, Chunk}
 use Rattle.blorb.specs.Verdict.{Rules, Verdict, accept, refuse, check, noChunk, pairIn, refFault, secondIndex, verdict}
 use Rattle.blorb.specs.Tags.{Pict, Fspc}
-use Rattle.blorb.specs.Rules.{typeIn, optional, plainRules}
+use Rattle.blorb.specs.Rules.{typeIn, optional, rulesOf}
 use Rattle.blorb.specs.Model.{Model, base, file}
 use Rattle.blorb.specs.Queries.{find, noRef, frontNumber}
 use Rattle.blorb.proofs.AllLaws.{all-getD}
@@ -21,46 +21,46 @@ use Rattle.edits.specs.Run.{accepted}
 use Rattle.edits.proofs.FaultLaws.{pair-found}
 use Rattle.edits.proofs.FrontLaws.{pairs-once, pair-right}
 use Rattle.edits.proofs.ReadBack.{same}
-use Rattle.edits.proofs.RuleSeven.{Plain, plain-plain}
+use Rattle.edits.proofs.RuleSeven.{Plain, allowed-plain}
 use Rattle.edits.proofs.UndoVerdict.{accepted-then, accepted-check}
 
 -- what an accepted model tells
-pub record Parts (m : Model) : Type 0 where
+pub record Parts (profile : ℕ) (m : Model) : Type 0 where
   pub no-second : secondIndex (base (length (m .refs))) (m .chunks) ≡ accept
   pub few : length (m .refs) ≤ 4096
-  pub entries-fine : refsFault plainRules (m .chunks) [] 24 (m .refs) ≡ accept
+  pub entries-fine : refsFault (rulesOf profile) (m .chunks) [] 24 (m .refs) ≡ accept
   pub seven : optional (base (length (m .refs))) (m .refs) (m .chunks) ≡ accept
 
-pub model-parts : (m : Model) → modelFault plainRules m ≡ accept → Parts m
+pub model-parts : (profile : ℕ) (m : Model) → modelFault (rulesOf profile) m ≡ accept → Parts profile m
 unfolding modelFault
-model-parts m ok =
+model-parts profile m ok =
     let a = then-accept _ _ ok in
     let b = then-accept _ _ (a .1) in
     let c = then-accept _ _ (b .1) in
     record { no-second = a .0; few = leb-true _ _ (check-accept _ _ _ (b .0)); entries-fine = c .0; seven = c .1 }
 
 -- the verdict on a sound model's file, as a test
-pub accepted-ordered : (m : Model) → Sound m → inOrder 0 (m .refs) ≡ true → accepted (verdict plainRules (file m))
+pub accepted-ordered : (profile : ℕ) (m : Model) → Sound m → inOrder 0 (m .refs) ≡ true → accepted (verdict (rulesOf profile) (file m))
     ≡ (leb (length (file m)) 16777216 && (accepted (secondIndex (base (length (m .refs))) (m .chunks)) && (leb (length (m .refs)) 4096
-    && (accepted (refsFault plainRules (m .chunks) [] 24 (m .refs)) && accepted (optional (base (length (m .refs))) (m .refs) (m .chunks))))))
+    && (accepted (refsFault (rulesOf profile) (m .chunks) [] 24 (m .refs)) && accepted (optional (base (length (m .refs))) (m .refs) (m .chunks))))))
 unfolding modelFault
-accepted-ordered m s o = ap accepted (verdict-file plainRules m s o) ∙ simp (accepted-then, accepted-check)
+accepted-ordered profile m s o = ap accepted (verdict-file (rulesOf profile) m s o) ∙ simp (accepted-then, accepted-check)
 
 -- of any order
-pub accepted-file : (m : Model) → Sound m → accepted (verdict plainRules (file m))
+pub accepted-file : (profile : ℕ) (m : Model) → Sound m → accepted (verdict (rulesOf profile) (file m))
     ≡ (inOrder 0 (m .refs) && (leb (length (file m)) 16777216 && (accepted (secondIndex (base (length (m .refs))) (m .chunks)) && (leb (length (m .refs)) 4096
-    && (accepted (refsFault plainRules (m .chunks) [] 24 (m .refs)) && accepted (optional (base (length (m .refs))) (m .refs) (m .chunks)))))))
-accepted-file m s = go (inOrder 0 (m .refs)) refl
+    && (accepted (refsFault (rulesOf profile) (m .chunks) [] 24 (m .refs)) && accepted (optional (base (length (m .refs))) (m .refs) (m .chunks)))))))
+accepted-file profile m s = go (inOrder 0 (m .refs)) refl
   where
     refused : (v : Verdict) → (v ≡ accept → inOrder 0 (m .refs) ≡ true) → inOrder 0 (m .refs) ≡ false → accepted v ≡ false
     refused accept h o = sym (h refl) ∙ o
     refused (refuse k p) h o = refl
 
-    go : (b : Bool) → inOrder 0 (m .refs) ≡ b → accepted (verdict plainRules (file m))
+    go : (b : Bool) → inOrder 0 (m .refs) ≡ b → accepted (verdict (rulesOf profile) (file m))
         ≡ (b && (leb (length (file m)) 16777216 && (accepted (secondIndex (base (length (m .refs))) (m .chunks)) && (leb (length (m .refs)) 4096
-        && (accepted (refsFault plainRules (m .chunks) [] 24 (m .refs)) && accepted (optional (base (length (m .refs))) (m .refs) (m .chunks)))))))
-    go true o = accepted-ordered m s o
-    go false o = refused (verdict plainRules (file m)) (λ h. file-ordered plainRules m s h) o
+        && (accepted (refsFault (rulesOf profile) (m .chunks) [] 24 (m .refs)) && accepted (optional (base (length (m .refs))) (m .refs) (m .chunks)))))))
+    go true o = accepted-ordered profile m s o
+    go false o = refused (verdict (rulesOf profile) (file m)) (λ h. file-ordered (rulesOf profile) m s h) o
 
 pub accepted-front : (b t : Bool) (p : ℕ) → accepted (cond b (check t 19 p) accept) ≡ not (b && not t)
 accepted-front true t p = accepted-check t 19 p ∙ sym (not-not t)
@@ -94,8 +94,9 @@ find-at R cs e p u n (suc i) (r ∷ rs) ok l h =
 pub chunk-in : (m : Model) (i : ℕ) → Sound m → i < length (m .refs) → getD (m .refs) i noRef .chunk < length (m .chunks)
 chunk-in m i s h = all-getD (RefOk (length (m .chunks))) (m .refs) i noRef (s .refs-ok) h .chunk-there
 
-pub chunk-plain : (cs : List Chunk) (e : List Ref) (p : ℕ) (rs : List Ref) (i : ℕ) → refsFault plainRules cs e p rs ≡ accept → i < length rs → Plain (getD cs (getD rs i noRef .chunk) noChunk)
+pub chunk-plain : (profile : ℕ) (cs : List Chunk) (e : List Ref) (p : ℕ) (rs : List Ref) (i : ℕ) → refsFault (rulesOf profile) cs e p rs ≡ accept → i < length rs → Plain (getD cs (getD rs i noRef .chunk) noChunk)
 unfolding refsFault refFault
-chunk-plain cs e p [] i ok h = absurd (not-suc-le-zero h)
-chunk-plain cs e p (r ∷ rs) zero ok h = plain-plain (r .usage) (getD cs (r .chunk) noChunk) (check-accept _ _ _ (then-accept _ _ (then-accept _ _ (then-accept _ _ ok .1) .0) .0))
-chunk-plain cs e p (r ∷ rs) (suc i) ok h = chunk-plain cs (e ++ (r ∷ [])) (p + 12) rs i (then-accept _ _ (then-accept _ _ ok .1) .1) (le-of-suc-le-suc h)
+chunk-plain profile cs e p [] i ok h = absurd (not-suc-le-zero h)
+chunk-plain profile cs e p (r ∷ rs) zero ok h = allowed-plain profile (r .usage) (getD cs (r .chunk) noChunk) (check-accept _ _ _ (then-accept _ _ (then-accept _ _ (then-accept _ _ ok .1) .0) .0))
+chunk-plain profile cs e p (r ∷ rs) (suc i) ok h =
+    chunk-plain profile cs (e ++ (r ∷ [])) (p + 12) rs i (then-accept _ _ (then-accept _ _ ok .1) .1) (le-of-suc-le-suc h)

@@ -3,6 +3,7 @@ pub mod UndoLaws
 pub mod FitLaws
 pub mod JournalLaws
 pub mod RunLaws
+pub mod UnknownProfile
 pub mod Demand3
 pub mod Starts
 pub mod OrderLaws

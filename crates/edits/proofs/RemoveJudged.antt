@@ -11,7 +11,7 @@ use borrow.Author.Tests.{eq-eqb, le-leb}
 use Rattle.blorb.specs.Format.{Ref, Chunk, size}
 use Rattle.blorb.specs.Verdict.{accept, noChunk, secondIndex, verdict}
 use Rattle.blorb.specs.Tags.{Pict, Rect, Fspc}
-use Rattle.blorb.specs.Rules.{picture, typeIn, optional, plainRules}
+use Rattle.blorb.specs.Rules.{picture, typeIn, optional, rulesOf}
 use Rattle.blorb.specs.Model.{Model, base, file}
 use Rattle.blorb.specs.Queries.{find, noRef, refAt, chunkAt, without, uses, shared, frontNumber}
 use Rattle.blorb.proofs.AllLaws.{all-getD}
@@ -58,19 +58,21 @@ picture-lower q cs k (r ∷ rs) h =
     let o = or-false (eqb (r .chunk) k) (uses k rs) h in
     rw (same-chunk cs k r (o .0), picture-lower q cs k rs (o .1)) (unfold lower in refl)
 
-pub picture-without : (q : ℕ) (cs : List Chunk) (i : ℕ) (rs : List Ref) → refsFault plainRules cs [] 24 rs ≡ accept → i < length rs → picture q cs rs ≡ true
+pub picture-without : (profile q : ℕ) (cs : List Chunk) (i : ℕ) (rs : List Ref) → refsFault (rulesOf profile) cs [] 24 rs ≡ accept → i < length rs
+    → picture q cs rs ≡ true
     → not (picture q cs (without i rs)) ≡ same (getD rs i noRef) Pict q
-picture-without q cs i rs ok l h = go (same (getD rs i noRef) Pict q) refl
+picture-without profile q cs i rs ok l h = go (same (getD rs i noRef) Pict q) refl
   where
     go : (b : Bool) → same (getD rs i noRef) Pict q ≡ b → not (picture q cs (without i rs)) ≡ b
-    go true e = ap not (picture-none q cs (without i rs) (pair-gone plainRules cs [] 24 Pict q i rs ok l e))
+    go true e = ap not (picture-none q cs (without i rs) (pair-gone (rulesOf profile) cs [] 24 Pict q i rs ok l e))
     go false e = ap not (picture-less q cs i rs l e h)
 
 front-gone : (b t x : Bool) → (b ≡ true → not t ≡ x) → not (b && not t) ≡ not (b && x)
 front-gone true t x f = ap not (f refl)
 front-gone false t x f = refl
 
-module _ (m : Model) (i : ℕ) (s : Sound m) (ok : modelFault plainRules m ≡ accept) (h : i < length (m .refs)) (alone : shared m i ≡ false) where
+module _ (profile : ℕ) (m : Model) (i : ℕ) (s : Sound m) (ok : modelFault (rulesOf profile) m ≡ accept) (h : i < length (m .refs))
+    (alone : shared m i ≡ false) where
   abbrev k : ℕ
   k = refAt m i .chunk
 
@@ -84,15 +86,15 @@ module _ (m : Model) (i : ℕ) (s : Sound m) (ok : modelFault plainRules m ≡ a
       ≡ not (isFront (m .chunks) (refAt m i .usage) (refAt m i .number))
   unfolding removedBoth shared
   front-removed =
-      let p = model-parts m ok in
+      let p = model-parts profile m ok in
       let rs′ : List Ref = map (lower k) (without i rs) in
-      ap accepted (optional-like (base (length rs)) (base (length rs′)) rs rs′ cs (without k cs) (like-without cs k (chunk-in m i s h) (chunk-plain cs [] 24 rs i (p .entries-fine) h)) (p .seven))
+      ap accepted (optional-like (base (length rs)) (base (length rs′)) rs rs′ cs (without k cs) (like-without cs k (chunk-in m i s h) (chunk-plain profile cs [] 24 rs i (p .entries-fine) h)) (p .seven))
       ∙ accepted-front (typeIn Fspc cs) (picture (frontNumber cs) (without k cs) rs′) _
       ∙ front-gone (typeIn Fspc cs) (picture (frontNumber cs) (without k cs) rs′) (same (refAt m i) Pict (frontNumber cs))
-      (λ e. ap not (picture-lower (frontNumber cs) cs k (without i rs) alone) ∙ picture-without (frontNumber cs) cs i rs (p .entries-fine) h (front-picture (base (length rs)) rs cs (p .seven) e))
+      (λ e. ap not (picture-lower (frontNumber cs) cs k (without i rs) alone) ∙ picture-without profile (frontNumber cs) cs i rs (p .entries-fine) h (front-picture (base (length rs)) rs cs (p .seven) e))
 
   found : find (refAt m i .usage) (refAt m i .number) (m .refs) ≡ i
-  found = find-at plainRules cs [] 24 (refAt m i .usage) (refAt m i .number) i rs (model-parts m ok .entries-fine) h
+  found = find-at (rulesOf profile) cs [] 24 (refAt m i .usage) (refAt m i .number) i rs (model-parts profile m ok .entries-fine) h
       (rw (eq-eqb (refAt m i .usage) (refAt m i .usage) refl, eq-eqb (refAt m i .number) (refAt m i .number) refl))
 
   entry-fits : RefOk (length (m .chunks)) (refAt m i)
@@ -116,16 +118,16 @@ module _ (m : Model) (i : ℕ) (s : Sound m) (ok : modelFault plainRules m ≡ a
 
   -- the file without them is accepted unless the frontispiece's picture goes
   pub removed-accepted : length (file m) ≤ 16777216 → inOrder 0 (m .refs) ≡ true
-      → accepted (verdict plainRules (file (removed m i))) ≡ not (isFront (m .chunks) (refAt m i .usage) (refAt m i .number))
+      → accepted (verdict (rulesOf profile) (file (removed m i))) ≡ not (isFront (m .chunks) (refAt m i .usage) (refAt m i .number))
   removed-accepted short ord =
-      let p = model-parts m ok in
+      let p = model-parts profile m ok in
       let x : Model = removedBoth m i (refAt m i .chunk) in
       let few : length (x .refs) ≤ 4096 = omega (arith, length-remaining m i (refAt m i .chunk) h, p .few) in
       let le : length (file x) ≤ 16777216 = omega (arith, length-removed m i k h (chunk-in m i s h)) in
       let a : secondIndex (base (length (x .refs))) (x .chunks) ≡ accept
       = (unfold removedBoth in second-without (base (length rs)) (base (length (map (lower k) (without i rs)))) cs k (p .no-second)) in
       let o : inOrder 0 (x .refs) ≡ true = (unfold removedBoth in order-removed k i rs ord) in
-      let b : refsFault plainRules (x .chunks) [] 24 (x .refs) ≡ accept = (unfold removedBoth shared in refs-removed plainRules cs k i rs alone (p .entries-fine)) in
-      ap (λ (z : Model). accepted (verdict plainRules (file z))) removed-both
-      ∙ accepted-ordered x (rw removed-both at removed-sound) o
+      let b : refsFault (rulesOf profile) (x .chunks) [] 24 (x .refs) ≡ accept = (unfold removedBoth shared in refs-removed (rulesOf profile) cs k i rs alone (p .entries-fine)) in
+      ap (λ (z : Model). accepted (verdict (rulesOf profile) (file z))) removed-both
+      ∙ accepted-ordered profile x (rw removed-both at removed-sound) o
       ∙ rw (le-leb (length (file x)) 16777216 le, a, le-leb (length (x .refs)) 4096 few, b) front-removed

@@ -11,7 +11,7 @@ use borrow.Author.Tests.{le-leb}
 use Rattle.blorb.specs.Tags.{RIdx, Pict, Rect, Fspc}
 use Rattle.blorb.specs.Format.{Chunk, size, chunkOf}
 use Rattle.blorb.specs.Verdict.{Verdict, accept, _then_, check, noChunk, secondIndex, verdict}
-use Rattle.blorb.specs.Rules.{plainAllows, typeIn, optional, plainRules}
+use Rattle.blorb.specs.Rules.{allows, typeIn, optional, rulesOf}
 use Rattle.blorb.specs.Model.{Model, base, file}
 use Rattle.blorb.specs.Queries.{find, refAt, chunkAt, shared, frontNumber}
 use Rattle.blorb.specs.Sound.{W, Sound}
@@ -24,7 +24,7 @@ use Rattle.edits.proofs.AddVerdict.{second-any, then-end}
 use Rattle.edits.proofs.FitLaws.{replaced-sound, find-pair}
 use Rattle.edits.proofs.Lengths.{length-replaced}
 use Rattle.edits.proofs.ReplaceVerdict.{refs-replaced}
-use Rattle.edits.proofs.RuleSeven.{plain-plain}
+use Rattle.edits.proofs.RuleSeven.{allowed-plain}
 use Rattle.edits.proofs.FrontLaws.{optional-replaced}
 use Rattle.edits.proofs.UndoVerdict.{accepted-check}
 use Rattle.edits.proofs.BoolLaws.{and-where}
@@ -41,21 +41,21 @@ second-set at at′ (x ∷ cs) (suc k) c h ok =
     let p = then-accept _ _ ok in
     ap accepted (pass _ _ _ _ (check-accept _ _ _ (p .0))) ∙ second-set (at + size x) (at′ + size x) cs k c (le-of-suc-le-suc h) (p .1)
 
-module _ (m : Model) (u n t : ℕ) (d : List ℕ) (s : Sound m) (ok : modelFault plainRules m ≡ accept) (h : find u n (m .refs) < length (m .refs)) (alone : shared m (find u n (m .refs)) ≡ false) where
+module _ (profile : ℕ) (m : Model) (u n t : ℕ) (d : List ℕ) (s : Sound m) (ok : modelFault (rulesOf profile) m ≡ accept) (h : find u n (m .refs) < length (m .refs)) (alone : shared m (find u n (m .refs)) ≡ false) where
   abbrev place : ℕ
   place = find u n (m .refs)
 
   abbrev own : ℕ
   own = refAt m (find u n (m .refs)) .chunk
 
-  front-replaced : plainAllows u (chunkOf t d) ≡ true
+  front-replaced : allows profile u (chunkOf t d) ≡ true
       → accepted (optional (base (length (m .refs))) (m .refs) (set (m .chunks) own (chunkOf t d))) ≡ not (isFront (m .chunks) u n && eqb t Rect)
   unfolding shared
   front-replaced pl =
-      let p = model-parts m ok in
+      let p = model-parts profile m ok in
       let there = chunk-in m place s h in
-      ap accepted (optional-replaced plainRules (base (length (m .refs))) (base (length (m .refs))) (m .chunks) (m .refs) u n (chunkOf t d) (p .entries-fine) (p .seven) h alone there
-      (chunk-plain (m .chunks) [] 24 (m .refs) place (p .entries-fine) h) (plain-plain u (chunkOf t d) pl))
+      ap accepted (optional-replaced (rulesOf profile) (base (length (m .refs))) (base (length (m .refs))) (m .chunks) (m .refs) u n (chunkOf t d) (p .entries-fine) (p .seven) h alone there
+      (chunk-plain profile (m .chunks) [] 24 (m .refs) place (p .entries-fine) h) (allowed-plain profile u (chunkOf t d) pl))
       ∙ accepted-front (typeIn Fspc (m .chunks)) (not ((eqb u Pict && eqb n (frontNumber (m .chunks))) && eqb t Rect)) _
       ∙ turn (typeIn Fspc (m .chunks)) (eqb u Pict && eqb n (frontNumber (m .chunks))) (eqb t Rect)
     where
@@ -70,24 +70,24 @@ module _ (m : Model) (u n t : ℕ) (d : List ℕ) (s : Sound m) (ok : modelFault
       let there = chunk-in m place s h in
       omega (arith, length-replaced m own (chunkOf t d) there, size-getD (m .chunks) own noChunk there, length-file m)
 
-  pub replaced-accepted : t < W → inOrder 0 (m .refs) ≡ true → accepted (verdict plainRules (file (replaced m own (chunkOf t d))))
-      ≡ (leb (length (file m) - size (chunkAt m own) + size (chunkOf t d)) 16777216 && (not (eqb t RIdx) && (plainAllows u (chunkOf t d) && not (isFront (m .chunks) u n && eqb t Rect))))
+  pub replaced-accepted : t < W → inOrder 0 (m .refs) ≡ true → accepted (verdict (rulesOf profile) (file (replaced m own (chunkOf t d))))
+      ≡ (leb (length (file m) - size (chunkAt m own) + size (chunkOf t d)) 16777216 && (not (eqb t RIdx) && (allows profile u (chunkOf t d) && not (isFront (m .chunks) u n && eqb t Rect))))
   replaced-accepted ht ord =
-      let p = model-parts m ok in
+      let p = model-parts profile m ok in
       let there = chunk-in m place s h in
       let x : Model = replaced m own (chunkOf t d) in
       let sd : Sound x = replaced-sound m own (chunkOf t d) s (record { type-fits = ht }) in
       let a : accepted (secondIndex (base (length (x .refs))) (x .chunks)) ≡ not (eqb t RIdx)
       = (unfold replaced in second-set (base (length (m .refs))) (base (length (m .refs))) (m .chunks) own (chunkOf t d) there (p .no-second)) in
       let few : length (x .refs) ≤ 4096 = (unfold replaced in p .few) in
-      let b : accepted (refsFault plainRules (x .chunks) [] 24 (x .refs)) ≡ plainAllows u (chunkOf t d)
+      let b : accepted (refsFault (rulesOf profile) (x .chunks) [] 24 (x .refs)) ≡ allows profile u (chunkOf t d)
       = (unfold replaced shared in
-      ap accepted (refs-replaced plainRules (m .chunks) own (chunkOf t d) there [] 24 (m .refs) place h refl alone (p .entries-fine))
-      ∙ accepted-check (plainAllows (refAt m place .usage) (chunkOf t d)) 14 (24 + 12 * place)
-      ∙ ap (λ (z : ℕ). plainAllows z (chunkOf t d)) (find-pair u n (m .refs) h .0)) in
-      let q : plainAllows u (chunkOf t d) ≡ true → accepted (optional (base (length (x .refs))) (x .refs) (x .chunks)) ≡ not (isFront (m .chunks) u n && eqb t Rect)
+      ap accepted (refs-replaced (rulesOf profile) (m .chunks) own (chunkOf t d) there [] 24 (m .refs) place h refl alone (p .entries-fine))
+      ∙ accepted-check (allows profile (refAt m place .usage) (chunkOf t d)) 14 (24 + 12 * place)
+      ∙ ap (λ (z : ℕ). allows profile z (chunkOf t d)) (find-pair u n (m .refs) h .0)) in
+      let q : allows profile u (chunkOf t d) ≡ true → accepted (optional (base (length (x .refs))) (x .refs) (x .chunks)) ≡ not (isFront (m .chunks) u n && eqb t Rect)
       = λ pl. (unfold replaced in front-replaced pl) in
-      accepted-ordered x sd (unfold replaced in ord)
+      accepted-ordered profile x sd (unfold replaced in ord)
       ∙ rw (replaced-length, a, le-leb (length (x .refs)) 4096 few, b)
       (ap (λ (z : Bool). leb (length (file m) - size (chunkAt m own) + size (chunkOf t d)) 16777216 && (not (eqb t RIdx) && z))
-      (and-where (plainAllows u (chunkOf t d)) (accepted (optional (base (length (x .refs))) (x .refs) (x .chunks))) (not (isFront (m .chunks) u n && eqb t Rect)) q))
+      (and-where (allows profile u (chunkOf t d)) (accepted (optional (base (length (x .refs))) (x .refs) (x .chunks))) (not (isFront (m .chunks) u n && eqb t Rect)) q))

@@ -11,7 +11,7 @@ use Rattle.blorb.specs.Bytes.{rd32}
 use Rattle.blorb.specs.Format.{Ref, Chunk, size}
 use Rattle.blorb.specs.Verdict.{Verdict, accept, noChunk}
 use Rattle.blorb.specs.Tags.{Pict, Snd, Data, Exec, Rect, RelN, Fspc}
-use Rattle.blorb.specs.Rules.{plainAllows, oneOf, picture, single, chunkRule, chunkRules, optional}
+use Rattle.blorb.specs.Rules.{allows, plainAllows, adriftAllows, oneOf, picture, single, chunkRule, chunkRules, optional}
 use Rattle.blorb.specs.All.{All}
 use Rattle.blorb.specs.Sound.{RefOk}
 use Rattle.blorb.proofs.Checks.{then-accept, check-accept, pass, accepts, holds-last}
@@ -94,18 +94,23 @@ and-none : (a : Bool) → a && false ≡ false
 and-none true = refl
 and-none false = refl
 
-not-plain : (u : ℕ) (b : List ℕ) → (plainAllows u (record { type = RelN; body = b }) ≡ false) × (plainAllows u (record { type = Fspc; body = b }) ≡ false)
-unfolding plainAllows oneOf
-not-plain u b = (rw (and-none (eqb u Pict), and-none (eqb u Snd), and-none (eqb u Data), and-none (eqb u Exec)), rw (and-none (eqb u Pict), and-none (eqb u Snd), and-none (eqb u Data), and-none (eqb u Exec)))
+not-allowed : (profile u : ℕ) (b : List ℕ)
+    → (allows profile u (record { type = RelN; body = b }) ≡ false) × (allows profile u (record { type = Fspc; body = b }) ≡ false)
+unfolding allows plainAllows adriftAllows oneOf
+not-allowed profile u b = (
+  rw (and-none (eqb u Pict), and-none (eqb u Snd), and-none (eqb u Data), and-none (eqb u Exec), and-none (eqb profile 1)),
+  rw (and-none (eqb u Pict), and-none (eqb u Snd), and-none (eqb u Data), and-none (eqb u Exec), and-none (eqb profile 1)),
+)
 
-other-type : (t u : ℕ) (c : Chunk) → plainAllows u (record { type = t; body = c .body }) ≡ false → plainAllows u c ≡ true → eqb (c .type) t ≡ false
-other-type t u c bad h = go (eqb (c .type) t) refl
+other-type : (profile t u : ℕ) (c : Chunk) → allows profile u (record { type = t; body = c .body }) ≡ false → allows profile u c ≡ true
+    → eqb (c .type) t ≡ false
+other-type profile t u c bad h = go (eqb (c .type) t) refl
   where
     go : (b : Bool) → eqb (c .type) t ≡ b → b ≡ false
     go false e = refl
     go true e =
-        let q : plainAllows u c ≡ false = ap (λ (z : ℕ). plainAllows u (record { type = z; body = c .body })) (eqb-true (c .type) t e) ∙ bad in
+        let q : allows profile u c ≡ false = ap (λ (z : ℕ). allows profile u (record { type = z; body = c .body })) (eqb-true (c .type) t e) ∙ bad in
         cc
 
-pub plain-plain : (u : ℕ) (c : Chunk) → plainAllows u c ≡ true → Plain c
-plain-plain u c h = record { no-release = other-type RelN u c (not-plain u (c .body) .0) h; no-front = other-type Fspc u c (not-plain u (c .body) .1) h }
+pub allowed-plain : (profile u : ℕ) (c : Chunk) → allows profile u c ≡ true → Plain c
+allowed-plain profile u c h = record { no-release = other-type profile RelN u c (not-allowed profile u (c .body) .0) h; no-front = other-type profile Fspc u c (not-allowed profile u (c .body) .1) h }

@@ -10,7 +10,7 @@ use borrow.Author.Tests.{eqb-true, eq-eqb, le-ltb, ltb-true, not-true}
 use Rattle.blorb.specs.Format.{isStart, placeOf, Ref, Chunk, size}
 use Rattle.blorb.specs.Tags.{RIdx, Rect}
 use Rattle.blorb.specs.Verdict.{accept, noChunk, verdict}
-use Rattle.blorb.specs.Rules.{plainAllows, plainRules}
+use Rattle.blorb.specs.Rules.{allows, rulesOf}
 use Rattle.blorb.specs.Model.{Model, base, model, file}
 use Rattle.blorb.specs.Queries.{find, refAt, chunkAt, without, shared, start}
 use Rattle.blorb.specs.All.{All}
@@ -84,21 +84,22 @@ undo1-removed r m s fit =
     let b : map (lower k) (without (r .place) (m .refs)) ≡ take (length (m .refs) - 1) (m .refs) = ap (map (lower k)) a ∙ lower-none k (take (length (m .refs) - 1) (m .refs)) ok in
     rw (f .alone) (λ i. record { refs = sym b i; chunks = sym c i })
 
-pub undo1-length : (r : Rec) (m : Model) → Sound m → modelFault plainRules m ≡ accept → fits1 r m ≡ true
+pub undo1-length : (profile : ℕ) (r : Rec) (m : Model) → Sound m → modelFault (rulesOf profile) m ≡ accept → fits1 r m ≡ true
     → length (file (undo1 m)) + (12 + size (chunkAt m (refAt m (r .place) .chunk))) ≡ length (file m)
-undo1-length r m s ok fit =
+undo1-length profile r m s ok fit =
     let f = fits1-facts r m fit in
     ap (λ (z : Model). length (file z) + (12 + size (chunkAt m (refAt m (r .place) .chunk)))) (undo1-removed r m s fit)
-    ∙ removed-length m (r .place) s ok (omega (arith, f .count)) (f .alone)
+    ∙ removed-length profile m (r .place) s ok (omega (arith, f .count)) (f .alone)
 
 -- accepted unless the frontispiece's picture goes
-pub undo1-accepted : (r : Rec) (m : Model) → Sound m → modelFault plainRules m ≡ accept → inOrder 0 (m .refs) ≡ true → length (file m) ≤ 16777216
+pub undo1-accepted : (profile : ℕ) (r : Rec) (m : Model) → Sound m → modelFault (rulesOf profile) m ≡ accept → inOrder 0 (m .refs) ≡ true
+    → length (file m) ≤ 16777216
     → fits1 r m ≡ true
-    → accepted (verdict plainRules (file (undo1 m))) ≡ not (isFront (m .chunks) (r .usage) (r .number))
-undo1-accepted r m s ok ord short fit =
+    → accepted (verdict (rulesOf profile) (file (undo1 m))) ≡ not (isFront (m .chunks) (r .usage) (r .number))
+undo1-accepted profile r m s ok ord short fit =
     let f = fits1-facts r m fit in
-    ap (λ (z : Model). accepted (verdict plainRules (file z))) (undo1-removed r m s fit)
-    ∙ removed-accepted m (r .place) s ok (omega (arith, f .count)) (f .alone) short ord
+    ap (λ (z : Model). accepted (verdict (rulesOf profile) (file z))) (undo1-removed r m s fit)
+    ∙ removed-accepted profile m (r .place) s ok (omega (arith, f .count)) (f .alone) short ord
     ∙ (λ i. not (isFront (m .chunks) (f .usage-is i) (f .number-is i)))
 
 -- ---- kind 2
@@ -128,13 +129,13 @@ fits2-facts r m h =
     }
 
 -- the entry at that place is the one of that pair
-pub found-at : (r : Rec) (m : Model) → modelFault plainRules m ≡ accept → r .place < length (m .refs)
+pub found-at : (profile : ℕ) (r : Rec) (m : Model) → modelFault (rulesOf profile) m ≡ accept → r .place < length (m .refs)
     → refAt m (r .place) .usage ≡ r .usage → refAt m (r .place) .number ≡ r .number → find (r .usage) (r .number) (m .refs) ≡ r .place
-found-at r m ok h u n =
-    find-at plainRules (m .chunks) [] 24 (r .usage) (r .number) (r .place) (m .refs) (model-parts m ok .entries-fine) h
+found-at profile r m ok h u n =
+    find-at (rulesOf profile) (m .chunks) [] 24 (r .usage) (r .number) (r .place) (m .refs) (model-parts profile m ok .entries-fine) h
     (rw (eq-eqb (refAt m (r .place) .usage) (r .usage) u, eq-eqb (refAt m (r .place) .number) (r .number) n))
 
-module _ (r : Rec) (m : Model) (s : Sound m) (ok : modelFault plainRules m ≡ accept) (fit : fits2 r m ≡ true) where
+module _ (profile : ℕ) (r : Rec) (m : Model) (s : Sound m) (ok : modelFault (rulesOf profile) m ≡ accept) (fit : fits2 r m ≡ true) where
   pub undo2-length : length (file (undo2 r m)) ≡ length (file m) - size (chunkAt m (refAt m (r .place) .chunk)) + size (oldChunk r)
   unfolding undo2
   undo2-length =
@@ -143,32 +144,32 @@ module _ (r : Rec) (m : Model) (s : Sound m) (ok : modelFault plainRules m ≡ a
       omega (arith, length-replaced m (refAt m (r .place) .chunk) (oldChunk r) there, size-getD (m .chunks) (refAt m (r .place) .chunk) noChunk there, length-file m)
 
   -- accepted if it is short enough, the old chunk is no index and one that rule 5 allows, and the frontispiece's picture doesn't become a 'Rect'
-  pub undo2-accepted : r .type < W → inOrder 0 (m .refs) ≡ true → accepted (verdict plainRules (file (undo2 r m)))
+  pub undo2-accepted : r .type < W → inOrder 0 (m .refs) ≡ true → accepted (verdict (rulesOf profile) (file (undo2 r m)))
       ≡ (leb (length (file m) - size (chunkAt m (refAt m (r .place) .chunk)) + size (oldChunk r)) 16777216
-      && (not (eqb (r .type) RIdx) && (plainAllows (r .usage) (oldChunk r) && not (isFront (m .chunks) (r .usage) (r .number) && eqb (r .type) Rect))))
+      && (not (eqb (r .type) RIdx) && (allows profile (r .usage) (oldChunk r) && not (isFront (m .chunks) (r .usage) (r .number) && eqb (r .type) Rect))))
   unfolding undo2
   undo2-accepted ht ord =
       let f = fits2-facts r m fit in
-      let e : find (r .usage) (r .number) (m .refs) ≡ r .place = found-at r m ok (f .inside) (f .usage-is) (f .number-is) in
+      let e : find (r .usage) (r .number) (m .refs) ≡ r .place = found-at profile r m ok (f .inside) (f .usage-is) (f .number-is) in
       let h : find (r .usage) (r .number) (m .refs) < length (m .refs) = rw e (f .inside) in
       let al : shared m (find (r .usage) (r .number) (m .refs)) ≡ false = rw e (f .alone) in
-      ap (λ (i : ℕ). accepted (verdict plainRules (file (replaced m (refAt m i .chunk) (oldChunk r))))) (sym e)
-      ∙ replaced-accepted m (r .usage) (r .number) (r .type) (r .body) s ok h al ht ord
+      ap (λ (i : ℕ). accepted (verdict (rulesOf profile) (file (replaced m (refAt m i .chunk) (oldChunk r))))) (sym e)
+      ∙ replaced-accepted profile m (r .usage) (r .number) (r .type) (r .body) s ok h al ht ord
       ∙ ap (λ (i : ℕ). leb (length (file m) - size (chunkAt m (refAt m i .chunk)) + size (oldChunk r)) 16777216
-      && (not (eqb (r .type) RIdx) && (plainAllows (r .usage) (oldChunk r) && not (isFront (m .chunks) (r .usage) (r .number) && eqb (r .type) Rect)))) e
+      && (not (eqb (r .type) RIdx) && (allows profile (r .usage) (oldChunk r) && not (isFront (m .chunks) (r .usage) (r .number) && eqb (r .type) Rect)))) e
 
 -- ---- kinds 3 and 4
-module _ (r : Rec) (m : Model) (s : Sound m) (ok : modelFault plainRules m ≡ accept) where
+module _ (profile : ℕ) (r : Rec) (m : Model) (s : Sound m) (ok : modelFault (rulesOf profile) m ≡ accept) where
   pub undo3-length : length (file (undo3 r m)) ≡ length (file m) + 12 + size (oldChunk r)
   unfolding undo3
-  undo3-length = inserted-length m (r .place) (oldPlace r m) (r .usage) (r .number) (oldChunk r) s ok (place-inside (r .start - 12) (base (length (m .refs))) (m .chunks))
+  undo3-length = inserted-length profile m (r .place) (oldPlace r m) (r .usage) (r .number) (oldChunk r) s ok (place-inside (r .start - 12) (base (length (m .refs))) (m .chunks))
 
-  pub undo3-accepted : r .usage < W → r .number < W → r .type < W → accepted (verdict plainRules (file (undo3 r m)))
+  pub undo3-accepted : r .usage < W → r .number < W → r .type < W → accepted (verdict (rulesOf profile) (file (undo3 r m)))
       ≡ (inOrder 0 (undo3 r m .refs)
       && (leb (length (file m) + 12 + size (oldChunk r)) 16777216 && (not (eqb (r .type) RIdx) && (leb (suc (length (m .refs))) 4096
-      && entryTests (r .usage) (r .number) (oldChunk r) (m .refs)))))
+      && entryTests profile (r .usage) (r .number) (oldChunk r) (m .refs)))))
   unfolding undo3
-  undo3-accepted hu hn ht = inserted-accepted m (r .place) (oldPlace r m) (r .usage) (r .number) (oldChunk r) s ok (place-inside (r .start - 12) (base (length (m .refs))) (m .chunks)) hu hn ht
+  undo3-accepted hu hn ht = inserted-accepted profile m (r .place) (oldPlace r m) (r .usage) (r .number) (oldChunk r) s ok (place-inside (r .start - 12) (base (length (m .refs))) (m .chunks)) hu hn ht
 
   module _ (hu : r .usage < W) (hn : r .number < W) (fit : fits4 r m ≡ true) where
     fits4-start : isStart (r .start - 12) (base (length (m .refs))) (m .chunks) ≡ true
@@ -180,13 +181,13 @@ module _ (r : Rec) (m : Model) (s : Sound m) (ok : modelFault plainRules m ≡ a
 
     pub undo4-length : length (file (undo4 r m)) ≡ length (file m) + 12
     unfolding undo4
-    undo4-length = entered-length m (r .place) (oldPlace r m) (r .usage) (r .number) s ok old-ok
+    undo4-length = entered-length profile m (r .place) (oldPlace r m) (r .usage) (r .number) s ok old-ok
 
-    pub undo4-accepted : accepted (verdict plainRules (file (undo4 r m)))
+    pub undo4-accepted : accepted (verdict (rulesOf profile) (file (undo4 r m)))
         ≡ (inOrder 0 (undo4 r m .refs)
-        && (leb (length (file m) + 12) 16777216 && (leb (suc (length (m .refs))) 4096 && entryTests (r .usage) (r .number) (chunkAt m (oldPlace r m)) (m .refs))))
+        && (leb (length (file m) + 12) 16777216 && (leb (suc (length (m .refs))) 4096 && entryTests profile (r .usage) (r .number) (chunkAt m (oldPlace r m)) (m .refs))))
     unfolding undo4
-    undo4-accepted = entered-accepted m (r .place) (oldPlace r m) (r .usage) (r .number) s ok old-ok
+    undo4-accepted = entered-accepted profile m (r .place) (oldPlace r m) (r .usage) (r .number) s ok old-ok
 
 -- ---- by kind
 pub kind-1 : (r : Rec) (m : Model) → r .kind ≡ 1 → (fits r m ≡ fits1 r m) × (undone r m ≡ undo1 m)
@@ -206,21 +207,21 @@ unfolding fits undone
 kind-4 r m h = (rw h, rw h)
 
 -- an accepted file's model is as the laws above want it
-pub record AcceptedFile (f : List ℕ) : Type 0 where
+pub record AcceptedFile (profile : ℕ) (f : List ℕ) : Type 0 where
   pub sound : Sound (model f)
-  pub judged : modelFault plainRules (model f) ≡ accept
+  pub judged : modelFault (rulesOf profile) (model f) ≡ accept
   pub ordered : inOrder 0 (model f .refs) ≡ true
   pub whole : file (model f) ≡ f
   pub short : length (file (model f)) ≤ 16777216
 
-pub accepted-facts : (f : List ℕ) → All Byte f → verdict plainRules f ≡ accept → AcceptedFile f
-accepted-facts f bytes fine =
-    let g = accept-back plainRules f bytes fine in
-    let v : verdict plainRules (file (model f)) ≡ accept = ap (verdict plainRules) (g .0) ∙ fine in
+pub accepted-facts : (profile : ℕ) (f : List ℕ) → All Byte f → verdict (rulesOf profile) f ≡ accept → AcceptedFile profile f
+accepted-facts profile f bytes fine =
+    let g = accept-back (rulesOf profile) f bytes fine in
+    let v : verdict (rulesOf profile) (file (model f)) ≡ accept = ap (verdict (rulesOf profile)) (g .0) ∙ fine in
     record {
       sound = g .1;
-      judged = file-judged plainRules (model f) (g .1) v;
-      ordered = file-ordered plainRules (model f) (g .1) v;
+      judged = file-judged (rulesOf profile) (model f) (g .1) v;
+      ordered = file-ordered (rulesOf profile) (model f) (g .1) v;
       whole = g .0;
       short = omega (arith, ap length (g .0), g .2);
     }

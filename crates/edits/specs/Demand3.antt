@@ -2,6 +2,7 @@
 use mathlib.Core.Path.{_≡_}
 use Prim.Native.Nat.{_≤_}
 use mathlib.Core.List.{List, []}
+use mathlib.Core.Bool.{true}
 use lib.ListN.{length, take}
 use Rattle.blorb.specs.All.{All}
 use Rattle.blorb.specs.Bytes.{Byte}
@@ -10,8 +11,9 @@ use Rattle.edits.specs.Edit.{Edit}
 use Rattle.edits.specs.Run.{State, Call, run, answers, ledgerFile, ledgerUsed, ledgerRecords, ledgerRun, ledgerAnswers}
 
 -- where a run begins: "from an accepted file in the first L bytes of the file buffer and U = 0". That the buffer holds bytes is a fact of
--- its type in the code.
+-- its type in the code. "Demand 3 now asks one known profile for the whole run, its starting file accepted under it" (02, P12).
 pub record Begins (R : Rules) (s : State) : Type 0 where
+  pub known : R .known ≡ true
   pub bytes : All Byte (s .buffer)
   pub inside : s .L ≤ length (s .buffer)
   pub fresh : s .U ≡ 0

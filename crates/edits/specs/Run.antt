@@ -150,9 +150,12 @@ module _ (R : Rules) where
       then check (wellFormed j && fits (lastRec j) (model f) && accepted (verdict R (undoneFile f j))) 21 0
       then check (leb (length (undoneFile f j)) N) 24 0
 
+  -- a call's refusal; 52: "an unknown profile, before all others" (02, P12)
   unfoldable pub fault : State → Call → Verdict
-  fault s (edit e) = editFault (length (s .buffer)) (length (s .journal)) (take (s .L) (s .buffer)) (s .L) (s .U) e
-  fault s undo = undoFault (length (s .buffer)) (length (s .journal)) (take (s .L) (s .buffer)) (s .L) (s .U) (take (s .U) (s .journal))
+  fault s (edit e) = check (R .known) 52 0 then editFault (length (s .buffer)) (length (s .journal)) (take (s .L) (s .buffer)) (s .L) (s .U) e
+  fault s undo =
+      check (R .known) 52 0
+      then undoFault (length (s .buffer)) (length (s .journal)) (take (s .L) (s .buffer)) (s .L) (s .U) (take (s .U) (s .journal))
 
   -- a call: "A refused call changes nothing."
   unfoldable pub step : State → Call → State
@@ -174,7 +177,7 @@ module _ (R : Rules) where
     -- "An edit is refused with the first reason in its order that holds for the call, the ledger's file, L and U and the buffers' lengths."
     -- "An undo is refused with 26 if the list is empty."
     unfoldable pub ledgerFault : List Edit → Call → Verdict
-    ledgerFault es (edit e) = editFault N J (ledgerFile f₀ es) (length (ledgerFile f₀ es)) (ledgerUsed f₀ es) e
+    ledgerFault es (edit e) = check (R .known) 52 0 then editFault N J (ledgerFile f₀ es) (length (ledgerFile f₀ es)) (ledgerUsed f₀ es) e
     ledgerFault [] undo = refuse 26 0
     ledgerFault (e ∷ es) undo = accept
 

@@ -1,4 +1,4 @@
--- 20 and the reader's refusals, way by way, and what an inspection tells.
+-- 52, 20 and the reader's refusals, way by way, and what an inspection tells.
 use mathlib.Core.Path.{_≡_, refl, sym, ap, _∙_}
 use Prim.Native.Nat.{ℕ, _≤_, _<_}
 use mathlib.Core.List.{List}
@@ -9,7 +9,7 @@ use lib.Dec.{leb, ltb}
 use borrow.Author.Tests.{le-leb, lt-leb}
 use Rattle.blorb.specs.Verdict.{Verdict, accept, refuse, _then_, check, verdict}
 use Rattle.blorb.specs.Tags.{Fspc}
-use Rattle.blorb.specs.Rules.{typeIn, plainRules, plainVerdict}
+use Rattle.blorb.specs.Rules.{typeIn, rulesOf}
 use Rattle.blorb.specs.Model.{Model, model}
 use Rattle.blorb.specs.Queries.{find, refAt, chunkAt, shared, start, frontPlace, frontNumber}
 use Rattle.reader.specs.declared.Piece.{Piece}
@@ -25,18 +25,26 @@ and-none true = refl
 and-none false = refl
 
 -- the ways out
-module _ (l N u J : ℕ) (v : Verdict) (m : Model) (us n x : ℕ) where
-  pub opened-first : N < l → Refused 20 0 ≡ inspectionOf (check (leb l N && leb u J) 20 0 then v) m us n x
-  unfolding check _then_
-  opened-first h = rw (lt-leb l N h)
+module _ (profile l N u J : ℕ) (v : Verdict) (m : Model) (us n x : ℕ) where
+  abbrev tests : Verdict
+  tests = check (leb profile 1) 52 0 then (check (leb l N && leb u J) 20 0 then v)
 
-  pub opened-second : J < u → Refused 20 0 ≡ inspectionOf (check (leb l N && leb u J) 20 0 then v) m us n x
+  pub opened-unknown : 1 < profile → Refused 52 0 ≡ inspectionOf tests m us n x
   unfolding check _then_
-  opened-second h = rw (lt-leb u J h, and-none (leb l N))
+  opened-unknown h = rw (lt-leb profile 1 h)
 
-  pub opened-third : l ≤ N → u ≤ J → inspectionOf v m us n x ≡ inspectionOf (check (leb l N && leb u J) 20 0 then v) m us n x
-  unfolding check _then_
-  opened-third h g = rw (le-leb l N h, le-leb u J g)
+  module _ (known : profile ≤ 1) where
+    pub opened-first : N < l → Refused 20 0 ≡ inspectionOf tests m us n x
+    unfolding check _then_
+    opened-first h = rw (le-leb profile 1 known, lt-leb l N h)
+
+    pub opened-second : J < u → Refused 20 0 ≡ inspectionOf tests m us n x
+    unfolding check _then_
+    opened-second h = rw (le-leb profile 1 known, lt-leb u J h, and-none (leb l N))
+
+    pub opened-third : l ≤ N → u ≤ J → inspectionOf v m us n x ≡ inspectionOf tests m us n x
+    unfolding check _then_
+    opened-third h g = rw (le-leb profile 1 known, le-leb l N h, le-leb u J g)
 
 -- an inspection's two cases
 told-refused : (v : Verdict) (m : Model) (u n x k p : ℕ) → inspectionOf v m u n x ≡ Refused k p → v ≡ refuse k p
@@ -47,24 +55,19 @@ told-whole : (v : Verdict) (m : Model) (u n x : ℕ) (fs : Facts) → inspection
 told-whole accept m u n x fs e = (refl, cc)
 told-whole (refuse a b) m u n x fs e = let z : _≡_ {A = ℕ} 0 1 = cc in absurd (omega arith)
 
-plain-verdict : (f : List ℕ) → plainVerdict f ≡ verdict plainRules f
-unfolding plainVerdict
-plain-verdict f = refl
+-- what the first l bytes of b tell under a profile, U bytes of a journal of J being used
+module _ (profile : ℕ) (b : List ℕ) (l J U u n x : ℕ) where
+  abbrev pub present : Verdict
+  present = check (leb profile 1) 52 0 then (check (leb l (length b) && leb U J) 20 0 then verdict (rulesOf profile) (take l b))
 
--- what the first l bytes of b tell, U bytes of a journal of J being used
-module _ (b : List ℕ) (l J U u n x : ℕ) where
   abbrev pub asked : Inspection
-  asked = inspectionOf (check (leb l (length b) && leb U J) 20 0 then plainVerdict (take l b)) (model (take l b)) u n x
+  asked = inspectionOf present (model (take l b)) u n x
 
-  by-rules : check (leb l (length b) && leb U J) 20 0 then plainVerdict (take l b) ≡ check (leb l (length b) && leb U J) 20 0 then verdict plainRules (take l b)
-  by-rules = ap (λ (v : Verdict). check (leb l (length b) && leb U J) 20 0 then v) (plain-verdict (take l b))
+  pub asked-refused : (k p : ℕ) → asked ≡ Refused k p → present ≡ refuse k p
+  asked-refused k p e = told-refused _ (model (take l b)) u n x k p e
 
-  pub asked-refused : (k p : ℕ) → asked ≡ Refused k p → check (leb l (length b) && leb U J) 20 0 then verdict plainRules (take l b) ≡ refuse k p
-  asked-refused k p e = sym by-rules ∙ told-refused _ (model (take l b)) u n x k p e
-
-  pub asked-whole : (fs : Facts) → asked ≡ Whole fs
-      → (check (leb l (length b) && leb U J) 20 0 then verdict plainRules (take l b) ≡ accept) × (fs ≡ factsOf (model (take l b)) u n x)
-  asked-whole fs e = let t = told-whole _ (model (take l b)) u n x fs e in (sym by-rules ∙ t .0, t .1)
+  pub asked-whole : (fs : Facts) → asked ≡ Whole fs → (present ≡ accept) × (fs ≡ factsOf (model (take l b)) u n x)
+  asked-whole fs e = told-whole _ (model (take l b)) u n x fs e
 
 -- the entry of a pair
 pub target-at : (m : Model) (u n : ℕ) (p : Piece) → targetOf m u n ≡ target.At p → (ltb (find u n (m .refs)) (length (m .refs)) ≡ true) × (p ≡ pieceOf m (find u n (m .refs)))

@@ -11,7 +11,7 @@ use borrow.Author.Tests.{ne-eqb, eqb-false, le-leb, leb-true, lt-ltb, le-ltb, lt
 use Rattle.blorb.specs.Format.{Ref, Chunk, size, total}
 use Rattle.blorb.specs.Verdict.{Verdict, accept, refuse, _then_, check, noChunk, secondIndex, verdict}
 use Rattle.blorb.specs.Tags.{Pict, Fspc}
-use Rattle.blorb.specs.Rules.{picture, typeIn, optional, plainRules}
+use Rattle.blorb.specs.Rules.{picture, typeIn, optional, rulesOf}
 use Rattle.blorb.specs.Model.{Model, base, startOf, file, model}
 use Rattle.edits.specs.Edit.{remove, edited, lower, removed, removedBoth, removedEntry}
 use Rattle.blorb.specs.Queries.{find, noRef, refAt, chunkAt, without, shared, start, frontPlace, frontNumber}
@@ -83,7 +83,7 @@ unfoldable pub lostFront : Model → ℕ → ℕ → ℕ → Verdict
 lostFront m i u n = cond (typeIn Fspc (m .chunks))
     (check (not (eqb u Pict && eqb n (frontNumber (m .chunks)))) 19 (fallen (start m (refAt m i .chunk)) (goneSize m i) (start m (frontPlace (m .chunks))) + 8)) accept
 
-module _ (m : Model) (i u n : ℕ) (s : Sound m) (ok : modelFault plainRules m ≡ accept) (h : i < length (m .refs)) (eu : refAt m i .usage ≡ u) (en : refAt m i .number ≡ n) where
+module _ (profile : ℕ) (m : Model) (i u n : ℕ) (s : Sound m) (ok : modelFault (rulesOf profile) m ≡ accept) (h : i < length (m .refs)) (eu : refAt m i .usage ≡ u) (en : refAt m i .number ≡ n) where
   abbrev k : ℕ
   k = refAt m i .chunk
 
@@ -93,7 +93,7 @@ module _ (m : Model) (i u n : ℕ) (s : Sound m) (ok : modelFault plainRules m �
   abbrev rs : List Ref
   rs = m .refs
 
-  parts : (secondIndex (base (length (m .refs))) (m .chunks) ≡ accept) × (length (m .refs) ≤ 4096) × (refsFault plainRules (m .chunks) [] 24 (m .refs) ≡ accept) × (optional (base (length (m .refs))) (m .refs) (m .chunks) ≡ accept)
+  parts : (secondIndex (base (length (m .refs))) (m .chunks) ≡ accept) × (length (m .refs) ≤ 4096) × (refsFault (rulesOf profile) (m .chunks) [] 24 (m .refs) ≡ accept) × (optional (base (length (m .refs))) (m .refs) (m .chunks) ≡ accept)
   unfolding modelFault
   parts =
       let a = then-accept _ _ ok in
@@ -110,7 +110,7 @@ module _ (m : Model) (i u n : ℕ) (s : Sound m) (ok : modelFault plainRules m �
   still : (q : ℕ) → typeIn Fspc (m .chunks) ≡ true → q ≡ frontNumber (m .chunks) → picture q (m .chunks) (without i (m .refs)) ≡ not (eqb u Pict && eqb n q)
   still q e w =
       not-flip (picture q cs (without i rs)) (same (getD rs i noRef) Pict q)
-      (picture-without q cs i rs (parts .2) h (ap (λ (z : ℕ). picture z cs rs) w ∙ front-picture (base (length rs)) rs cs (parts .3) e))
+      (picture-without profile q cs i rs (parts .2) h (ap (λ (z : ℕ). picture z cs rs) w ∙ front-picture (base (length rs)) rs cs (parts .3) e))
       ∙ ap not (pair q)
 
   pick : (b : Bool) (x y p p′ : ℕ) (t t′ : Bool) → typeIn Fspc (m .chunks) ≡ b → (b ≡ true → t ≡ t′) → p ≡ p′ → cond b (check t 19 (p + 8)) accept ≡ cond b (check t′ 19 (p′ + 8)) accept
@@ -121,7 +121,7 @@ module _ (m : Model) (i u n : ℕ) (s : Sound m) (ok : modelFault plainRules m �
       → optional (base (length (removedBoth m i k .refs))) (removedBoth m i k .refs) (removedBoth m i k .chunks) ≡ lostFront m i u n
   unfolding lostFront removedBoth shared start
   both-seven alone gs =
-      let pl = chunk-plain cs [] 24 rs i (parts .2) h in
+      let pl = chunk-plain profile cs [] 24 rs i (parts .2) h in
       let fw = front-without cs k there pl in
       let x : Ref = record { usage = 0; number = 0; chunk = frontPlace cs } in
       let n1 : length (map (lower k) (without i rs)) ≡ length (without i rs) = length-map (without i rs) (lower k) in
@@ -151,31 +151,31 @@ module _ (m : Model) (i u n : ℕ) (s : Sound m) (ok : modelFault plainRules m �
   gone-shared e = rw e
 
   -- only rule 7 is left
-  both-model : shared m i ≡ false → modelFault plainRules (removedBoth m i k) ≡ lostFront m i u n
+  both-model : shared m i ≡ false → modelFault (rulesOf profile) (removedBoth m i k) ≡ lostFront m i u n
   unfolding modelFault
   both-model e =
       let le : length (removedBoth m i k .refs) ≤ 4096 = omega (arith, length-remaining m i k h, parts .1) in
       let a : secondIndex (base (length (removedBoth m i k .refs))) (removedBoth m i k .chunks) ≡ accept
       = (unfold removedBoth in second-without (base (length rs)) (base (length (map (lower k) (without i rs)))) cs k (parts .0)) in
-      let b : refsFault plainRules (removedBoth m i k .chunks) [] 24 (removedBoth m i k .refs) ≡ accept = (unfold removedBoth shared in refs-removed plainRules cs k i rs e (parts .2)) in
+      let b : refsFault (rulesOf profile) (removedBoth m i k .chunks) [] 24 (removedBoth m i k .refs) ≡ accept = (unfold removedBoth shared in refs-removed (rulesOf profile) cs k i rs e (parts .2)) in
       accepts _ _ a ∙ pass _ _ _ _ (le-leb _ _ le) ∙ accepts _ _ b
       ∙ both-seven e (gone-alone e)
 
-  entry-model : shared m i ≡ true → modelFault plainRules (removedEntry m i) ≡ lostFront m i u n
+  entry-model : shared m i ≡ true → modelFault (rulesOf profile) (removedEntry m i) ≡ lostFront m i u n
   unfolding modelFault
   entry-model e =
       let le : length (removedEntry m i .refs) ≤ 4096 = (unfold removedEntry in omega (arith, length-without i rs h, parts .1)) in
       let a : secondIndex (base (length (removedEntry m i .refs))) (removedEntry m i .chunks) ≡ accept
       = (unfold removedEntry in second-any (base (length rs)) (base (length (without i rs))) cs (parts .0)) in
-      let b : refsFault plainRules (removedEntry m i .chunks) [] 24 (removedEntry m i .refs) ≡ accept = (unfold removedEntry in refs-without plainRules cs [] [] 24 24 i rs (λ a b c. c) (parts .2)) in
+      let b : refsFault (rulesOf profile) (removedEntry m i .chunks) [] 24 (removedEntry m i .refs) ≡ accept = (unfold removedEntry in refs-without (rulesOf profile) cs [] [] 24 24 i rs (λ a b c. c) (parts .2)) in
       accepts _ _ a ∙ pass _ _ _ _ (le-leb _ _ le) ∙ accepts _ _ b
       ∙ entry-seven (gone-shared e)
 
-  pub removed-model : modelFault plainRules (removed m i) ≡ lostFront m i u n
+  pub removed-model : modelFault (rulesOf profile) (removed m i) ≡ lostFront m i u n
   unfolding removed
   removed-model = go (shared m i) refl
     where
-      go : (b : Bool) → shared m i ≡ b → modelFault plainRules (cond b (removedEntry m i) (removedBoth m i (refAt m i .chunk))) ≡ lostFront m i u n
+      go : (b : Bool) → shared m i ≡ b → modelFault (rulesOf profile) (cond b (removedEntry m i) (removedBoth m i (refAt m i .chunk))) ≡ lostFront m i u n
       go true e = entry-model e
       go false e = both-model e
 
@@ -197,46 +197,48 @@ hundred-front true false p = refl
 hundred-front false t p = refl
 
 -- from an accepted file, as the code has it
-pub remove-fault : (f : List ℕ) (u n : ℕ) → All Byte f → verdict plainRules f ≡ accept → u < W → n < W → find u n (model f .refs) < length (model f .refs)
-    → hundred (verdict plainRules (file (removed (model f) (find u n (model f .refs)))))
+pub remove-fault : (profile : ℕ) (f : List ℕ) (u n : ℕ) → All Byte f → verdict (rulesOf profile) f ≡ accept → u < W → n < W
+    → find u n (model f .refs) < length (model f .refs)
+    → hundred (verdict (rulesOf profile) (file (removed (model f) (find u n (model f .refs)))))
     ≡ cond (typeIn Fspc (model f .chunks)) (check (not (eqb u Pict && eqb n (frontNumber (model f .chunks)))) 119
     (fallen (start (model f) (refAt (model f) (find u n (model f .refs)) .chunk)) (goneSize (model f) (find u n (model f .refs))) (start (model f) (frontPlace (model f .chunks))) + 8)) accept
 unfolding edited
-remove-fault f u n bytes fine hu hn found =
+remove-fault profile f u n bytes fine hu hn found =
     let m : Model = model f in
     let i : ℕ = find u n (m .refs) in
-    let g = accept-back plainRules f bytes fine in
-    let old : verdict plainRules (file m) ≡ accept = ap (verdict plainRules) (g .0) ∙ fine in
-    let mf = file-judged plainRules m (g .1) old in
-    let ord = edits-keep-order m (remove u n) (g .1) (file-ordered plainRules m (g .1) old) in
+    let g = accept-back (rulesOf profile) f bytes fine in
+    let old : verdict (rulesOf profile) (file m) ≡ accept = ap (verdict (rulesOf profile)) (g .0) ∙ fine in
+    let mf = file-judged (rulesOf profile) m (g .1) old in
+    let ord = edits-keep-order m (remove u n) (g .1) (file-ordered (rulesOf profile) m (g .1) old) in
     let fp = find-pair u n (m .refs) found in
     let sd : Sound (removed m i) = edit-sound m (remove u n) (g .1) (hu, hn) found in
-    let short : length (file (removed m i)) ≤ 16777216 = omega (arith, removed-length m i u n (g .1) mf found (fp .0) (fp .1), ap length (g .0), g .2) in
-    ap hundred (verdict-file plainRules (removed m i) sd ord ∙ pass _ _ _ _ (le-leb _ _ short) ∙ removed-model m i u n (g .1) mf found (fp .0) (fp .1))
+    let short : length (file (removed m i)) ≤ 16777216 = omega (arith, removed-length profile m i u n (g .1) mf found (fp .0) (fp .1), ap length (g .0), g .2) in
+    ap hundred (verdict-file (rulesOf profile) (removed m i) sd ord ∙ pass _ _ _ _ (le-leb _ _ short) ∙ removed-model profile m i u n (g .1) mf found (fp .0) (fp .1))
     ∙ (unfold lostFront in hundred-front (typeIn Fspc (m .chunks)) (not (eqb u Pict && eqb n (frontNumber (m .chunks)))) (fallen (start m (refAt m i .chunk)) (goneSize m i) (start m (frontPlace (m .chunks))) + 8))
 
 -- the ways out of the code
-module _ (f : List ℕ) (r : Front) (u n s a : ℕ) (bytes : All Byte f)
-    (pre : (verdict plainRules f ≡ accept) × (Listed f u n s a × (r ≡ frontOf (model f)))) (hu : u < W) (hn : n < W) where
+module _ (profile : ℕ) (f : List ℕ) (r : Front) (u n s a : ℕ) (bytes : All Byte f)
+    (pre : (verdict (rulesOf profile) f ≡ accept) × (Listed f u n s a × (r ≡ frontOf (model f)))) (hu : u < W) (hn : n < W) where
   li : Listed f u n s a
   li = pre .1 .0
 
-  pub no-front : r ≡ front.Nothing → accept ≡ hundred (verdict plainRules (file (removed (model f) (find u n (model f .refs)))))
-  no-front e = sym (remove-fault f u n bytes (pre .0) hu hn (li .found) ∙ rw (front-nothing (model f) (sym (pre .1 .1) ∙ e)))
+  pub no-front : r ≡ front.Nothing → accept ≡ hundred (verdict (rulesOf profile) (file (removed (model f) (find u n (model f .refs)))))
+  no-front e = sym (remove-fault profile f u n bytes (pre .0) hu hn (li .found) ∙ rw (front-nothing (model f) (sym (pre .1 .1) ∙ e)))
 
   module _ (at q : ℕ) (e : r ≡ front.At at q) where
-    shape : hundred (verdict plainRules (file (removed (model f) (find u n (model f .refs))))) ≡ check (not (eqb u Pict && eqb n q)) 119 (fallen s a at + 8)
+    shape : hundred (verdict (rulesOf profile) (file (removed (model f) (find u n (model f .refs)))))
+        ≡ check (not (eqb u Pict && eqb n q)) 119 (fallen s a at + 8)
     shape =
         let w = front-at (model f) at q (sym (pre .1 .1) ∙ e) in
-        remove-fault f u n bytes (pre .0) hu hn (li .found)
+        remove-fault profile f u n bytes (pre .0) hu hn (li .found)
         ∙ ap (λ (b : Bool). cond b (check (not (eqb u Pict && eqb n (frontNumber (model f .chunks)))) 119
         (fallen (start (model f) (refAt (model f) (find u n (model f .refs)) .chunk)) (goneSize (model f) (find u n (model f .refs))) (start (model f) (frontPlace (model f .chunks))) + 8)) accept) (w .0)
         ∙ (λ z. check (not (eqb u Pict && eqb n (sym (w .2) z))) 119 (fallen (sym (li .starts) z) (sym (li .gone) z) (sym (w .1) z) + 8))
 
-    pub lost-front : (eqb u Pict && eqb n q) ≡ true → refuse 119 (fallen s a at + 8) ≡ hundred (verdict plainRules (file (removed (model f) (find u n (model f .refs)))))
+    pub lost-front : (eqb u Pict && eqb n q) ≡ true → refuse 119 (fallen s a at + 8) ≡ hundred (verdict (rulesOf profile) (file (removed (model f) (find u n (model f .refs)))))
     unfolding check
     lost-front t = sym (shape ∙ rw t)
 
-    pub kept-front : (eqb u Pict && eqb n q) ≡ false → accept ≡ hundred (verdict plainRules (file (removed (model f) (find u n (model f .refs)))))
+    pub kept-front : (eqb u Pict && eqb n q) ≡ false → accept ≡ hundred (verdict (rulesOf profile) (file (removed (model f) (find u n (model f .refs)))))
     unfolding check
     kept-front t = sym (shape ∙ rw t)

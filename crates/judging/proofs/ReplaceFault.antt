@@ -11,7 +11,7 @@ use borrow.Author.Tests.{eq-eqb, ne-eqb, le-leb, lt-leb, leb-true}
 use Rattle.blorb.specs.Format.{Ref, Chunk, sized, size, total, chunkOf}
 use Rattle.blorb.specs.Tags.{RIdx, Pict, Rect, Fspc}
 use Rattle.blorb.specs.Verdict.{Verdict, accept, refuse, _then_, check, noChunk, secondIndex, verdict}
-use Rattle.blorb.specs.Rules.{plainAllows, typeIn, optional, plainRules}
+use Rattle.blorb.specs.Rules.{allows, typeIn, optional, rulesOf}
 use Rattle.blorb.specs.Model.{Model, base, startOf, file, model}
 use Rattle.edits.specs.Edit.{replace, edited, replaced, givenChunk}
 use Rattle.blorb.specs.Queries.{find, noRef, refAt, chunkAt, shared, start, frontPlace, frontNumber}
@@ -38,7 +38,7 @@ use Rattle.reader.specs.declared.Front.the-variants as front
 use Rattle.reader.specs.Inspecting.{frontOf}
 use Rattle.judging.proofs.OpenLaws.{shared-is, front-nothing, front-at}
 use Rattle.judging.specs.Told.{Own}
-use Rattle.edits.proofs.RuleSeven.{Plain, plain-plain}
+use Rattle.edits.proofs.RuleSeven.{Plain, allowed-plain}
 use Rattle.edits.proofs.FrontLaws.{optional-replaced}
 use Rattle.edits.proofs.JudgedLaws.{chunk-plain}
 use Rattle.judging.proofs.RemoveFault.{hundred-front}
@@ -63,7 +63,7 @@ front-set [] k c h o p = absurd (not-suc-le-zero h)
 front-set (x ∷ cs) zero c h o p = rw (o .no-front, p .no-front)
 front-set (x ∷ cs) (suc k) c h o p = rw (front-set cs k c (le-of-suc-le-suc h) o p)
 
-module _ (m : Model) (u n t : ℕ) (d : List ℕ) (s : Sound m) (ok : modelFault plainRules m ≡ accept) (h : find u n (m .refs) < length (m .refs)) (alone : shared m (find u n (m .refs)) ≡ false) where
+module _ (profile : ℕ) (m : Model) (u n t : ℕ) (d : List ℕ) (s : Sound m) (ok : modelFault (rulesOf profile) m ≡ accept) (h : find u n (m .refs) < length (m .refs)) (alone : shared m (find u n (m .refs)) ≡ false) where
   abbrev i : ℕ
   i = find u n (m .refs)
 
@@ -82,7 +82,7 @@ module _ (m : Model) (u n t : ℕ) (d : List ℕ) (s : Sound m) (ok : modelFault
   abbrev p : ℕ
   p = 24 + 12 * find u n (m .refs)
 
-  parts : (secondIndex (base (length (m .refs))) (m .chunks) ≡ accept) × (length (m .refs) ≤ 4096) × (refsFault plainRules (m .chunks) [] 24 (m .refs) ≡ accept) × (optional (base (length (m .refs))) (m .refs) (m .chunks) ≡ accept)
+  parts : (secondIndex (base (length (m .refs))) (m .chunks) ≡ accept) × (length (m .refs) ≤ 4096) × (refsFault (rulesOf profile) (m .chunks) [] 24 (m .refs) ≡ accept) × (optional (base (length (m .refs))) (m .refs) (m .chunks) ≡ accept)
   unfolding modelFault
   parts =
       let a = then-accept _ _ ok in
@@ -98,55 +98,55 @@ module _ (m : Model) (u n t : ℕ) (d : List ℕ) (s : Sound m) (ok : modelFault
   spoiltFront = cond (typeIn Fspc (m .chunks)) (check (not ((eqb u Pict && eqb n (frontNumber (m .chunks))) && eqb t Rect)) 19
       (behind (start m (refAt m (find u n (m .refs)) .chunk)) (size (chunkAt m (refAt m (find u n (m .refs)) .chunk))) (size (chunkOf t d)) (start m (frontPlace (m .chunks))) + 8)) accept
 
-  seven : plainAllows u (chunkOf t d) ≡ true → optional (base (length (m .refs))) (m .refs) (set (m .chunks) k (chunkOf t d)) ≡ spoiltFront
+  seven : allows profile u (chunkOf t d) ≡ true → optional (base (length (m .refs))) (m .refs) (set (m .chunks) k (chunkOf t d)) ≡ spoiltFront
   unfolding spoiltFront shared start
   seven pl =
-      let o = chunk-plain cs [] 24 rs i (parts .2) h in
-      let q = plain-plain u c pl in
+      let o = chunk-plain profile cs [] 24 rs i (parts .2) h in
+      let q = allowed-plain profile u c pl in
       let place : startOf (base (length rs)) (set cs k c) (frontPlace (set cs k c)) ≡ behind (startOf (base (length rs)) cs k) (size (getD cs k noChunk)) (size c) (startOf (base (length rs)) cs (frontPlace cs))
       = ap (startOf (base (length rs)) (set cs k c)) (front-set cs k c there o q) ∙ shifted (base (length rs)) cs k c (frontPlace cs) there in
-      optional-replaced plainRules (base (length rs)) (base (length rs)) cs rs u n c (parts .2) (parts .3) h alone there o q
+      optional-replaced (rulesOf profile) (base (length rs)) (base (length rs)) cs rs u n c (parts .2) (parts .3) h alone there o q
       ∙ ap (λ (z : ℕ). cond (typeIn Fspc cs) (check (not ((eqb u Pict && eqb n (frontNumber cs)) && eqb t Rect)) 19 (z + 8)) accept) place
 
-  pub replaced-model : modelFault plainRules (replaced m k (chunkOf t d)) ≡ check (not (eqb t RIdx)) 9 (start m k) then (check (plainAllows u (chunkOf t d)) 14 p then spoiltFront)
+  pub replaced-model : modelFault (rulesOf profile) (replaced m k (chunkOf t d)) ≡ check (not (eqb t RIdx)) 9 (start m k) then (check (allows profile u (chunkOf t d)) 14 p then spoiltFront)
   unfolding modelFault replaced start shared
   replaced-model =
       let fp = find-pair u n rs h in
       let a = second-set (base (length rs)) (base (length rs)) cs k c there (parts .0) in
-      let b : refsFault plainRules (set cs k c) [] 24 rs ≡ check (plainAllows u c) 14 p
-      = refs-replaced plainRules cs k c there [] 24 rs i h refl alone (parts .2) ∙ ap (λ (z : ℕ). check (plainAllows z c) 14 p) (fp .0) in
+      let b : refsFault (rulesOf profile) (set cs k c) [] 24 rs ≡ check (allows profile u c) 14 p
+      = refs-replaced (rulesOf profile) cs k c there [] 24 rs i h refl alone (parts .2) ∙ ap (λ (z : ℕ). check (allows profile z c) 14 p) (fp .0) in
       let w : Verdict = optional (base (length rs)) rs (set cs k c) in
       (λ z. a z then (check (leb (length rs) 4096) 11 20 then (b z then w)))
-      ∙ ap (λ (v : Verdict). check (not (eqb t RIdx)) 9 (startOf (base (length rs)) cs k) then v) (pass _ _ _ _ (le-leb _ _ (parts .1)) ∙ looked (plainAllows u c) refl w)
+      ∙ ap (λ (v : Verdict). check (not (eqb t RIdx)) 9 (startOf (base (length rs)) cs k) then v) (pass _ _ _ _ (le-leb _ _ (parts .1)) ∙ looked (allows profile u c) refl w)
     where
-      looked : (x : Bool) → plainAllows u (chunkOf t d) ≡ x → (w : Verdict) → check x 14 p then optional (base (length (m .refs))) (m .refs) (set (m .chunks) k (chunkOf t d)) ≡ check x 14 p then spoiltFront
+      looked : (x : Bool) → allows profile u (chunkOf t d) ≡ x → (w : Verdict) → check x 14 p then optional (base (length (m .refs))) (m .refs) (set (m .chunks) k (chunkOf t d)) ≡ check x 14 p then spoiltFront
       looked true e w = ap (λ (v : Verdict). check true 14 p then v) (seven e)
       looked false e w = (unfold check _then_ in refl)
 
 -- from an accepted file, as the code has it
-pub replace-fault : (f : List ℕ) (u n t : ℕ) (d : List ℕ) → All Byte f → verdict plainRules f ≡ accept → u < W → n < W → t < W
+pub replace-fault : (profile : ℕ) (f : List ℕ) (u n t : ℕ) (d : List ℕ) → All Byte f → verdict (rulesOf profile) f ≡ accept → u < W → n < W → t < W
     → find u n (model f .refs) < length (model f .refs) → shared (model f) (find u n (model f .refs)) ≡ false
-    → hundred (verdict plainRules (file (replaced (model f) (refAt (model f) (find u n (model f .refs)) .chunk) (chunkOf t d))))
+    → hundred (verdict (rulesOf profile) (file (replaced (model f) (refAt (model f) (find u n (model f .refs)) .chunk) (chunkOf t d))))
     ≡ check (leb (length f - size (chunkAt (model f) (refAt (model f) (find u n (model f .refs)) .chunk)) + size (chunkOf t d)) 16777216) 101 0
     then (check (not (eqb t RIdx)) 109 (start (model f) (refAt (model f) (find u n (model f .refs)) .chunk))
-    then (check (plainAllows u (chunkOf t d)) 114 (24 + 12 * find u n (model f .refs))
+    then (check (allows profile u (chunkOf t d)) 114 (24 + 12 * find u n (model f .refs))
     then cond (typeIn Fspc (model f .chunks)) (check (not ((eqb u Pict && eqb n (frontNumber (model f .chunks))) && eqb t Rect)) 119
     (behind (start (model f) (refAt (model f) (find u n (model f .refs)) .chunk)) (size (chunkAt (model f) (refAt (model f) (find u n (model f .refs)) .chunk))) (size (chunkOf t d)) (start (model f) (frontPlace (model f .chunks))) + 8)) accept))
 unfolding edited givenChunk
-replace-fault f u n t d bytes fine hu hn ht found alone =
+replace-fault profile f u n t d bytes fine hu hn ht found alone =
     let m : Model = model f in
     let k : ℕ = refAt m (find u n (m .refs)) .chunk in
-    let g = accept-back plainRules f bytes fine in
-    let old : verdict plainRules (file m) ≡ accept = ap (verdict plainRules) (g .0) ∙ fine in
-    let mf = file-judged plainRules m (g .1) old in
-    let ord = edits-keep-order m (replace u n t d) (g .1) (file-ordered plainRules m (g .1) old) in
+    let g = accept-back (rulesOf profile) f bytes fine in
+    let old : verdict (rulesOf profile) (file m) ≡ accept = ap (verdict (rulesOf profile)) (g .0) ∙ fine in
+    let mf = file-judged (rulesOf profile) m (g .1) old in
+    let ord = edits-keep-order m (replace u n t d) (g .1) (file-ordered (rulesOf profile) m (g .1) old) in
     let sd : Sound (replaced m k (chunkOf t d)) = edit-sound m (replace u n t d) (g .1) (hu, hn, ht) (found, alone) in
-    let th = there m u n t d (g .1) mf found alone in
+    let th = there profile m u n t d (g .1) mf found alone in
     let len : length (file (replaced m k (chunkOf t d))) ≡ length f - size (chunkAt m k) + size (chunkOf t d) = omega (arith, length-replaced m k (chunkOf t d) th, ap length (g .0), size-getD (m .chunks) k noChunk th, file-length m) in
-    ap hundred (verdict-file plainRules (replaced m k (chunkOf t d)) sd ord
-    ∙ (λ z. check (leb (len z) 16777216) 1 0 then replaced-model m u n t d (g .1) mf found alone z))
-    ∙ spread (leb (length f - size (chunkAt m k) + size (chunkOf t d)) 16777216) (not (eqb t RIdx)) (plainAllows u (chunkOf t d)) (start m k) (24 + 12 * find u n (m .refs)) (spoiltFront m u n t d (g .1) mf found alone)
-    ∙ ap (λ (v : Verdict). check (leb (length f - size (chunkAt m k) + size (chunkOf t d)) 16777216) 101 0 then (check (not (eqb t RIdx)) 109 (start m k) then (check (plainAllows u (chunkOf t d)) 114 (24 + 12 * find u n (m .refs)) then v)))
+    ap hundred (verdict-file (rulesOf profile) (replaced m k (chunkOf t d)) sd ord
+    ∙ (λ z. check (leb (len z) 16777216) 1 0 then replaced-model profile m u n t d (g .1) mf found alone z))
+    ∙ spread (leb (length f - size (chunkAt m k) + size (chunkOf t d)) 16777216) (not (eqb t RIdx)) (allows profile u (chunkOf t d)) (start m k) (24 + 12 * find u n (m .refs)) (spoiltFront profile m u n t d (g .1) mf found alone)
+    ∙ ap (λ (v : Verdict). check (leb (length f - size (chunkAt m k) + size (chunkOf t d)) 16777216) 101 0 then (check (not (eqb t RIdx)) 109 (start m k) then (check (allows profile u (chunkOf t d)) 114 (24 + 12 * find u n (m .refs)) then v)))
     (unfold spoiltFront in hundred-front (typeIn Fspc (m .chunks)) (not ((eqb u Pict && eqb n (frontNumber (m .chunks))) && eqb t Rect)) (behind (start m k) (size (chunkAt m k)) (size (chunkOf t d)) (start m (frontPlace (m .chunks))) + 8))
   where
     spread : (a b c : Bool) (p q : ℕ) (v : Verdict) → hundred (check a 1 0 then (check b 9 p then (check c 14 q then v))) ≡ check a 101 0 then (check b 109 p then (check c 114 q then hundred v))
@@ -157,8 +157,8 @@ unfolding size sized
 size-body c = refl
 
 -- the ways out of the code
-module _ (f : List ℕ) (r : Front) (p : Piece) (u n t : ℕ) (d : List ℕ) (bytes : All Byte f)
-    (pre : (verdict plainRules f ≡ accept) × (Own f u n p × (r ≡ frontOf (model f)))) (hu : u < W) (hn : n < W) (ht : t < W) where
+module _ (profile : ℕ) (f : List ℕ) (r : Front) (p : Piece) (u n t : ℕ) (d : List ℕ) (bytes : All Byte f)
+    (pre : (verdict (rulesOf profile) f ≡ accept) × (Own f u n p × (r ≡ frontOf (model f)))) (hu : u < W) (hn : n < W) (ht : t < W) where
   o : Own f u n p
   o = pre .1 .0
 
@@ -166,20 +166,20 @@ module _ (f : List ℕ) (r : Front) (p : Piece) (u n t : ℕ) (d : List ℕ) (by
   a = 8 + (p .length + p .length % 2)
 
   abbrev H : Verdict
-  H = hundred (verdict plainRules (file (replaced (model f) (refAt (model f) (find u n (model f .refs)) .chunk) (chunkOf t d))))
+  H = hundred (verdict (rulesOf profile) (file (replaced (model f) (refAt (model f) (find u n (model f .refs)) .chunk) (chunkOf t d))))
 
   abbrev new : ℕ
   new = 8 + (length d + length d % 2)
 
   shape : (b : Bool) → typeIn Fspc (model f .chunks) ≡ b
-      → H ≡ check (leb (length f - a + (8 + (length d + length d % 2))) 16777216) 101 0 then (check (not (eqb t RIdx)) 109 (p .start) then (check (plainAllows u (chunkOf t d)) 114 (24 + 12 * p .place)
+      → H ≡ check (leb (length f - a + (8 + (length d + length d % 2))) 16777216) 101 0 then (check (not (eqb t RIdx)) 109 (p .start) then (check (allows profile u (chunkOf t d)) 114 (24 + 12 * p .place)
       then cond b (check (not ((eqb u Pict && eqb n (frontNumber (model f .chunks))) && eqb t Rect)) 119 (behind (p .start) a (8 + (length d + length d % 2)) (start (model f) (frontPlace (model f .chunks))) + 8)) accept))
   shape b e =
       let sz : size (chunkOf t d) ≡ new = size-of t d ∙ omega arith in
       let i : ℕ = find u n (model f .refs) in
       let sp : size (chunkAt (model f) (refAt (model f) i .chunk)) ≡ a = size-body (chunkAt (model f) (refAt (model f) i .chunk)) ∙ ap (λ (z : Piece). 8 + (z .length + z .length % 2)) (sym (o .piece)) in
-      replace-fault f u n t d bytes (pre .0) hu hn ht (o .found) (sym (shared-is (model f) i p (o .piece)) ∙ o .alone)
-      ∙ (λ z. check (leb (length f - sp z + sz z) 16777216) 101 0 then (check (not (eqb t RIdx)) 109 (sym (o .piece) z .start) then (check (plainAllows u (chunkOf t d)) 114 (24 + 12 * sym (o .piece) z .place)
+      replace-fault profile f u n t d bytes (pre .0) hu hn ht (o .found) (sym (shared-is (model f) i p (o .piece)) ∙ o .alone)
+      ∙ (λ z. check (leb (length f - sp z + sz z) 16777216) 101 0 then (check (not (eqb t RIdx)) 109 (sym (o .piece) z .start) then (check (allows profile u (chunkOf t d)) 114 (24 + 12 * sym (o .piece) z .place)
       then cond (e z) (check (not ((eqb u Pict && eqb n (frontNumber (model f .chunks))) && eqb t Rect)) 119 (behind (sym (o .piece) z .start) (sp z) (sz z) (start (model f) (frontPlace (model f .chunks))) + 8)) accept)))
 
   pub out-101 : 16777216 < length f - a + new → refuse 101 0 ≡ H
@@ -190,11 +190,11 @@ module _ (f : List ℕ) (r : Front) (p : Piece) (u n t : ℕ) (d : List ℕ) (by
   unfolding check _then_
   out-109 h e = sym (shape (typeIn Fspc (model f .chunks)) refl ∙ rw (le-leb _ _ h, eq-eqb t RIdx e))
 
-  pub out-114 : length f - a + new ≤ 16777216 → (t ≡ RIdx → ⊥) → plainAllows u (chunkOf t d) ≡ false → refuse 114 (24 + 12 * p .place) ≡ H
+  pub out-114 : length f - a + new ≤ 16777216 → (t ≡ RIdx → ⊥) → allows profile u (chunkOf t d) ≡ false → refuse 114 (24 + 12 * p .place) ≡ H
   unfolding check _then_
   out-114 h e q = sym (shape (typeIn Fspc (model f .chunks)) refl ∙ rw (le-leb _ _ h, ne-eqb t RIdx e, q))
 
-  module _ (h : length f - a + (8 + (length d + length d % 2)) ≤ 16777216) (e : t ≡ RIdx → ⊥) (pl : plainAllows u (chunkOf t d) ≡ true) where
+  module _ (h : length f - a + (8 + (length d + length d % 2)) ≤ 16777216) (e : t ≡ RIdx → ⊥) (pl : allows profile u (chunkOf t d) ≡ true) where
     pub out-nothing : r ≡ front.Nothing → accept ≡ H
     unfolding check _then_
     out-nothing q = sym (shape false (front-nothing (model f) (sym (pre .1 .1) ∙ q)) ∙ rw (le-leb _ _ h, ne-eqb t RIdx e, pl))
@@ -203,12 +203,12 @@ module _ (f : List ℕ) (r : Front) (p : Piece) (u n t : ℕ) (d : List ℕ) (by
       there-is : H ≡ check (not ((eqb u Pict && eqb n q) && eqb t Rect)) 119 (behind (p .start) a (8 + (length d + length d % 2)) at + 8)
       there-is =
           let w = front-at (model f) at q (sym (pre .1 .1) ∙ fr) in
-          let g : check (leb (length f - a + (8 + (length d + length d % 2))) 16777216) 101 0 then (check (not (eqb t RIdx)) 109 (p .start) then (check (plainAllows u (chunkOf t d)) 114 (24 + 12 * p .place)
+          let g : check (leb (length f - a + (8 + (length d + length d % 2))) 16777216) 101 0 then (check (not (eqb t RIdx)) 109 (p .start) then (check (allows profile u (chunkOf t d)) 114 (24 + 12 * p .place)
           then check (not ((eqb u Pict && eqb n q) && eqb t Rect)) 119 (behind (p .start) a (8 + (length d + length d % 2)) at + 8)))
           ≡ check (not ((eqb u Pict && eqb n q) && eqb t Rect)) 119 (behind (p .start) a (8 + (length d + length d % 2)) at + 8)
           = pass _ _ _ _ (le-leb _ _ h) ∙ pass _ _ _ _ (ap not (ne-eqb t RIdx e)) ∙ pass _ _ _ _ pl in
           shape true (w .0)
-          ∙ (λ z. check (leb (length f - a + (8 + (length d + length d % 2))) 16777216) 101 0 then (check (not (eqb t RIdx)) 109 (p .start) then (check (plainAllows u (chunkOf t d)) 114 (24 + 12 * p .place)
+          ∙ (λ z. check (leb (length f - a + (8 + (length d + length d % 2))) 16777216) 101 0 then (check (not (eqb t RIdx)) 109 (p .start) then (check (allows profile u (chunkOf t d)) 114 (24 + 12 * p .place)
           then check (not ((eqb u Pict && eqb n (sym (w .2) z)) && eqb t Rect)) 119 (behind (p .start) a (8 + (length d + length d % 2)) (sym (w .1) z) + 8))))
           ∙ g
 

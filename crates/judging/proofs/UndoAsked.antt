@@ -9,17 +9,18 @@ use lib.Seq.{length-take-le}
 use lib.Dec.{eqb, leb}
 use borrow.Author.Tests.{le-leb, lt-leb, eq-eqb, ne-eqb}
 use Rattle.blorb.specs.Verdict.{Verdict, accept, refuse, _then_, check, verdict}
-use Rattle.blorb.specs.Rules.{plainRules, plainVerdict}
+use Rattle.blorb.specs.Rules.{rulesOf, profileVerdict}
 use Rattle.blorb.specs.Model.{Model, base, model}
 use Rattle.blorb.specs.All.{All}
 use Rattle.blorb.proofs.AllLaws.{all-take}
 use Rattle.blorb.specs.Bytes.{Byte}
 use Rattle.blorb.proofs.Checks.{pass, accepts}
 use Rattle.blorb.proofs.Accept.{accept-short}
+use Rattle.blorb.proofs.Profiles.{profile-known}
 use Rattle.blorb.proofs.ModelLaws.{length-file}
 use Rattle.edits.proofs.JudgedLaws.{model-parts}
 use Rattle.edits.specs.Journal.{Rec, lastRec, wellFormed, fits}
-use Rattle.edits.specs.Run.{accepted, undoneFile, undoFault}
+use Rattle.edits.specs.Run.{undo, state, accepted, undoneFile, undoFault, fault}
 use Rattle.edits.proofs.UndoJudged.{AcceptedFile, accepted-facts}
 use Rattle.judging.specs.declared.journal.Record.{Record}
 use Rattle.judging.specs.declared.journal.Last.{Last}
@@ -42,12 +43,12 @@ pub asked-start : (r : Record) → 3 ≤ r .kind → r .start - 12 ≡ askedAt r
 asked-start r h = rw (le-leb 3 (r .kind) h)
 
 -- a well-formed record, by its kind
-module _ (b : List ℕ) (l : ℕ) (j : List ℕ) (u : ℕ) (r : Record) (t : Facts) (a : UndoReady b l j u r t) where
+module _ (profile : ℕ) (b : List ℕ) (l : ℕ) (j : List ℕ) (u : ℕ) (r : Record) (t : Facts) (a : UndoReady profile b l j u r t) where
   abbrev rec : Rec
   rec = lastRec (take u j)
 
-  file-facts : AcceptedFile (take l b)
-  file-facts = accepted-facts (take l b) (a .file-bytes) (a .fine)
+  file-facts : AcceptedFile profile (take l b)
+  file-facts = accepted-facts profile (take l b) (a .file-bytes) (a .fine)
 
   pub ends : Ends j u r
   ends = good-ends j u r (a .within) (a .last)
@@ -80,24 +81,24 @@ module _ (b : List ℕ) (l : ℕ) (j : List ℕ) (u : ℕ) (r : Record) (t : Fac
   pub record-room : 29 + r .length ≤ u
   record-room = ends .room
 
-  pub asked-added : (x : Undoing) → r .kind ≡ 1 → x ≡ addedPlan t l r → x ≡ fittingPlan (take l b) (take u j)
+  pub asked-added : (x : Undoing) → r .kind ≡ 1 → x ≡ addedPlan t l r → x ≡ fittingPlan profile (take l b) (take u j)
   asked-added x h e =
-      e ∙ (λ i. addedPlan (facts-are i) (file-is i) (numbers i)) ∙ fits-added (take l b) (take u j) file-facts (a .bytes) (kind-is 1 h)
+      e ∙ (λ i. addedPlan (facts-are i) (file-is i) (numbers i)) ∙ fits-added profile (take l b) (take u j) file-facts (a .bytes) (kind-is 1 h)
 
-  pub asked-replaced : (x : Undoing) → r .kind ≡ 2 → x ≡ replacedPlan t l r (take (u - 4 - (u - 4 - r .length)) (drop (u - 4 - r .length) j)) → x ≡ fittingPlan (take l b) (take u j)
+  pub asked-replaced : (x : Undoing) → r .kind ≡ 2 → x ≡ replacedPlan profile t l r (take (u - 4 - (u - 4 - r .length)) (drop (u - 4 - r .length) j)) → x ≡ fittingPlan profile (take l b) (take u j)
   asked-replaced x h e =
-      e ∙ (λ i. replacedPlan (facts-are i) (file-is i) (numbers i) (body-is i)) ∙ fits-replaced (take l b) (take u j) file-facts (a .bytes) (kind-is 2 h)
+      e ∙ (λ i. replacedPlan profile (facts-are i) (file-is i) (numbers i) (body-is i)) ∙ fits-replaced profile (take l b) (take u j) file-facts (a .bytes) (kind-is 2 h)
 
   pub asked-removed : (x : Undoing) → (r .kind ≡ 1 → ⊥) → (r .kind ≡ 4 → ⊥) → (r .kind ≡ 2 → ⊥)
-      → x ≡ removedPlan t (take l b) r (take (u - 4 - (u - 4 - r .length)) (drop (u - 4 - r .length) j)) → x ≡ fittingPlan (take l b) (take u j)
+      → x ≡ removedPlan profile t (take l b) r (take (u - 4 - (u - 4 - r .length)) (drop (u - 4 - r .length) j)) → x ≡ fittingPlan profile (take l b) (take u j)
   asked-removed x n1 n4 n2 e =
       let h : r .kind ≡ 3 = omega (arith, ends .kind-low, ends .kind-high) in
-      e ∙ (λ i. removedPlan (start-facts (omega arith) i) (take l b) (numbers i) (body-is i)) ∙ fits-removed (take l b) (take u j) file-facts
+      e ∙ (λ i. removedPlan profile (start-facts (omega arith) i) (take l b) (numbers i) (body-is i)) ∙ fits-removed profile (take l b) (take u j) file-facts
       (a .bytes) (kind-is 3 h)
 
-  pub asked-unlisted : (x : Undoing) → r .kind ≡ 4 → x ≡ unlistedPlan t (take l b) r → x ≡ fittingPlan (take l b) (take u j)
+  pub asked-unlisted : (x : Undoing) → r .kind ≡ 4 → x ≡ unlistedPlan profile t (take l b) r → x ≡ fittingPlan profile (take l b) (take u j)
   asked-unlisted x h e =
-      e ∙ (λ i. unlistedPlan (start-facts (omega arith) i) (take l b) (numbers i)) ∙ fits-unlisted (take l b) (take u j) file-facts (a .bytes) (kind-is 4 h)
+      e ∙ (λ i. unlistedPlan profile (start-facts (omega arith) i) (take l b) (numbers i)) ∙ fits-unlisted profile (take l b) (take u j) file-facts (a .bytes) (kind-is 4 h)
 
   -- the index lies in the file
   pub index-inside : (length (take l b) ≤ 16777216) × (t .count ≤ 4096) × (24 + 12 * (t .count) ≤ length (take l b))
@@ -106,7 +107,7 @@ module _ (b : List ℕ) (l : ℕ) (j : List ℕ) (u : ℕ) (r : Record) (t : Fac
       let m : Model = model (take l b) in
       let c : t .count ≡ length (m .refs) = ap (λ (z : Facts). z .count) facts-are in (
         omega (arith, file-is, a .short),
-        omega (arith, c, model-parts m (file-facts .judged) .few),
+        omega (arith, c, model-parts profile m (file-facts .judged) .few),
         omega (arith, c, length-file m, ap length (file-facts .whole)),
       )
 
@@ -116,7 +117,7 @@ module _ (b : List ℕ) (l : ℕ) (j : List ℕ) (u : ℕ) (r : Record) (t : Fac
       let k : 3 ≤ r .kind = omega arith in (
         index-inside .0,
         subst (λ (z : Facts × Record). ChunkInside (z .0 .begins) (take l b) (z .1 .start - 12))
-            (λ i. (sym (start-facts k) i, sym numbers i)) (begins-there (take l b) (take u j) file-facts (a .bytes)),
+            (λ i. (sym (start-facts k) i, sym numbers i)) (begins-there profile (take l b) (take u j) file-facts (a .bytes)),
         index-inside .1,
         index-inside .2,
       )
@@ -132,27 +133,31 @@ bad-numbers j u (Good s) r hu q e h =
     absurd (omega (arith, good-ends j u s hu q .kind-low))
 bad-numbers j u Bad r hu q e h = last-bad (take u j) q
 
--- the order of the refusals: 20, the reader's, 26, 21, 24
-module _ (b : List ℕ) (l : ℕ) (j : List ℕ) (u : ℕ) where
+-- the order of the refusals: 52, 20, the reader's, 26, 21, 24
+module _ (profile : ℕ) (b : List ℕ) (l : ℕ) (j : List ℕ) (u : ℕ) where
   abbrev f : List ℕ
   f = take l b
 
-  pub short-buffer : length b < l → Not 20 0 ≡ undoPlan b l j u
-  unfolding undoPlan undoFault check _then_
-  short-buffer h = rw (lt-leb l (length b) h)
+  pub unknown-profile : 1 < profile → Not 52 0 ≡ undoPlan profile b l j u
+  unfolding undoPlan fault check _then_
+  unknown-profile h = rw (lt-leb profile 1 h)
 
-  pub short-journal : length j < u → Not 20 0 ≡ undoPlan b l j u
-  unfolding undoPlan undoFault check _then_
-  short-journal h = rw (lt-leb u (length j) h, and-false (leb l (length b)))
+  pub short-buffer : profile ≤ 1 → length b < l → Not 20 0 ≡ undoPlan profile b l j u
+  unfolding undoPlan fault undoFault check _then_
+  short-buffer known h = rw (le-leb profile 1 known, lt-leb l (length b) h)
+
+  pub short-journal : profile ≤ 1 → length j < u → Not 20 0 ≡ undoPlan profile b l j u
+  unfolding undoPlan fault undoFault check _then_
+  short-journal known h = rw (le-leb profile 1 known, lt-leb u (length j) h, and-false (leb l (length b)))
 
   -- the refusals behind the reader's; fit is refusal 21's test of a well-formed record
   abbrev fit : Bool
-  fit = fits (lastRec (take u j)) (model (take l b)) && accepted (verdict plainRules (undoneFile (take l b) (take u j)))
+  fit = fits (lastRec (take u j)) (model (take l b)) && accepted (verdict (rulesOf profile) (undoneFile (take l b) (take u j)))
 
   abbrev behind : Verdict
   behind =
       check (not (eqb u 0)) 26 0
-      then check (wellFormed (take u j) && fits (lastRec (take u j)) (model (take l b)) && accepted (verdict plainRules (undoneFile (take l b) (take u j)))) 21 0
+      then check (wellFormed (take u j) && fits (lastRec (take u j)) (model (take l b)) && accepted (verdict (rulesOf profile) (undoneFile (take l b) (take u j)))) 21 0
       then check (leb (length (undoneFile (take l b) (take u j))) (length b)) 24 0
 
   behind-26 : u ≡ 0 → behind ≡ refuse 26 0
@@ -166,7 +171,7 @@ module _ (b : List ℕ) (l : ℕ) (j : List ℕ) (u : ℕ) where
   behind-fit : (u ≡ 0 → ⊥) → wellFormed (take u j) ≡ true → behind ≡ check fit 21 0 then check (leb (length (undoneFile (take l b) (take u j))) (length b)) 24 0
   behind-fit n h =
       pass (not (eqb u 0)) 26 0 _ (rw (ne-eqb u 0 n))
-      ∙ ap (λ (w : Bool). check (w && fits (lastRec (take u j)) (model (take l b)) && accepted (verdict plainRules (undoneFile (take l b) (take u j)))) 21 0
+      ∙ ap (λ (w : Bool). check (w && fits (lastRec (take u j)) (model (take l b)) && accepted (verdict (rulesOf profile) (undoneFile (take l b) (take u j)))) 21 0
       then check (leb (length (undoneFile (take l b) (take u j))) (length b)) 24 0) h
 
   fit-plan : (p : Bool) → undoingOf (check p 21 0 then check (leb (length (undoneFile (take l b) (take u j))) (length b)) 24 0) (take l b) (take u j) ≡ roomy (length b) (fitting p (goOf (take l b) (take u j)))
@@ -178,59 +183,64 @@ module _ (b : List ℕ) (l : ℕ) (j : List ℕ) (u : ℕ) where
       go true = refl
       go false = refl
 
-  module _ (hl : l ≤ length b) (hu : u ≤ length j) (x y z : ℕ) where
-    opened : undoFault plainRules (length b) (length j) (take l b) l u (take u j) ≡ plainVerdict (take l b) then behind
-    unfolding undoFault plainVerdict
-    opened = pass (leb l (length b) && leb u (length j)) 20 0 _ (rw (le-leb l (length b) hl, le-leb u (length j) hu))
+  module _ (known : profile ≤ 1) (hl : l ≤ length b) (hu : u ≤ length j) (x y z : ℕ) where
+    by-rules : profileVerdict profile (take l b) ≡ verdict (rulesOf profile) (take l b)
+    by-rules = profile-known profile (take l b) (le-leb profile 1 known)
+
+    opened : fault (rulesOf profile) (state b l j u) undo ≡ profileVerdict profile (take l b) then behind
+    unfolding fault undoFault
+    opened =
+        pass (leb profile 1) 52 0 _ (le-leb profile 1 known)
+        ∙ pass (leb l (length b) && leb u (length j)) 20 0 _ (rw (le-leb l (length b) hl, le-leb u (length j) hu))
+        ∙ ap (λ (o : Verdict). o then behind) (sym by-rules)
 
     -- the plan, once the reader has given its verdict
-    planned : (v w : Verdict) → plainVerdict (take l b) ≡ v → v then behind ≡ w → undoingOf w (take l b) (take u j) ≡ undoPlan b l j u
+    planned : (v w : Verdict) → profileVerdict profile (take l b) ≡ v → v then behind ≡ w → undoingOf w (take l b) (take u j) ≡ undoPlan profile b l j u
     unfolding undoPlan
     planned v w e q = ap (λ (o : Verdict). undoingOf o (take l b) (take u j)) (sym (opened ∙ ap (λ (o : Verdict). o then behind) e ∙ q))
 
-    pub unread : (n p : ℕ) → inspectionOf (plainVerdict (take l b)) (model (take l b)) x y z ≡ Refused n p → Not n p ≡ undoPlan b l j u
+    pub unread : (n p : ℕ) → inspectionOf (profileVerdict profile (take l b)) (model (take l b)) x y z ≡ Refused n p → Not n p ≡ undoPlan profile b l j u
     unfolding _then_
-    unread n p e = go (plainVerdict f) refl e
+    unread n p e = go (profileVerdict profile f) refl e
       where
-        go : (v : Verdict) → plainVerdict (take l b) ≡ v → inspectionOf v (model (take l b)) x y z ≡ Refused n p → Not n p ≡ undoPlan b l j u
+        go : (v : Verdict) → profileVerdict profile (take l b) ≡ v → inspectionOf v (model (take l b)) x y z ≡ Refused n p → Not n p ≡ undoPlan profile b l j u
         go accept q e = let i : _≡_ {A = ℕ} 0 1 = cc in absurd (omega arith)
         go (refuse k o) q e = (cc) ∙ planned (refuse k o) (refuse k o) q refl
 
-    module _ (t : Facts) (e : inspectionOf (plainVerdict (take l b)) (model (take l b)) x y z ≡ Whole t) where
-      read-fine : (plainVerdict (take l b) ≡ accept) × (t ≡ factsOf (model (take l b)) x y z)
-      read-fine = go (plainVerdict f) e
+    module _ (t : Facts) (e : inspectionOf (profileVerdict profile (take l b)) (model (take l b)) x y z ≡ Whole t) where
+      read-fine : (profileVerdict profile (take l b) ≡ accept) × (t ≡ factsOf (model (take l b)) x y z)
+      read-fine = go (profileVerdict profile f) e
         where
           go : (v : Verdict) → inspectionOf v (model (take l b)) x y z ≡ Whole t → (v ≡ accept) × (t ≡ factsOf (model (take l b)) x y z)
           go accept e = (refl, cc)
           go (refuse k o) e = let i : _≡_ {A = ℕ} 0 1 = cc in absurd (omega arith)
 
-      pub nothing-used : u ≡ 0 → Not 26 0 ≡ undoPlan b l j u
+      pub nothing-used : u ≡ 0 → Not 26 0 ≡ undoPlan profile b l j u
       nothing-used h = planned accept (refuse 26 0) (read-fine .0) (accepts accept behind refl ∙ behind-26 h)
 
       module _ (n : u ≡ 0 → ⊥) (r : Record) (is : r ≡ numbersIn (lastOf (take u j))) where
-        pub unformed : r .kind ≡ 0 → Not 21 0 ≡ undoPlan b l j u
+        pub unformed : r .kind ≡ 0 → Not 21 0 ≡ undoPlan profile b l j u
         unformed h = planned accept (refuse 21 0) (read-fine .0) (accepts accept behind refl ∙ behind-21 n (bad-numbers j u (lastOf (take u j)) r hu refl is h))
 
         module _ (h : r .kind ≡ 0 → ⊥) where
           good : lastOf (take u j) ≡ Good r
           good = good-numbers (lastOf (take u j)) r is h
 
-          pub formed : (v : Undoing) → v ≡ roomy (length b) (fittingPlan (take l b) (take u j)) → v ≡ undoPlan b l j u
+          pub formed : (v : Undoing) → v ≡ roomy (length b) (fittingPlan profile (take l b) (take u j)) → v ≡ undoPlan profile b l j u
           unfolding fittingPlan
           formed v w =
               w ∙ sym (fit-plan fit)
               ∙ planned accept (check fit 21 0 then check (leb (length (undoneFile (take l b) (take u j))) (length b)) 24 0) (read-fine .0)
               (accepts accept behind refl ∙ behind-fit n (good-ends j u r hu good .formed))
 
-          pub asked : All Byte b → All Byte j → x ≡ r .usage → y ≡ r .number → z ≡ askedAt r → UndoReady b l j u r t
-          unfolding plainVerdict
+          pub asked : All Byte b → All Byte j → x ≡ r .usage → y ≡ r .number → z ≡ askedAt r → UndoReady profile b l j u r t
           asked bb bj ex ey ez =
-              let fine : verdict plainRules (take l b) ≡ accept = read-fine .0 in
+              let fine : verdict (rulesOf profile) (take l b) ≡ accept = sym by-rules ∙ read-fine .0 in
               let len : length (take l b) ≡ l = length-take-le l b hl in
               record {
                 inside = hl;
                 within = hu;
-                short = omega (arith, accept-short plainRules (take l b) fine);
+                short = omega (arith, accept-short (rulesOf profile) (take l b) fine);
                 file-bytes = all-take Byte l b bb;
                 fine = fine;
                 bytes = all-take Byte u j bj;

@@ -13,7 +13,7 @@ use Rattle.blorb.specs.Tags.{RIdx, Pict, Rect, Fspc}
 use Rattle.blorb.specs.Format.{Chunk, size, chunkIn, chunkBytes, chunksBytes, isStart}
 use Rattle.blorb.specs.Layout.{sizeOf}
 use Rattle.blorb.specs.Verdict.{verdict}
-use Rattle.blorb.specs.Rules.{plainAllows, typeIn, plainRules}
+use Rattle.blorb.specs.Rules.{allows, typeIn, rulesOf}
 use Rattle.blorb.specs.Model.{Model, base, model, file}
 use Rattle.blorb.specs.Queries.{find, refAt, chunkAt, start, frontNumber}
 use Rattle.blorb.specs.All.{All}
@@ -49,13 +49,13 @@ front-told m u n = go (typeIn Fspc (m .chunks))
     go true = refl
     go false = refl
 
-entry-told : (m : Model) (u n : ℕ) (c : Chunk) → entryFine u n (plainAllows u c) (targetOf m u n) ≡ entryTests u n c (m .refs)
+entry-told : (profile : ℕ) (m : Model) (u n : ℕ) (c : Chunk) → entryFine u n (allows profile u c) (targetOf m u n) ≡ entryTests profile u n c (m .refs)
 unfolding targetOf
-entry-told m u n c = go (ltb (find u n (m .refs)) (length (m .refs))) refl
+entry-told profile m u n c = go (ltb (find u n (m .refs)) (length (m .refs))) refl
   where
-    go : (b : Bool) → ltb (find u n (m .refs)) (length (m .refs)) ≡ b → entryFine u n (plainAllows u c) (targetBy b m (find u n (m .refs))) ≡ entryTests u n c (m .refs)
-    go true e = sym (entry-twice u n c (m .refs) (ltb-true (find u n (m .refs)) (length (m .refs)) e))
-    go false e = sym (entry-new u n c (m .refs) (ltb-false (find u n (m .refs)) (length (m .refs)) e))
+    go : (b : Bool) → ltb (find u n (m .refs)) (length (m .refs)) ≡ b → entryFine u n (allows profile u c) (targetBy b m (find u n (m .refs))) ≡ entryTests profile u n c (m .refs)
+    go true e = sym (entry-twice profile u n c (m .refs) (ltb-true (find u n (m .refs)) (length (m .refs)) e))
+    go false e = sym (entry-new profile u n c (m .refs) (ltb-false (find u n (m .refs)) (length (m .refs)) e))
 
 on-found : (b : Bool) (m : Model) (i : ℕ) (test : Piece → Bool) (go : Piece → Undoing)
     → onPiece (targetBy b m i) (λ (z : Piece). fitting (test z) (go z)) ≡ fitting (b && test (pieceOf m i)) (go (pieceOf m i))
@@ -96,7 +96,7 @@ chunk-ends m k s there small =
     omega (arith, e, size-pos (chunkAt m k))
 
 -- f: an accepted file; j: the journal bytes in use
-module _ (f j : List ℕ) (st : AcceptedFile f) (bytes : All Byte j) where
+module _ (profile : ℕ) (f j : List ℕ) (st : AcceptedFile profile f) (bytes : All Byte j) where
   abbrev m : Model
   m = model f
 
@@ -112,22 +112,22 @@ module _ (f j : List ℕ) (st : AcceptedFile f) (bytes : All Byte j) where
   told = factsOf (model f) (lastRec j .usage) (lastRec j .number) (lastRec j .start - 12)
 
   abbrev test : Bool
-  test = fits (lastRec j) (model f) && accepted (verdict plainRules (undoneFile f j))
+  test = fits (lastRec j) (model f) && accepted (verdict (rulesOf profile) (undoneFile f j))
 
   -- the test of the code is that of the definitions, and where it holds so is the rest
-  same-plan : (a : Bool) (x : Undoing) → a ≡ test → (test ≡ true → x ≡ goOf f j) → fitting a x ≡ fittingPlan f j
+  same-plan : (a : Bool) (x : Undoing) → a ≡ test → (test ≡ true → x ≡ goOf f j) → fitting a x ≡ fittingPlan profile f j
   unfolding fittingPlan
   same-plan a x e h = ap (λ (z : Bool). fitting z x) e ∙ fitting-where test x (goOf f j) h
 
   the-fit : test ≡ true → fits (lastRec j) (model f) ≡ true
-  the-fit h = and-parts (fits r m) (accepted (verdict plainRules (undoneFile f j))) h .0
+  the-fit h = and-parts (fits r m) (accepted (verdict (rulesOf profile) (undoneFile f j))) h .0
 
   go-is : (x y z : ℕ) → x ≡ chunkStart (lastRec j) (model f) → y ≡ chunkSize (lastRec j) (model f) → z ≡ length (undoneFile f j)
       → Go (length (model f .refs)) x y z (numbersOf (lastRec j)) ≡ goOf f j
   unfolding goOf
   go-is x y z ex ey ez = λ i. Go (length (m .refs)) (ex i) (ey i) (ez i) (numbersOf r)
 
-  pub fits-added : lastRec j .kind ≡ 1 → addedPlan told (length f) (numbersOf (lastRec j)) ≡ fittingPlan f j
+  pub fits-added : lastRec j .kind ≡ 1 → addedPlan told (length f) (numbersOf (lastRec j)) ≡ fittingPlan profile f j
   unfolding targetOf
   fits-added h =
       let b : Bool = ltb at (length (m .refs)) in
@@ -136,43 +136,43 @@ module _ (f j : List ℕ) (st : AcceptedFile f) (bytes : All Byte j) where
       on-found b m at (λ (z : Piece). fitsAdded z (length (m .refs)) (length f) (r .place) && not (frontIs (frontOf m) (r .usage) (r .number)))
       (λ (z : Piece). Go (length (m .refs)) (z .start) (sizeOf (z .length)) (length f - (12 + sizeOf (z .length))) (numbersOf r))
       ∙ same-plan (b && (t && not (frontIs (frontOf m) (r .usage) (r .number)))) (Go (length (m .refs)) (p .start) (sizeOf (p .length)) (length f - (12 + sizeOf (p .length))) (numbersOf r))
-      ((λ i. b && (t && not (front-told m (r .usage) (r .number) i))) ∙ sym (and-assoc b t (not (isFront (m .chunks) (r .usage) (r .number)))) ∙ sym (test-1 f j st bytes h))
+      ((λ i. b && (t && not (front-told m (r .usage) (r .number) i))) ∙ sym (and-assoc b t (not (isFront (m .chunks) (r .usage) (r .number)))) ∙ sym (test-1 profile f j st bytes h))
       (λ ok. rest (sym (kind-1 r m h .0) ∙ the-fit ok))
     where
       rest : fits1 (lastRec j) (model f) ≡ true
           → Go (length (model f .refs)) (pieceOf (model f) at .start) (sizeOf (pieceOf (model f) at .length)) (length f - (12 + sizeOf (pieceOf (model f) at .length))) (numbersOf (lastRec j)) ≡ goOf f j
       rest fit =
           let q = fits1-facts r m fit in
-          let i : at ≡ r .place = found-at r m (st .judged) (omega (arith, q .count)) (q .usage-is) (q .number-is) in
+          let i : at ≡ r .place = found-at profile r m (st .judged) (omega (arith, q .count)) (q .usage-is) (q .number-is) in
           let s : sizeOf (pieceOf m at .length) ≡ sizeOf (length (chunkAt m (refAt m (r .place) .chunk) .body)) = ap (λ (z : ℕ). sizeOf (length (chunkAt m (refAt m z .chunk) .body))) i in
           go-is _ _ _ (ap (λ (z : ℕ). start m (refAt m z .chunk)) i ∙ sym (at-1 r m h .0))
           (s ∙ sym (size-is (chunkAt m (refAt m (r .place) .chunk))) ∙ sym (at-1 r m h .1))
-          (ap (λ (z : ℕ). length f - (12 + z)) s ∙ omega (arith, after-1 f j st bytes h fit))
+          (ap (λ (z : ℕ). length f - (12 + z)) s ∙ omega (arith, after-1 profile f j st bytes h fit))
 
-  pub fits-replaced : lastRec j .kind ≡ 2 → replacedPlan told (length f) (numbersOf (lastRec j)) (lastRec j .body) ≡ fittingPlan f j
+  pub fits-replaced : lastRec j .kind ≡ 2 → replacedPlan profile told (length f) (numbersOf (lastRec j)) (lastRec j .body) ≡ fittingPlan profile f j
   unfolding targetOf
   fits-replaced h =
       let b : Bool = ltb at (length (m .refs)) in
       let p : Piece = pieceOf m at in
       let t : Bool = fitsReplaced p (numbersOf r) in
-      on-found b m at (λ (z : Piece). fitsReplaced z (numbersOf r) && (leb (length f - sizeOf (z .length) + sizeOf (length (r .body))) 16777216 && oldFine (numbersOf r) (r .body) (frontOf m)))
+      on-found b m at (λ (z : Piece). fitsReplaced z (numbersOf r) && (leb (length f - sizeOf (z .length) + sizeOf (length (r .body))) 16777216 && oldFine profile (numbersOf r) (r .body) (frontOf m)))
       (λ (z : Piece). Go (length (m .refs)) (z .start) (sizeOf (z .length)) (length f - sizeOf (z .length) + sizeOf (length (r .body))) (numbersOf r))
-      ∙ same-plan (b && (t && (leb (length f - sizeOf (p .length) + sizeOf (length (r .body))) 16777216 && oldFine (numbersOf r) (r .body) (frontOf m))))
+      ∙ same-plan (b && (t && (leb (length f - sizeOf (p .length) + sizeOf (length (r .body))) 16777216 && oldFine profile (numbersOf r) (r .body) (frontOf m))))
       (Go (length (m .refs)) (p .start) (sizeOf (p .length)) (length f - sizeOf (p .length) + sizeOf (length (r .body))) (numbersOf r))
       ((λ i. b && (t && (leb (length f - sizeOf (p .length) + sizeOf (length (r .body))) 16777216 && (not (eqb (r .type) RIdx)
-      && (plainAllows (r .usage) (oldChunk r) && not (front-told m (r .usage) (r .number) i && eqb (r .type) Rect))))))
-      ∙ sym (and-assoc b t (accepted2 r m (length f) at)) ∙ sym (test-2 f j st bytes h))
+      && (allows profile (r .usage) (oldChunk r) && not (front-told m (r .usage) (r .number) i && eqb (r .type) Rect))))))
+      ∙ sym (and-assoc b t (accepted2 profile r m (length f) at)) ∙ sym (test-2 profile f j st bytes h))
       (λ ok. rest (sym (kind-2 r m h .0) ∙ the-fit ok))
     where
       rest : fits2 (lastRec j) (model f) ≡ true
           → Go (length (model f .refs)) (pieceOf (model f) at .start) (sizeOf (pieceOf (model f) at .length)) (length f - sizeOf (pieceOf (model f) at .length) + sizeOf (length (lastRec j .body))) (numbersOf (lastRec j)) ≡ goOf f j
       rest fit =
           let q = fits2-facts r m fit in
-          let i : at ≡ r .place = found-at r m (st .judged) (q .inside) (q .usage-is) (q .number-is) in
+          let i : at ≡ r .place = found-at profile r m (st .judged) (q .inside) (q .usage-is) (q .number-is) in
           let s : sizeOf (pieceOf m at .length) ≡ sizeOf (length (chunkAt m (refAt m (r .place) .chunk) .body)) = ap (λ (z : ℕ). sizeOf (length (chunkAt m (refAt m z .chunk) .body))) i in
           go-is _ _ _ (ap (λ (z : ℕ). start m (refAt m z .chunk)) i ∙ sym (at-2 r m h .0))
           (s ∙ sym (size-is (chunkAt m (refAt m (r .place) .chunk))) ∙ sym (at-2 r m h .1))
-          (ap (λ (z : ℕ). length f - z + sizeOf (length (r .body))) s ∙ sym (after-2 f j st bytes h fit))
+          (ap (λ (z : ℕ). length f - z + sizeOf (length (r .body))) s ∙ sym (after-2 profile f j st bytes h fit))
 
   -- the start in an entry of the index is that of its chunk
   start-read : (i : ℕ) → i < length (model f .refs) → startIn f i ≡ entryStart (model f) i
@@ -182,13 +182,13 @@ module _ (f j : List ℕ) (st : AcceptedFile f) (bytes : All Byte j) where
       ≡ between (entryStart (model f)) (length (model f .refs)) (lastRec j .place) limit x
   order-read limit x = between-alike (startIn f) (entryStart m) (length (m .refs)) (r .place) limit x start-read
 
-  pub fits-removed : lastRec j .kind ≡ 3 → removedPlan told f (numbersOf (lastRec j)) (lastRec j .body) ≡ fittingPlan f j
+  pub fits-removed : lastRec j .kind ≡ 3 → removedPlan profile told f (numbersOf (lastRec j)) (lastRec j .body) ≡ fittingPlan profile f j
   fits-removed h =
       same-plan _ _
       ((λ i. told3 r m (length f)
       && (order-read (r .start - 12) (r .start - 12) i && (leb (length f + 12 + sizeOf (length (r .body))) 16777216 && (not (eqb (r .type) RIdx)
-      && (below (length (m .refs)) 4096 i && entry-told m (r .usage) (r .number) (oldChunk r) i))))) ∙ sym (test-3 f j st bytes h))
-      (λ ok. go-is _ _ _ (sym (at-3 r m h .0)) (sym (at-3 r m h .1)) (sym (after-3 f j st bytes h)))
+      && (below (length (m .refs)) 4096 i && entry-told profile m (r .usage) (r .number) (oldChunk r) i))))) ∙ sym (test-3 profile f j st bytes h))
+      (λ ok. go-is _ _ _ (sym (at-3 r m h .0)) (sym (at-3 r m h .1)) (sym (after-3 profile f j st bytes h)))
 
   -- where a chunk begins, it is read in place
   module _ (begins : isStart (lastRec j .start - 12) (base (length (model f .refs))) (model f .chunks) ≡ true) where
@@ -220,23 +220,23 @@ module _ (f j : List ℕ) (st : AcceptedFile f) (bytes : All Byte j) where
         let d : take (length (c .body)) (drop (x + 8) f) ≡ c .body = (λ i. take (length (c .body)) (drop (sym (starts .0) i + 8) (sym (st .whole) i))) ∙ body-at m k (st .sound) (starts .1) small in
         (λ i. record { type = t i; body = ((λ z. take (n z) (drop-drop 8 x f z)) ∙ d) i })
 
-  pub fits-unlisted : lastRec j .kind ≡ 4 → unlistedPlan told f (numbersOf (lastRec j)) ≡ fittingPlan f j
+  pub fits-unlisted : lastRec j .kind ≡ 4 → unlistedPlan profile told f (numbersOf (lastRec j)) ≡ fittingPlan profile f j
   fits-unlisted h =
       same-plan _ _
-      (and-where (told4 r m) _ (accepted4 r m (length f)) part ∙ sym (test-4 f j st bytes h))
-      (λ ok. go-is _ _ _ (sym (at-4 r m h .0)) (sym (at-4 r m h .1)) (sym (after-4 f j st bytes h (sym (kind-4 r m h .0) ∙ the-fit ok))))
+      (and-where (told4 r m) _ (accepted4 profile r m (length f)) part ∙ sym (test-4 profile f j st bytes h))
+      (λ ok. go-is _ _ _ (sym (at-4 r m h .0)) (sym (at-4 r m h .1)) (sym (after-4 profile f j st bytes h (sym (kind-4 r m h .0) ∙ the-fit ok))))
     where
       part : told4 (lastRec j) (model f) ≡ true
           → (between (startIn f) (length (model f .refs)) (lastRec j .place) (lastRec j .start - 12 + 1) (lastRec j .start - 12)
           && (leb (length f + 12) 16777216
           && (ltb (length (model f .refs)) 4096 && entryFine (lastRec j .usage) (lastRec j .number)
-          (plainAllows (lastRec j .usage) (chunkIn (drop (lastRec j .start - 12) f))) (targetOf (model f) (lastRec j .usage) (lastRec j .number)))))
-          ≡ accepted4 (lastRec j) (model f) (length f)
+          (allows profile (lastRec j .usage) (chunkIn (drop (lastRec j .start - 12) f))) (targetOf (model f) (lastRec j .usage) (lastRec j .number)))))
+          ≡ accepted4 profile (lastRec j) (model f) (length f)
       part fit =
           let s = and-parts (leb (r .place) (length (m .refs))) (isStart (r .start - 12) (base (length (m .refs))) (m .chunks)) fit .1 in
           λ i. order-read (r .start - 12 + 1) (r .start - 12) i && (leb (length f + 12) 16777216 && (below (length (m .refs)) 4096 i
-          && (ap (λ (z : Chunk). entryFine (r .usage) (r .number) (plainAllows (r .usage) z) (targetOf m (r .usage) (r .number))) (read-there s)
-          ∙ entry-told m (r .usage) (r .number) (c s)) i))
+          && (ap (λ (z : Chunk). entryFine (r .usage) (r .number) (allows profile (r .usage) z) (targetOf m (r .usage) (r .number))) (read-there s)
+          ∙ entry-told profile m (r .usage) (r .number) (c s)) i))
 
   pub begins-there : ChunkInside (told .begins) f (lastRec j .start - 12)
   begins-there = go (isStart (r .start - 12) (base (length (m .refs))) (m .chunks)) refl

@@ -12,7 +12,7 @@ use Rattle.blorb.specs.Bytes.{rd32}
 use Rattle.blorb.specs.Tags.{RIdx}
 use Rattle.blorb.specs.Format.{chunkIn, chunkOf}
 use Rattle.blorb.specs.Layout.{sizeOf}
-use Rattle.blorb.specs.Rules.{plainAllows}
+use Rattle.blorb.specs.Rules.{allows}
 use Rattle.edits.specs.Order.{between}
 use Rattle.judging.specs.declared.journal.Record.{Record}
 use Rattle.reader.specs.declared.Piece.{Piece}
@@ -55,11 +55,15 @@ module _ (t : Facts) (l : ℕ) (r : Record) (p : Piece) (a f : Bool) (found : t 
       piece-fits (t .target) p found (a && not f) added-test added-go (λ i. ea i && not (ef i)) h (Go (t .count) (p .start) s x r)
       (λ i. Go (t .count) (p .start) (es i) ((ex ∙ ap (λ (z : ℕ). l - (12 + z)) es) i) r)
 
--- kind 2: a is the test of the entry, o that of the record's chunk, n its size, x the file's length less the present chunk's size s
-module _ (t : Facts) (l : ℕ) (r : Record) (d : List ℕ) (p : Piece) (a o : Bool) (s n x : ℕ) (found : t .target ≡ target.At p)
-    (ea : a ≡ fitsReplaced p r) (eo : o ≡ oldFine r d (t .front)) (es : s ≡ sizeOf (p .length)) (en : n ≡ sizeOf (r .length)) (ex : x ≡ l - s) where
+-- kind 2: no such entry
+pub replaced-none : (profile : ℕ) (t : Facts) (l : ℕ) (r : Record) (d : List ℕ) → t .target ≡ target.Nothing → Not 21 0 ≡ replacedPlan profile t l r d
+replaced-none profile t l r d e = rw e
+
+-- the same: a is the test of the entry, o that of the record's chunk, n its size, x the file's length less the present chunk's size s
+module _ (profile : ℕ) (t : Facts) (l : ℕ) (r : Record) (d : List ℕ) (p : Piece) (a o : Bool) (s n x : ℕ) (found : t .target ≡ target.At p)
+    (ea : a ≡ fitsReplaced p r) (eo : o ≡ oldFine profile r d (t .front)) (es : s ≡ sizeOf (p .length)) (en : n ≡ sizeOf (r .length)) (ex : x ≡ l - s) where
   abbrev replaced-test : Piece → Bool
-  replaced-test z = fitsReplaced z r && (leb (l - sizeOf (z .length) + sizeOf (r .length)) 16777216 && oldFine r d (t .front))
+  replaced-test z = fitsReplaced z r && (leb (l - sizeOf (z .length) + sizeOf (r .length)) 16777216 && oldFine profile r d (t .front))
 
   abbrev replaced-go : Piece → Undoing
   replaced-go z = Go (t .count) (z .start) (sizeOf (z .length)) (l - sizeOf (z .length) + sizeOf (r .length)) r
@@ -67,31 +71,32 @@ module _ (t : Facts) (l : ℕ) (r : Record) (d : List ℕ) (p : Piece) (a o : Bo
   replaced-to : x + n ≡ l - sizeOf (p .length) + sizeOf (r .length)
   replaced-to = λ i. (ex ∙ ap (λ (z : ℕ). l - z) es) i + en i
 
-  pub replaced-not : not (a && (leb (x + n) 16777216 && o)) ≡ true → Not 21 0 ≡ replacedPlan t l r d
+  pub replaced-not : not (a && (leb (x + n) 16777216 && o)) ≡ true → Not 21 0 ≡ replacedPlan profile t l r d
   replaced-not h =
       piece-not (t .target) p found (a && (leb (x + n) 16777216 && o)) replaced-test replaced-go (λ i. ea i && (leb (replaced-to i) 16777216 && eo i)) h
 
-  pub replaced-fits : not (a && (leb (x + n) 16777216 && o)) ≡ false → Go (t .count) (p .start) s (x + n) r ≡ replacedPlan t l r d
+  pub replaced-fits : not (a && (leb (x + n) 16777216 && o)) ≡ false → Go (t .count) (p .start) s (x + n) r ≡ replacedPlan profile t l r d
   replaced-fits h =
       piece-fits (t .target) p found (a && (leb (x + n) 16777216 && o)) replaced-test replaced-go (λ i. ea i && (leb (replaced-to i) 16777216 && eo i)) h
       (Go (t .count) (p .start) s (x + n) r) (λ i. Go (t .count) (p .start) (es i) (replaced-to i) r)
 
 -- kind 3: a is the test of place and start, o that of the order, e that of the entry, b whether rule 5 allows the record's chunk, n that chunk's
 -- size, x where it goes in
-module _ (t : Facts) (s : List ℕ) (r : Record) (d : List ℕ) (a o b e : Bool) (n x : ℕ) (ea : a ≡ fitsRemoved t (length s) r) (ex : x ≡ r .start - 12)
+module _ (profile : ℕ) (t : Facts) (s : List ℕ) (r : Record) (d : List ℕ) (a o b e : Bool) (n x : ℕ) (ea : a ≡ fitsRemoved t (length s) r)
+    (ex : x ≡ r .start - 12)
     (eo : o ≡ between (startIn s) (t .count) (r .place) x x)
-    (eb : b ≡ plainAllows (r .usage) (chunkOf (r .sort) d)) (ee : e ≡ entryFine (r .usage) (r .number) b (t .target)) (en : n ≡ sizeOf (r .length)) where
+    (eb : b ≡ allows profile (r .usage) (chunkOf (r .sort) d)) (ee : e ≡ entryFine (r .usage) (r .number) b (t .target)) (en : n ≡ sizeOf (r .length)) where
   removed-same : (a && (o && (leb (length s + 12 + n) 16777216 && (not (eqb (r .sort) RIdx) && (ltb (t .count) 4096 && e)))))
-      ≡ (fitsRemoved t (length s) r && removedFine t s r d)
+      ≡ (fitsRemoved t (length s) r && removedFine profile t s r d)
   removed-same = λ i. ea i && ((eo ∙ ap (λ (z : ℕ). between (startIn s) (t .count) (r .place) z z) ex) i && (leb (length s + 12 + en i) 16777216
       && (not (eqb (r .sort) RIdx) && (ltb (t .count) 4096 && (ee ∙ ap (λ (z : Bool). entryFine (r .usage) (r .number) z (t .target)) eb) i))))
 
   pub removed-not : not (a && (o && (leb (length s + 12 + n) 16777216 && (not (eqb (r .sort) RIdx) && (ltb (t .count) 4096 && e))))) ≡ true → Not 21 0
-      ≡ removedPlan t s r d
+      ≡ removedPlan profile t s r d
   removed-not h = not-fitting _ _ _ removed-same h
 
   pub removed-fits : not (a && (o && (leb (length s + 12 + n) 16777216 && (not (eqb (r .sort) RIdx) && (ltb (t .count) 4096 && e))))) ≡ false
-      → Go (t .count) x 0 (length s + 12 + n) r ≡ removedPlan t s r d
+      → Go (t .count) x 0 (length s + 12 + n) r ≡ removedPlan profile t s r d
   removed-fits h = is-fitting _ _ _ _ removed-same h (λ i. Go (t .count) (ex i) 0 (length s + 12 + en i) r)
 
 -- a chunk read in place
@@ -124,8 +129,8 @@ pub both-sides : (s : List ℕ) (count place limit at : ℕ) (a b : Bool) → pl
 both-sides s count place limit at a b h ea eb = (λ i. ea i && eb i) ∙ rw (le-leb place count h)
 
 -- kind 4: b is whether rule 5 allows the chunk at x, o the test of the order, e that of the entry
-pub unlisted-none : (t : Facts) (s : List ℕ) (r : Record) → not (t .begins) ≡ true → Not 21 0 ≡ unlistedPlan t s r
-unlisted-none t s r h = ap (λ (z : Bool). fitting z (Go (t .count) (r .start - 12) 0 (length s + 12) r)) (sym (go (leb (r .place) (t .count)) (t .begins) _ (not-true _ h)))
+pub unlisted-none : (profile : ℕ) (t : Facts) (s : List ℕ) (r : Record) → not (t .begins) ≡ true → Not 21 0 ≡ unlistedPlan profile t s r
+unlisted-none profile t s r h = ap (λ (z : Bool). fitting z (Go (t .count) (r .start - 12) 0 (length s + 12) r)) (sym (go (leb (r .place) (t .count)) (t .begins) _ (not-true _ h)))
   where
     go : (a b c : Bool) → b ≡ false → (a && b) && c ≡ false
     go true b c h = ap (λ (z : Bool). z && c) h
@@ -135,28 +140,28 @@ pub begins-in : (b : Bool) (s : List ℕ) (x at : ℕ) → not b ≡ false → C
 begins-in true s x at h g e = rw e g
 begins-in false s x at h g e = let z : _≡_ {A = ℕ} 0 1 = cc in absurd (omega arith)
 
-module _ (t : Facts) (s : List ℕ) (r : Record) (o b e : Bool) (x : ℕ) (begun : not (t .begins) ≡ false) (ex : x ≡ r .start - 12)
-    (eo : o ≡ between (startIn s) (t .count) (r .place) (x + 1) x) (eb : b ≡ plainAllows (r .usage) (chunkIn (drop x s)))
+module _ (profile : ℕ) (t : Facts) (s : List ℕ) (r : Record) (o b e : Bool) (x : ℕ) (begun : not (t .begins) ≡ false) (ex : x ≡ r .start - 12)
+    (eo : o ≡ between (startIn s) (t .count) (r .place) (x + 1) x) (eb : b ≡ allows profile (r .usage) (chunkIn (drop x s)))
     (ee : e ≡ entryFine (r .usage) (r .number) b (t .target)) where
   abbrev unlisted-rest : Bool
   unlisted-rest =
       between (startIn s) (t .count) (r .place) (r .start - 12 + 1) (r .start - 12) && (leb (length s + 12) 16777216 && (ltb (t .count) 4096
-      && entryFine (r .usage) (r .number) (plainAllows (r .usage) (chunkIn (drop (r .start - 12) s))) (t .target)))
+      && entryFine (r .usage) (r .number) (allows profile (r .usage) (chunkIn (drop (r .start - 12) s))) (t .target)))
 
   unlisted-same : (leb (r .place) (t .count) && (o && (leb (length s + 12) 16777216 && (ltb (t .count) 4096 && e))))
       ≡ ((leb (r .place) (t .count) && t .begins) && unlisted-rest)
   unlisted-same =
-      let eb′ = eb ∙ ap (λ (z : ℕ). plainAllows (r .usage) (chunkIn (drop z s))) ex in
+      let eb′ = eb ∙ ap (λ (z : ℕ). allows profile (r .usage) (chunkIn (drop z s))) ex in
       (λ i. sym (and-true (leb (r .place) (t .count))) i && ((eo ∙ ap (λ (z : ℕ). between (startIn s) (t .count) (r .place) (z + 1) z) ex) i
       && (leb (length s + 12) 16777216 && (ltb (t .count) 4096 && (ee ∙ ap (λ (z : Bool). entryFine (r .usage) (r .number) z (t .target)) eb′) i))))
       ∙ ap (λ (z : Bool). (leb (r .place) (t .count) && z) && unlisted-rest) (sym (not-false (t .begins) begun))
 
   pub unlisted-not : not (leb (r .place) (t .count) && (o && (leb (length s + 12) 16777216 && (ltb (t .count) 4096 && e)))) ≡ true → Not 21 0
-      ≡ unlistedPlan t s r
+      ≡ unlistedPlan profile t s r
   unlisted-not h = not-fitting _ _ _ unlisted-same h
 
   pub unlisted-fits : not (leb (r .place) (t .count) && (o && (leb (length s + 12) 16777216 && (ltb (t .count) 4096 && e)))) ≡ false
-      → Go (t .count) x 0 (length s + 12) r ≡ unlistedPlan t s r
+      → Go (t .count) x 0 (length s + 12) r ≡ unlistedPlan profile t s r
   unlisted-fits h = is-fitting _ _ _ _ unlisted-same h (λ i. Go (t .count) (ex i) 0 (length s + 12) r)
 
 -- room for the file after it

@@ -10,12 +10,12 @@ use Rattle.blorb.specs.Tags.{RIdx, Pict, Exec, Rect}
 use Rattle.blorb.specs.Format.{size, chunkIn, chunkOf}
 use Rattle.blorb.specs.Layout.{sizeOf}
 use Rattle.blorb.specs.Verdict.{Verdict, accept, refuse, verdict, knownUsage}
-use Rattle.blorb.specs.Rules.{plainAllows, plainRules}
+use Rattle.blorb.specs.Rules.{allows, rulesOf}
 use Rattle.blorb.specs.Model.{Model, model}
 use Rattle.blorb.specs.Queries.{refAt, chunkAt, start}
 use Rattle.blorb.specs.All.{All}
 use Rattle.edits.specs.Journal.{Rec, byKind, lastRec, fits}
-use Rattle.edits.specs.Run.{accepted, undoneFile, undoFault}
+use Rattle.edits.specs.Run.{undo, state, accepted, undoneFile, fault}
 use Rattle.edits.specs.Order.{between}
 use Rattle.judging.specs.declared.journal.Record.{Record}
 use Rattle.judging.specs.declared.journal.Last.{Last}
@@ -48,16 +48,16 @@ abbrev pub undoingOf : Verdict → List ℕ → List ℕ → Undoing
 undoingOf accept f j = goOf f j
 undoingOf (refuse k p) f j = Not k p
 
-unfoldable pub undoPlan : List ℕ → ℕ → List ℕ → ℕ → Undoing
-undoPlan b l j u = undoingOf (undoFault plainRules (length b) (length j) (take l b) l u (take u j)) (take l b) (take u j)
+unfoldable pub undoPlan : (profile : ℕ) → List ℕ → ℕ → List ℕ → ℕ → Undoing
+undoPlan profile b l j u = undoingOf (fault (rulesOf profile) (state b l j u) undo) (take l b) (take u j)
 
 -- 21 unless the record fits and the file after it is accepted
 abbrev pub fitting : Bool → Undoing → Undoing
 fitting true x = x
 fitting false x = Not 21 0
 
-unfoldable pub fittingPlan : List ℕ → List ℕ → Undoing
-fittingPlan f j = fitting (fits (lastRec j) (model f) && accepted (verdict plainRules (undoneFile f j))) (goOf f j)
+unfoldable pub fittingPlan : (profile : ℕ) → List ℕ → List ℕ → Undoing
+fittingPlan profile f j = fitting (fits (lastRec j) (model f) && accepted (verdict (rulesOf profile) (undoneFile f j))) (goOf f j)
 
 -- 24 unless there is room
 abbrev pub roomyBy : Bool → Undoing → Undoing
@@ -78,12 +78,12 @@ abbrev pub askedAt : Record → ℕ
 askedAt r = cond (leb 3 (r .kind)) (r .start - 12) 0
 
 -- the well-formed last record r of the first u journal bytes, and what the reader tells of the accepted file in the first l bytes
-pub record UndoReady (b : List ℕ) (l : ℕ) (j : List ℕ) (u : ℕ) (r : Record) (t : Facts) : Type 0 where
+pub record UndoReady (profile : ℕ) (b : List ℕ) (l : ℕ) (j : List ℕ) (u : ℕ) (r : Record) (t : Facts) : Type 0 where
   pub inside : l ≤ length b
   pub within : u ≤ length j
   pub short : l ≤ 16777216
   pub file-bytes : All Byte (take l b)
-  pub fine : verdict plainRules (take l b) ≡ accept
+  pub fine : verdict (rulesOf profile) (take l b) ≡ accept
   pub bytes : All Byte (take u j)
   pub last : lastOf (take u j) ≡ Good r
   pub facts-are : t ≡ factsOf (model (take l b)) (r .usage) (r .number) (askedAt r)
@@ -117,12 +117,13 @@ abbrev pub fitsReplaced : Piece → Record → Bool
 fitsReplaced p r = eqb (p .place) (r .place) && (eqb (p .start) (r .start) && not (p .shared))
 
 -- its old chunk, d being the record's data, is no index and one that rule 5 allows, and the frontispiece's picture doesn't become a 'Rect'
-abbrev pub oldFine : Record → List ℕ → Front → Bool
-oldFine r d f = not (eqb (r .sort) RIdx) && (plainAllows (r .usage) (chunkOf (r .sort) d) && not (frontIs f (r .usage) (r .number) && eqb (r .sort) Rect))
+abbrev pub oldFine : (profile : ℕ) → Record → List ℕ → Front → Bool
+oldFine profile r d f =
+    not (eqb (r .sort) RIdx) && (allows profile (r .usage) (chunkOf (r .sort) d) && not (frontIs f (r .usage) (r .number) && eqb (r .sort) Rect))
 
-abbrev pub replacedPlan : Facts → ℕ → Record → List ℕ → Undoing
-replacedPlan t l r d =
-    onPiece (t .target) (λ p. fitting (fitsReplaced p r && (leb (l - sizeOf (p .length) + sizeOf (r .length)) 16777216 && oldFine r d (t .front)))
+abbrev pub replacedPlan : (profile : ℕ) → Facts → ℕ → Record → List ℕ → Undoing
+replacedPlan profile t l r d =
+    onPiece (t .target) (λ p. fitting (fitsReplaced p r && (leb (l - sizeOf (p .length) + sizeOf (r .length)) 16777216 && oldFine profile r d (t .front)))
     (Go (t .count) (p .start) (sizeOf (p .length)) (l - sizeOf (p .length) + sizeOf (r .length)) r))
 
 -- kind 3: the place is at most the count, and a chunk begins at the record's start less 12, or the file ends there
@@ -135,15 +136,15 @@ startIn s i = rd32 (drop (32 + 12 * i) s)
 
 -- and the file s after it is accepted; first of all its entries are in order. The entry in front of the new one starts below the new chunk, which pushes what
 -- is there now up.
-abbrev pub removedFine : Facts → List ℕ → Record → List ℕ → Bool
-removedFine t s r d =
+abbrev pub removedFine : (profile : ℕ) → Facts → List ℕ → Record → List ℕ → Bool
+removedFine profile t s r d =
     between (startIn s) (t .count) (r .place) (r .start - 12) (r .start - 12)
     && (leb (length s + 12 + sizeOf (r .length)) 16777216
-    && (not (eqb (r .sort) RIdx) && (ltb (t .count) 4096 && entryFine (r .usage) (r .number) (plainAllows (r .usage) (chunkOf (r .sort) d)) (t .target))))
+    && (not (eqb (r .sort) RIdx) && (ltb (t .count) 4096 && entryFine (r .usage) (r .number) (allows profile (r .usage) (chunkOf (r .sort) d)) (t .target))))
 
-abbrev pub removedPlan : Facts → List ℕ → Record → List ℕ → Undoing
-removedPlan t s r d =
-    fitting (fitsRemoved t (length s) r && removedFine t s r d) (Go (t .count) (r .start - 12) 0 (length s + 12 + sizeOf (r .length)) r)
+abbrev pub removedPlan : (profile : ℕ) → Facts → List ℕ → Record → List ℕ → Undoing
+removedPlan profile t s r d =
+    fitting (fitsRemoved t (length s) r && removedFine profile t s r d) (Go (t .count) (r .start - 12) 0 (length s + 12 + sizeOf (r .length)) r)
 
 -- the header and data of a chunk that begins at `at` lie in the file s
 abbrev pub ChunkInside : Bool → List ℕ → ℕ → Type 0
@@ -151,9 +152,9 @@ ChunkInside true s at = at + (8 + rd32 (drop (at + 4) s)) ≤ length s
 ChunkInside false s at = Unit {0}
 
 -- kind 4: as kind 3, but a chunk begins there; it is read in the file s, and the entry in front of the new one may start there too
-abbrev pub unlistedPlan : Facts → List ℕ → Record → Undoing
-unlistedPlan t s r =
+abbrev pub unlistedPlan : (profile : ℕ) → Facts → List ℕ → Record → Undoing
+unlistedPlan profile t s r =
     fitting ((leb (r .place) (t .count) && t .begins) && (between (startIn s) (t .count) (r .place) (r .start - 12 + 1) (r .start - 12)
     && (leb (length s + 12) 16777216 && (ltb (t .count) 4096
-    && entryFine (r .usage) (r .number) (plainAllows (r .usage) (chunkIn (drop (r .start - 12) s))) (t .target)))))
+    && entryFine (r .usage) (r .number) (allows profile (r .usage) (chunkIn (drop (r .start - 12) s))) (t .target)))))
     (Go (t .count) (r .start - 12) 0 (length s + 12) r)

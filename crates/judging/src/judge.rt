@@ -12,7 +12,7 @@ ghost use lib.ListN.{length};
 ghost use lib.Dec.{eqb};
 ghost use Rattle.blorb.specs.Verdict.{accept, verdict};
 ghost use Rattle.blorb.specs.Format.{chunkOf};
-ghost use Rattle.blorb.specs.Rules.{plainRules};
+ghost use Rattle.blorb.specs.Rules.{rulesOf};
 ghost use Rattle.blorb.specs.Tags.{Exec, Pict, Rect};
 ghost use Rattle.blorb.specs.Model.{model, file};
 ghost use Rattle.blorb.specs.Queries.{refAt, find};
@@ -42,6 +42,7 @@ pub fn number_fits(usage: u32, number: u32) -> bool
 // 100 + k for an add to the accepted file `s` with `count` entries, of which `target` has the pair.
 pub fn add_fault(
     s: &[u8],
+    profile: u32,
     count: usize,
     target: Target,
     usage: u32,
@@ -49,8 +50,8 @@ pub fn add_fault(
     kind: u32,
     d: &[u8],
 ) -> Outcome
-    requires { ⌜ (verdict plainRules (now s) ≡ accept) × (Counted (now s) count × (target ≡ targetOf (model (now s)) usage number)) ⌝ }
-    ensures { λ r. ⌜ verdictOf r ≡ hundred (verdict plainRules (file (added (model (now (s .entry))) usage number (chunkOf kind (now (d .entry)))))) ⌝ }
+    requires { ⌜ (verdict (rulesOf profile) (now s) ≡ accept) × (Counted (now s) count × (target ≡ targetOf (model (now s)) usage number)) ⌝ }
+    ensures { λ r. ⌜ verdictOf r ≡ hundred (verdict (rulesOf profile) (file (added (model (now (s .entry))) usage number (chunkOf kind (now (d .entry)))))) ⌝ }
 {
     let len = s.len();
     let m = d.len();
@@ -67,7 +68,7 @@ pub fn add_fault(
     if let Known::Unknown = Usage::of_code(usage as u64) {
         return refused(112, at);
     }
-    if !blorb::type_allowed(usage as u64, kind as u64, d) {
+    if !blorb::type_allowed(profile, usage as u64, kind as u64, d) {
         return refused(114, at);
     }
     if !number_fits(usage, number) {
@@ -110,14 +111,15 @@ pub fn fallen_start(at: u32, start: u32, size: u32) -> u32
 // `start` loses `size` bytes.
 pub fn remove_fault(
     s: &[u8],
+    profile: u32,
     front: Front,
     usage: u32,
     number: u32,
     start: u32,
     size: u32,
 ) -> Outcome
-    requires { ⌜ (verdict plainRules (now s) ≡ accept) × (Listed (now s) usage number start size × (front ≡ frontOf (model (now s)))) ⌝ }
-    ensures { λ r. ⌜ verdictOf r ≡ hundred (verdict plainRules (file (removed (model (now (s .entry))) (find usage number (model (now (s .entry)) .refs))))) ⌝ }
+    requires { ⌜ (verdict (rulesOf profile) (now s) ≡ accept) × (Listed (now s) usage number start size × (front ≡ frontOf (model (now s)))) ⌝ }
+    ensures { λ r. ⌜ verdictOf r ≡ hundred (verdict (rulesOf profile) (file (removed (model (now (s .entry))) (find usage number (model (now (s .entry)) .refs))))) ⌝ }
 {
     match front {
         Front::Nothing => Outcome::Done,
@@ -161,6 +163,7 @@ pub fn behind_start(at: u32, start: u32, old: u32, new: u32) -> u64
 // 100 + k for a replacement in the accepted file `s` with this frontispiece: `piece` is the entry's own chunk.
 pub fn replace_fault(
     s: &[u8],
+    profile: u32,
     front: Front,
     piece: Piece,
     usage: u32,
@@ -168,8 +171,8 @@ pub fn replace_fault(
     kind: u32,
     d: &[u8],
 ) -> Outcome
-    requires { ⌜ (verdict plainRules (now s) ≡ accept) × (Own (now s) usage number piece × (front ≡ frontOf (model (now s)))) ⌝ }
-    ensures { λ r. ⌜ verdictOf r ≡ hundred (verdict plainRules (file (replaced (model (now (s .entry))) (refAt (model (now (s .entry))) (find usage number (model (now (s .entry)) .refs)) .chunk) (chunkOf kind (now (d .entry)))))) ⌝ }
+    requires { ⌜ (verdict (rulesOf profile) (now s) ≡ accept) × (Own (now s) usage number piece × (front ≡ frontOf (model (now s)))) ⌝ }
+    ensures { λ r. ⌜ verdictOf r ≡ hundred (verdict (rulesOf profile) (file (replaced (model (now (s .entry))) (refAt (model (now (s .entry))) (find usage number (model (now (s .entry)) .refs)) .chunk) (chunkOf kind (now (d .entry)))))) ⌝ }
 {
     let len = s.len();
     let m = d.len();
@@ -181,7 +184,7 @@ pub fn replace_fault(
     if kind as u64 == blorb::RIDX {
         return refused(109, piece.start as usize);
     }
-    if !blorb::type_allowed(usage as u64, kind as u64, d) {
+    if !blorb::type_allowed(profile, usage as u64, kind as u64, d) {
         return refused(114, 24 + 12 * piece.place);
     }
     match front {

@@ -18,7 +18,7 @@ ghost use lib.Dec.{eqb, leb, ltb};
 ghost use Rattle.blorb.specs.Bytes.{rd32};
 ghost use Rattle.blorb.specs.Format.{chunkIn};
 ghost use Rattle.blorb.specs.Layout.{sizeOf};
-ghost use Rattle.blorb.specs.Rules.{plainAllows};
+ghost use Rattle.blorb.specs.Rules.{allows};
 ghost use Rattle.blorb.specs.Verdict.{knownUsage};
 ghost use Rattle.edits.specs.Order.{between};
 ghost use Rattle.judging.specs.LastRecord.{lastOf};
@@ -114,18 +114,18 @@ fn fits_replaced(p: Piece, r: Record) -> bool
 }
 
 // The record's type and data `d` may stand in the place of the entry's chunk: no 'RIdx', and no 'Rect' for the frontispiece's picture.
-fn old_fine(r: Record, d: &[u8], front: Front) -> bool
-    ensures { λ x. ⌜ x ≡ oldFine r (now (d .entry)) front ⌝ }
+fn old_fine(profile: u32, r: Record, d: &[u8], front: Front) -> bool
+    ensures { λ x. ⌜ x ≡ oldFine profile r (now (d .entry)) front ⌝ }
 {
-    let allowed = blorb::type_allowed(r.usage as u64, r.sort as u64, d);
+    let allowed = blorb::type_allowed(profile, r.usage as u64, r.sort as u64, d);
     (r.sort as u64 != blorb::RIDX)
         & (allowed & !(is_front(front, r.usage, r.number) & (r.sort as u64 == blorb::RECT)))
 }
 
 // Kind 2: the entry's chunk takes the record's type and data `d`.
-fn plan_replaced(facts: Facts, len: usize, r: Record, d: &[u8]) -> Undoing
+fn plan_replaced(profile: u32, facts: Facts, len: usize, r: Record, d: &[u8]) -> Undoing
     requires { ⌜ len ≤ 16777216 ⌝ }
-    ensures { λ x. ⌜ x ≡ replacedPlan facts len r (now (d .entry)) ⌝ }
+    ensures { λ x. ⌜ x ≡ replacedPlan profile facts len r (now (d .entry)) ⌝ }
 {
     let target = facts.target;
     let Target::At(p) = target else {
@@ -138,7 +138,7 @@ fn plan_replaced(facts: Facts, len: usize, r: Record, d: &[u8]) -> Undoing
     let front = facts.front;
     let size = chunk_size(p.length);
     let to = less(len, size) + chunk_size(r.length);
-    if !(fits_replaced(p, r) & ((to <= 16777216) & old_fine(r, d, front))) {
+    if !(fits_replaced(p, r) & ((to <= 16777216) & old_fine(profile, r, d, front))) {
         return Undoing::Not {
             number: 21,
             place: 0,
@@ -213,16 +213,16 @@ fn in_order(s: &[u8], count: usize, place: usize, limit: usize, at: usize) -> bo
 }
 
 // Kind 3: in the file `s` the entry goes in, and a chunk with the record's type, which is no 'RIdx', and data `d`.
-fn plan_removed(s: &[u8], facts: Facts, r: Record, d: &[u8]) -> Undoing
+fn plan_removed(s: &[u8], profile: u32, facts: Facts, r: Record, d: &[u8]) -> Undoing
     requires { ⌜ (length (now s) ≤ 16777216) × (facts .count ≤ 4096) × (24 + 12 * (facts .count) ≤ length (now s)) ⌝ }
-    ensures { λ x. ⌜ x ≡ removedPlan facts (now (s .entry)) r (now (d .entry)) ⌝ }
+    ensures { λ x. ⌜ x ≡ removedPlan profile facts (now (s .entry)) r (now (d .entry)) ⌝ }
 {
     let count = facts.count;
     let target = facts.target;
     let to = s.len() + 12 + chunk_size(r.length);
     let at = less(r.start as usize, 12);
     let ordered = in_order(s, count, r.place as usize, at, at);
-    let allowed = blorb::type_allowed(r.usage as u64, r.sort as u64, d);
+    let allowed = blorb::type_allowed(profile, r.usage as u64, r.sort as u64, d);
     let fine = (r.sort as u64 != blorb::RIDX)
         & ((count < 4096) & entry_fine(r.usage, r.number, allowed, target));
     if !(fits_removed(facts, s.len(), r) & (ordered & ((to <= 16777216) & fine))) {
@@ -241,21 +241,21 @@ fn plan_removed(s: &[u8], facts: Facts, r: Record, d: &[u8]) -> Undoing
 }
 
 // Rule 5 for the chunk that begins at `at` of the file `s`.
-fn chunk_allowed(s: &[u8], at: usize, usage: u32) -> bool
+fn chunk_allowed(s: &[u8], profile: u32, at: usize, usage: u32) -> bool
     requires { ⌜ at + (8 + rd32 (drop (at + 4) (now s))) ≤ length (now s) ⌝ }
-    ensures { λ r. ⌜ r ≡ plainAllows usage (chunkIn (drop at (now (s .entry)))) ⌝ }
+    ensures { λ r. ⌜ r ≡ allows profile usage (chunkIn (drop at (now (s .entry)))) ⌝ }
 {
     let kind = blorb::be32_at(s, at);
     let m = blorb::be32_at(s, at + 4) as usize;
     let from = at + 8;
     let end = from + m;
-    blorb::type_allowed(usage as u64, kind, &s[from..end])
+    blorb::type_allowed(profile, usage as u64, kind, &s[from..end])
 }
 
 // Kind 4: the entry goes in; its chunk stands in the file `s`.
-fn plan_unlisted(s: &[u8], facts: Facts, r: Record) -> Undoing
+fn plan_unlisted(s: &[u8], profile: u32, facts: Facts, r: Record) -> Undoing
     requires { ⌜ (length (now s) ≤ 16777216) × ChunkInside (facts .begins) (now s) (r .start - 12) × (facts .count ≤ 4096) × (24 + 12 * (facts .count) ≤ length (now s)) ⌝ }
-    ensures { λ x. ⌜ x ≡ unlistedPlan facts (now (s .entry)) r ⌝ }
+    ensures { λ x. ⌜ x ≡ unlistedPlan profile facts (now (s .entry)) r ⌝ }
 {
     let count = facts.count;
     let target = facts.target;
@@ -269,7 +269,7 @@ fn plan_unlisted(s: &[u8], facts: Facts, r: Record) -> Undoing
     let to = s.len() + 12;
     let at = less(r.start as usize, 12);
     let ordered = in_order(s, count, r.place as usize, at + 1, at);
-    let allowed = chunk_allowed(s, at, r.usage);
+    let allowed = chunk_allowed(s, profile, at, r.usage);
     let fine = (to <= 16777216) & ((count < 4096) & entry_fine(r.usage, r.number, allowed, target));
     if !((r.place as usize <= count) & (ordered & fine)) {
         return Undoing::Not {
@@ -287,24 +287,32 @@ fn plan_unlisted(s: &[u8], facts: Facts, r: Record) -> Undoing
 }
 
 // 21 of a well-formed last record `r`, or how its undo goes on, by its kind.
-fn plan_fitting(buf: &[u8], len: usize, jrn: &[u8], used: usize, facts: Facts, r: Record) -> Undoing
-    requires { ⌜ UndoReady (now buf) len (now jrn) used r facts ⌝ }
-    ensures { λ x. ⌜ x ≡ fittingPlan (take len (now (buf .entry))) (take used (now (jrn .entry))) ⌝ }
+fn plan_fitting(
+    buf: &[u8],
+    len: usize,
+    jrn: &[u8],
+    used: usize,
+    profile: u32,
+    facts: Facts,
+    r: Record,
+) -> Undoing
+    requires { ⌜ UndoReady profile (now buf) len (now jrn) used r facts ⌝ }
+    ensures { λ x. ⌜ x ≡ fittingPlan profile (take len (now (buf .entry))) (take used (now (jrn .entry))) ⌝ }
 {
     let kind = r.kind;
     if kind == 1 {
         return plan_added(facts, len, r);
     }
     if kind == 4 {
-        return plan_unlisted(&buf[..len], facts, r);
+        return plan_unlisted(&buf[..len], profile, facts, r);
     }
     let end = used - 4;
     let from = end - r.length as usize;
     let d = &jrn[from..end];
     if kind == 2 {
-        return plan_replaced(facts, len, r, d);
+        return plan_replaced(profile, facts, len, r, d);
     }
-    plan_removed(&buf[..len], facts, r, d)
+    plan_removed(&buf[..len], profile, facts, r, d)
 }
 
 // 24, in a buffer of `room` bytes.
@@ -367,9 +375,15 @@ fn asked_offset(r: Record) -> usize
 }
 
 // An undo's refusal, or how it goes on.
-pub fn undo_plan(buf: &[u8], len: usize, jrn: &[u8], used: usize) -> Undoing
-    ensures { λ r. ⌜ r ≡ undoPlan (now (buf .entry)) len (now (jrn .entry)) used ⌝ }
+pub fn undo_plan(buf: &[u8], len: usize, jrn: &[u8], used: usize, profile: u32) -> Undoing
+    ensures { λ r. ⌜ r ≡ undoPlan profile (now (buf .entry)) len (now (jrn .entry)) used ⌝ }
 {
+    if 1 < profile {
+        return Undoing::Not {
+            number: 52,
+            place: 0,
+        };
+    }
     if buf.len() < len {
         return Undoing::Not {
             number: 20,
@@ -383,7 +397,7 @@ pub fn undo_plan(buf: &[u8], len: usize, jrn: &[u8], used: usize) -> Undoing
         };
     }
     let r = last_numbers(jrn, used);
-    match reader::inspect(&buf[..len], r.usage, r.number, asked_offset(r)) {
+    match reader::inspect(&buf[..len], profile, r.usage, r.number, asked_offset(r)) {
         Inspection::Refused { number, place } => Undoing::Not { number, place },
         Inspection::Whole(facts) => {
             if used == 0 {
@@ -398,7 +412,10 @@ pub fn undo_plan(buf: &[u8], len: usize, jrn: &[u8], used: usize) -> Undoing
                     place: 0,
                 };
             }
-            with_room(plan_fitting(buf, len, jrn, used, facts, r), buf.len())
+            with_room(
+                plan_fitting(buf, len, jrn, used, profile, facts, r),
+                buf.len(),
+            )
         }
     }
 }

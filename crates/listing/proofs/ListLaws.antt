@@ -21,19 +21,19 @@ use Rattle.listing.specs.declared.Listed.the-variants.{Written, NoRoom}
 use Rattle.listing.proofs.WriteLaws.{more, from-start}
 use Rattle.listing.proofs.LineLaws.{line-is}
 
-lines-snoc : (f : List ℕ) (es : List Entry) (e : Entry) → linesOf f (es ++ (e ∷ [])) ≡ linesOf f es ++ lineBy e (lookupOf f (e .usage) (e .number))
+lines-snoc : (f : List ℕ) (es : List Entry) (e : Entry) → linesOf f (es ++ (e ∷ [])) ≡ linesOf f es ++ lineBy e (lookupOf 0 f (e .usage) (e .number))
 unfolding linesOf
-lines-snoc f [] e = append-nil (lineBy e (lookupOf f (e .usage) (e .number)))
-lines-snoc f (x ∷ es) e = ap (λ (l : List ℕ). lineBy x (lookupOf f (x .usage) (x .number)) ++ l) (lines-snoc f es e) ∙ sym (append-assoc (lineBy x (lookupOf f (x .usage) (x .number))) (linesOf f es) (lineBy e (lookupOf f (e .usage) (e .number))))
+lines-snoc f [] e = append-nil (lineBy e (lookupOf 0 f (e .usage) (e .number)))
+lines-snoc f (x ∷ es) e = ap (λ (l : List ℕ). lineBy x (lookupOf 0 f (x .usage) (x .number)) ++ l) (lines-snoc f es e) ∙ sym (append-assoc (lineBy x (lookupOf 0 f (x .usage) (x .number))) (linesOf f es) (lineBy e (lookupOf 0 f (e .usage) (e .number))))
 
-module _ (f : List ℕ) (l count : ℕ) (e : readOf f ≡ Accepted l count) where
+module _ (f : List ℕ) (l count : ℕ) (e : readOf 0 f ≡ Accepted l count) where
   -- the line of entry i, read in place
-  line-of : (i : ℕ) → i < count → lineBy (getD (indexOf f) i noEntry) (lookupOf f (getD (indexOf f) i noEntry .usage) (getD (indexOf f) i noEntry .number)) ≡ lineAt f (place i)
-  line-of i h = let a = entry-at f l count i e h in rw (a .listed, a .found) (sym (line-is f (place i)))
+  line-of : (i : ℕ) → i < count → lineBy (getD (indexOf f) i noEntry) (lookupOf 0 f (getD (indexOf f) i noEntry .usage) (getD (indexOf f) i noEntry .number)) ≡ lineAt f (place i)
+  line-of i h = let a = entry-at 0 f l count i e h in rw (a .listed, a .found) (sym (line-is f (place i)))
 
   pub lines-on : (i : ℕ) → i < count → linesOf f (take (i + 1) (indexOf f)) ≡ linesOf f (take i (indexOf f)) ++ lineAt f (place i)
   lines-on i b =
-      let h : i < length (indexOf f) = rw (counted f l count e) b in
+      let h : i < length (indexOf f) = rw (counted 0 f l count e) b in
       rw (add-one i, take-suc (indexOf f) i noEntry h) (lines-snoc f (take i (indexOf f)) (getD (indexOf f) i noEntry) ∙ ap (λ (t : List ℕ). linesOf f (take i (indexOf f)) ++ t) (line-of i b))
 
   pub lines-turn : (out mid after : List ℕ) (at i to end : ℕ) → i < count → Wrote out at (linesOf f (take i (indexOf f))) to mid → Wrote mid to (lineAt f (place i)) end after
@@ -41,14 +41,14 @@ module _ (f : List ℕ) (l count : ℕ) (e : readOf f ≡ Accepted l count) wher
   lines-turn out mid after at i to end b w v = rw (lines-on i b) (more out at (linesOf f (take i (indexOf f))) to mid w (lineAt f (place i)) end after v)
 
   pub lines-whole : (out after : List ℕ) (at i to : ℕ) → count ≤ i → Wrote out at (linesOf f (take i (indexOf f))) to after → Wrote out at (linesOf f (indexOf f)) to after
-  lines-whole out after at i to b w = let h : length (indexOf f) ≤ i = rw (counted f l count e) b in rw (take-all i (indexOf f) h) at w
+  lines-whole out after at i to b w = let h : length (indexOf f) ≤ i = rw (counted 0 f l count e) b in rw (take-all i (indexOf f) h) at w
 
 pub lines-none : (f out : List ℕ) (at : ℕ) → Wrote out at (linesOf f (take 0 (indexOf f))) at out
 unfolding linesOf
 lines-none f out at = (omega arith, refl)
 
-pub size-known : (f : List ℕ) (l n : ℕ) → readOf f ≡ Accepted l n → readOf f ≡ Accepted (length f) n
-size-known f l n e = e ∙ ap (λ (k : ℕ). Accepted k n) (accepted-is f l n e .0)
+pub size-known : (f : List ℕ) (l n : ℕ) → readOf 0 f ≡ Accepted l n → readOf 0 f ≡ Accepted (length f) n
+size-known f l n e = e ∙ ap (λ (k : ℕ). Accepted k n) (accepted-is 0 f l n e .0)
 
 -- the answers
 module _ (out : List ℕ) (room : ℕ) (t : List ℕ) where
@@ -67,7 +67,7 @@ module _ (f out after : List ℕ) (r : Listed) (v : Reading) where
   abbrev pub Lists : Type 0
   Lists = (r ≡ listedIn (length out) (roomBy v) (listingBy f v)) × (after ≡ outBy r (listingBy f v) out)
 
-  pub list-by : readOf f ≡ v → Lists → (r ≡ listedIn (length out) (roomFor f) (listingOf f)) × (after ≡ outBy r (listingOf f) out)
+  pub list-by : readOf 0 f ≡ v → Lists → (r ≡ listedIn (length out) (roomFor f) (listingOf f)) × (after ≡ outBy r (listingOf f) out)
   unfolding roomFor listingOf
   list-by e h = rw e h
 

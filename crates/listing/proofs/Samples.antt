@@ -6,14 +6,14 @@ use lib.ListN.{set}
 use Rattle.blorb.specs.Bytes.{be32, rd32}
 use Rattle.blorb.specs.Format.{refOf, Chunk, size, sized, total, chunkBytes, chunksBytes, fileBytes, chunkIn, chunksIn, chunksOf, entryIn, entriesIn, entryBytes, entriesBytes, indexChunk, entriesOf, isStart, placeOf}
 use Rattle.blorb.specs.Tags.{tag, Pict, Data, Rect}
-use Rattle.blorb.specs.Verdict.{headFault, _then_, check, verdict, chunkFault, walkFault, secondIndex, indexFault, refFault, entriesFault, restFault, layoutFault, pairIn, lastPlace}
-use Rattle.blorb.specs.Rules.{plainAllows, optional, plainVerdict, oneOf, picture, typeIn, single, chunkRule, chunkRules}
+use Rattle.blorb.specs.Verdict.{headFault, _then_, check, verdict, reading, chunkFault, walkFault, secondIndex, indexFault, refFault, entriesFault, restFault, layoutFault, pairIn, lastPlace}
+use Rattle.blorb.specs.Rules.{plainAllows, allows, adriftAllows, optional, profileVerdict, oneOf, picture, typeIn, single, chunkRule, chunkRules}
 use Rattle.reader.specs.Reading.{readOf, indexOf, lookupOf, hitIn}
 use Rattle.listing.specs.Text.{text, decimal}
 use Rattle.listing.specs.Listing.{headLine, refusedLine, entryLine, linesOf, listingOf}
 
 computed : ℕ
-unfolding listingOf linesOf headLine refusedLine entryLine decimal readOf indexOf lookupOf hitIn refOf plainVerdict plainAllows optional oneOf picture typeIn single chunkRule chunkRules headFault verdict _then_ check chunkFault walkFault secondIndex indexFault refFault entriesFault restFault layoutFault pairIn lastPlace rd32 be32 chunksOf chunksIn chunkIn sized size total entriesOf entriesIn entryIn isStart placeOf fileBytes chunkBytes chunksBytes indexChunk entriesBytes entryBytes
+unfolding listingOf linesOf headLine refusedLine entryLine decimal readOf indexOf lookupOf hitIn refOf profileVerdict reading plainAllows adriftAllows allows optional oneOf picture typeIn single chunkRule chunkRules headFault verdict _then_ check chunkFault walkFault secondIndex indexFault refFault entriesFault restFault layoutFault pairIn lastPlace rd32 be32 chunksOf chunksIn chunkIn sized size total entriesOf entriesIn entryIn isStart placeOf fileBytes chunkBytes chunksBytes indexChunk entriesBytes entryBytes
 computed = 0
 
 eel : Chunk

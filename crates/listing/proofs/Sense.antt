@@ -99,7 +99,7 @@ module _ (f : List ℕ) (bytes : All Byte f) where
   unfolding lineAt fieldsAt chunkText
   line-room p = simp (length-append, length-be32) (omega (arith, digits (p + 4), digits (p + 8), digits (startAt f p + 4)))
 
-  lines-room : (l count : ℕ) → readOf f ≡ Accepted l count → (i : ℕ) → i ≤ count → length (linesOf f (take i (indexOf f))) ≤ 48 * i
+  lines-room : (l count : ℕ) → readOf 0 f ≡ Accepted l count → (i : ℕ) → i ≤ count → length (linesOf f (take i (indexOf f))) ≤ 48 * i
   unfolding linesOf
   lines-room l count e zero h = omega arith
   lines-room l count e (suc i) h =
@@ -107,33 +107,33 @@ module _ (f : List ℕ) (bytes : All Byte f) where
       = ap length (lines-on f l count e i (omega arith)) ∙ length-append (linesOf f (take i (indexOf f))) (lineAt f (place i)) in
       rw (← add-one i) (omega (arith, on, line-room (place i), lines-room l count e i (omega arith)))
 
-  listing-go : (v : Reading) → readOf f ≡ v → length (listingBy f v) ≤ roomBy v
+  listing-go : (v : Reading) → readOf 0 f ≡ v → length (listingBy f v) ≤ roomBy v
   listing-go (Accepted l n) e =
-      let whole : take n (indexOf f) ≡ indexOf f = take-all n (indexOf f) (omega (arith, counted f l n e)) in
+      let whole : take n (indexOf f) ≡ indexOf f = take-all n (indexOf f) (omega (arith, counted 0 f l n e)) in
       let lines : length (linesOf f (indexOf f)) ≤ 48 * n = rw whole at (lines-room l n e n (omega arith)) in
       simp length-append (omega (arith, head-room l n, lines))
   listing-go (Refused k p) e = refused-room k p
 
   pub listing-fits : length (listingOf f) ≤ roomFor f
   unfolding listingOf roomFor
-  listing-fits = listing-go (readOf f) refl
+  listing-fits = listing-go (readOf 0 f) refl
 
-  picked-fits : (over : Bool) → length (listingBy f (pickReading over (Refused 1 0) (readOf f))) ≤ roomBy (pickReading over (Refused 1 0) (readOf f))
+  picked-fits : (over : Bool) → length (listingBy f (pickReading over (Refused 1 0) (readOf 0 f))) ≤ roomBy (pickReading over (Refused 1 0) (readOf 0 f))
   picked-fits true = refused-room 1 0
-  picked-fits false = listing-go (readOf f) refl
+  picked-fits false = listing-go (readOf 0 f) refl
 
   pub input-fits : (longer : Bool) → length (inputListing f longer) ≤ inputRoom f longer
   unfolding inputListing inputRoom inputReading
   input-fits longer = picked-fits (longer || ltb 65536 (length f))
 
 -- the most room that an input asks for: 4,096 entries
-input-go : (f : List ℕ) (v : Reading) → readOf f ≡ v → roomBy v ≤ 196672
-input-go f (Accepted l n) e = omega (arith, accepted-is f l n e .4)
+input-go : (f : List ℕ) (v : Reading) → readOf 0 f ≡ v → roomBy v ≤ 196672
+input-go f (Accepted l n) e = omega (arith, accepted-is 0 f l n e .4)
 input-go f (Refused k p) e = omega arith
 
-picked-room : (f : List ℕ) (over : Bool) → roomBy (pickReading over (Refused 1 0) (readOf f)) ≤ 196672
+picked-room : (f : List ℕ) (over : Bool) → roomBy (pickReading over (Refused 1 0) (readOf 0 f)) ≤ 196672
 picked-room f true = omega arith
-picked-room f false = input-go f (readOf f) refl
+picked-room f false = input-go f (readOf 0 f) refl
 
 pub input-room : (f : List ℕ) (longer : Bool) → inputRoom f longer ≤ 196672
 unfolding inputRoom inputReading

@@ -1,4 +1,4 @@
--- What the lister prints (01, Sizes and Sample files), byte for byte, and where it goes in a lent buffer.
+-- What the lister prints (01, Sizes and Sample files), byte for byte, and where it goes in a lent buffer. "The lister stays plain" (02, P12): profile 0.
 use Prim.Native.Nat.{ℕ, _+_, _*_}
 use mathlib.Core.List.{List, [], _∷_, _++_}
 use mathlib.Core.Bool.{Bool, true, false, _||_}
@@ -36,7 +36,7 @@ lineBy e (Missing number place) = []
 -- entries come in index order
 unfoldable pub linesOf : List ℕ → List Entry → List ℕ
 linesOf f [] = []
-linesOf f (e ∷ es) = lineBy e (lookupOf f (e .usage) (e .number)) ++ linesOf f es
+linesOf f (e ∷ es) = lineBy e (lookupOf 0 f (e .usage) (e .number)) ++ linesOf f es
 
 -- the listing of the file f that the reader answers so
 abbrev pub listingBy : List ℕ → Reading → List ℕ
@@ -44,7 +44,7 @@ listingBy f (Accepted size count) = headLine size count ++ linesOf f (indexOf f)
 listingBy f (Refused number place) = refusedLine number place
 
 unfoldable pub listingOf : List ℕ → List ℕ
-listingOf f = listingBy f (readOf f)
+listingOf f = listingBy f (readOf 0 f)
 
 abbrev pub pickReading : Bool → Reading → Reading → Reading
 pickReading true a b = a
@@ -53,7 +53,7 @@ pickReading false a b = b
 -- "The lister reads standard input into 65,536 bytes; longer input prints as refusal 1 at 0." f is what was read, and the input is `longer` if more
 -- follows.
 unfoldable pub inputReading : List ℕ → Bool → Reading
-inputReading f longer = pickReading (longer || ltb 65536 (length f)) (Refused 1 0) (readOf f)
+inputReading f longer = pickReading (longer || ltb 65536 (length f)) (Refused 1 0) (readOf 0 f)
 
 unfoldable pub inputListing : List ℕ → Bool → List ℕ
 inputListing f longer = listingBy f (inputReading f longer)
@@ -64,7 +64,7 @@ roomBy (Accepted size count) = 64 + 48 * count
 roomBy (Refused number place) = 64
 
 unfoldable pub roomFor : List ℕ → ℕ
-roomFor f = roomBy (readOf f)
+roomFor f = roomBy (readOf 0 f)
 
 unfoldable pub inputRoom : List ℕ → Bool → ℕ
 inputRoom f longer = roomBy (inputReading f longer)

@@ -99,7 +99,7 @@ fn put_entry(out: &mut [u8], at: usize, file: &[u8], p: usize) -> usize
 
 // The lines of an accepted file's entries, in index order.
 fn put_entries(out: &mut [u8], at: usize, file: &[u8], count: usize) -> usize
-    requires { ⌜ (readOf (now file) ≡ Accepted (length (now file)) count) × (at + 48 * count ≤ length (now out)) ⌝ }
+    requires { ⌜ (readOf 0 (now file) ≡ Accepted (length (now file)) count) × (at + 48 * count ≤ length (now out)) ⌝ }
     ensures { λ r. ⌜ Wrote (now (out .entry)) at (linesOf (now (file .entry)) (indexOf (now (file .entry)))) r (now (out .exit)) × (r ≤ at + 48 * count) ⌝ }
 {
     let mut to = at;
@@ -123,7 +123,7 @@ fn put_head(out: &mut [u8], size: usize, count: usize) -> usize
 
 // The first line takes at most 64 bytes and an entry's line at most 48.
 fn list_accepted(file: &[u8], size: usize, count: usize, out: &mut [u8]) -> Listed
-    requires { ⌜ readOf (now file) ≡ Accepted size count ⌝ }
+    requires { ⌜ readOf 0 (now file) ≡ Accepted size count ⌝ }
     ensures { λ r. ⌜ (r ≡ listedIn (length (now (out .entry))) (roomBy (Accepted size count)) (listingBy (now (file .entry)) (Accepted size count))) × (now (out .exit) ≡ outBy r (listingBy (now (file .entry)) (Accepted size count)) (now (out .entry))) ⌝ }
 {
     if out.len() < 64 + 48 * count {
@@ -149,7 +149,7 @@ fn list_refused(number: u64, place: usize, out: &mut [u8]) -> Listed
 pub fn list(file: &[u8], out: &mut [u8]) -> Listed
     ensures { λ r. ⌜ (r ≡ listedIn (length (now (out .entry))) (roomFor (now (file .entry))) (listingOf (now (file .entry)))) × (now (out .exit) ≡ outBy r (listingOf (now (file .entry))) (now (out .entry))) ⌝ }
 {
-    match reader::read(file) {
+    match reader::read(file, 0) {
         Reading::Accepted { length, count } => list_accepted(file, length, count, out),
         Reading::Refused { number, place } => list_refused(number, place, out),
     }

@@ -10,14 +10,14 @@ use lib.ListN.{length, getD, take, drop, set}
 use lib.Seq.{getD-set-same, getD-set-other, drop-drop}
 use lib.Dec.{eqb, leb}
 use borrow.Author.Tests.{eqb-true, eqb-false, le-leb, lt-leb}
-use Rattle.blorb.proofs.UsageLaws.{or-false, or-assoc, known-is, known-not}
+use Rattle.blorb.proofs.UsageLaws.{or-false, or-assoc, known-is, known-not, allows-plain, allows-else, allows-also}
 use Rattle.blorb.specs.Bytes.{rd32}
 use Rattle.blorb.specs.Format.{Ref, refOf, chunkIn, entryIn, entriesIn, isStart, placeOf, chunkOf}
 use Rattle.blorb.specs.Verdict.{Verdict, accept, refuse, _then_, check, noChunk, knownUsage, pairIn, refFault, entriesFault, lastPlace}
 use Rattle.blorb.proofs.Places.{startOf-zero, startOf-placeOf, lower-start}
 use Rattle.blorb.proofs.VerdictLaws.{last-snoc}
-use Rattle.blorb.specs.Rules.{plainAllows}
-use Rattle.chunks.specs.Walk.{chunksFrom, walkFrom}
+use Rattle.blorb.specs.Rules.{plainAllows, adriftAllows, allows}
+use Rattle.chunks.specs.Walk.{chunkFrom, chunksFrom, walkFrom}
 use Rattle.blorb.proofs.Checks.{pass, stop, holds-last, fails-last, accepts, refuses, then-accept, check-accept}
 use Rattle.chunks.proofs.StartLaws.{begun}
 use Rattle.blorb.specs.declared.Usage.{Usage}
@@ -28,12 +28,28 @@ use Rattle.blorb.specs.Usages.{codeOf, usageOf}
 use Rattle.reader.specs.Entries.{usageAt, numberAt, startAt, place, typedAt, entryFault, unstartedFault, judgedBy, earlier, Before, samePair, Topped, slotOf, Below, entriesFrom}
 
 -- rule 5 of the chunk at x, by its type and its data
-pub typed-at : (f : List ℕ) (u x from to t : ℕ) → from ≡ x + 8 → to ≡ from + rd32 (drop (x + 4) f) → t ≡ rd32 (drop x f)
-    → plainAllows u (chunkOf t (take (to - from) (drop from f))) ≡ typedAt f u x
+pub chunk-at : (f : List ℕ) (x from to t : ℕ) → from ≡ x + 8 → to ≡ from + rd32 (drop (x + 4) f) → t ≡ rd32 (drop x f)
+    → chunkOf t (take (to - from) (drop from f)) ≡ chunkFrom f x
 unfolding chunkIn
-typed-at f u x from to t e1 e2 e3 =
+chunk-at f x from to t e1 e2 e3 =
     let n : to - from ≡ rd32 (drop (x + 4) f) = omega arith in
     rw (n, e1, e3, drop-drop 4 x f, drop-drop 8 x f) refl
+
+-- rule 5 by its parts, as the code has told them: the plain types, or those that the profile allows besides
+module _ (profile : ℕ) (f : List ℕ) (u x : ℕ) where
+  pub typed-plain : (a : Bool) → a ≡ plainAllows u (chunkFrom f x) → a ≡ true → typedAt profile f u x ≡ true
+  typed-plain a e h = sym (allows-plain profile u (chunkFrom f x) (sym e ∙ h))
+
+  module _ (t : ℕ) (et : t ≡ rd32 (drop x f)) (b : Bool) (e : b ≡ eqb profile 1 && adriftAllows u t) where
+    more : b ≡ eqb profile 1 && adriftAllows u (chunkFrom f x .type)
+    unfolding chunkIn
+    more = e ∙ rw et refl
+
+    pub typed-else : (a : Bool) → a ≡ plainAllows u (chunkFrom f x) → a ≡ false → b ≡ typedAt profile f u x
+    typed-else a ea h = allows-else profile u (chunkFrom f x) b (sym ea ∙ h) more
+
+    pub typed-also : b ≡ true → typedAt profile f u x ≡ true
+    typed-also h = allows-also profile u (chunkFrom f x) (sym more ∙ h)
 
 -- the fields of an entry
 number-at : (f : List ℕ) (p : ℕ) → entryIn (drop p f) .number ≡ numberAt f p
@@ -67,21 +83,21 @@ shape true true b14 false b15 b16 p v h = rw (h refl)
 shape true true b14 true false b16 p v h = rw (h refl)
 shape true true b14 true true b16 p v h = rw (h refl)
 
-module _ (f : List ℕ) (base : ℕ) (w : walkFrom f base ≡ accept) where
+module _ (profile : ℕ) (f : List ℕ) (base : ℕ) (w : walkFrom f base ≡ accept) where
   pub entries-on : (j n : ℕ)
-      → entriesFrom f base j (suc n) ≡ entryFault f base (place j) then (check (not (pairIn (usageAt f (place j)) (numberAt f (place j)) (earlier f base j))) 16 (place j)
-      then (check (leb (lastPlace (earlier f base j)) (placeOf (startAt f (place j)) base (chunksFrom f base))) 27 (place j + 8) then entriesFrom f base (suc j) n))
+      → entriesFrom profile f base j (suc n) ≡ entryFault profile f base (place j) then (check (not (pairIn (usageAt f (place j)) (numberAt f (place j)) (earlier f base j))) 16 (place j)
+      then (check (leb (lastPlace (earlier f base j)) (placeOf (startAt f (place j)) base (chunksFrom f base))) 27 (place j + 8) then entriesFrom profile f base (suc j) n))
   unfolding entriesFrom entriesFault entriesIn refFault entryFault earlier ref-at entryIn
   entries-on j n =
       let q : place j + 12 ≡ place (suc j) = omega arith in
       let h : isStart (startAt f (place j)) base (chunksFrom f base) ≡ true
-      → plainAllows (usageAt f (place j)) (getD (chunksFrom f base) (placeOf (startAt f (place j)) base (chunksFrom f base)) noChunk) ≡ typedAt f (usageAt f (place j)) (startAt f (place j))
-      = λ e. ap (plainAllows (usageAt f (place j))) (begun f (startAt f (place j)) base w e .chunk) in
+      → allows profile (usageAt f (place j)) (getD (chunksFrom f base) (placeOf (startAt f (place j)) base (chunksFrom f base)) noChunk) ≡ typedAt profile f (usageAt f (place j)) (startAt f (place j))
+      = λ e. ap (allows profile (usageAt f (place j))) (begun f (startAt f (place j)) base w e .chunk) in
       rw (refOf-at f base (place j), drop-drop 8 (place j) f, drop-drop 12 (place j) f, q)
-      (shape (knownUsage (usageAt f (place j))) (isStart (startAt f (place j)) base (chunksFrom f base)) _ (typedAt f (usageAt f (place j)) (startAt f (place j)))
+      (shape (knownUsage (usageAt f (place j))) (isStart (startAt f (place j)) base (chunksFrom f base)) _ (typedAt profile f (usageAt f (place j)) (startAt f (place j)))
       (not (eqb (usageAt f (place j)) (codeOf Exec)) || eqb (numberAt f (place j)) 0) (not (pairIn (usageAt f (place j)) (numberAt f (place j)) (earlier f base j))) (place j) _ h)
 
-  pub entries-end : (j : ℕ) → entriesFrom f base j 0 ≡ accept
+  pub entries-end : (j : ℕ) → entriesFrom profile f base j 0 ≡ accept
   unfolding entriesFrom entriesFault entriesIn
   entries-end j = refl
 
@@ -126,31 +142,31 @@ pub judged-fault : (v : Verdict) (x k p : ℕ) → judgedBy v x ≡ Fault k p �
 judged-fault accept x k p e = let z : _≡_ {A = ℕ} 0 1 = cc in absurd (omega arith)
 judged-fault (refuse a b) x k p e = let q : a ≡ k = cc in let r : b ≡ p = cc in rw (q, r)
 
-module _ (f : List ℕ) (base p : ℕ) where
-  judged : (v : Verdict) → entryFault f base p ≡ v → judgedBy v (startAt f p) ≡ judgedBy (entryFault f base p) (startAt f p)
+module _ (profile : ℕ) (f : List ℕ) (base p : ℕ) where
+  judged : (v : Verdict) → entryFault profile f base p ≡ v → judgedBy v (startAt f p) ≡ judgedBy (entryFault profile f base p) (startAt f p)
   judged v e = ap (λ (u : Verdict). judgedBy u (startAt f p)) (sym e)
 
-  pub judge-12 : usageOf (usageAt f p) ≡ Unknown → Fault 12 p ≡ judgedBy (entryFault f base p) (startAt f p)
+  pub judge-12 : usageOf (usageAt f p) ≡ Unknown → Fault 12 p ≡ judgedBy (entryFault profile f base p) (startAt f p)
   unfolding entryFault
   judge-12 e = judged (refuse 12 p) (stop _ _ _ _ (known-not _ e))
 
   module _ (k : Usage) (e : usageOf (usageAt f p) ≡ Is k) where
     module _ (b : isStart (startAt f p) base (chunksFrom f base) ≡ true) where
-      pub judge-14 : typedAt f (codeOf k) (startAt f p) ≡ false → Fault 14 p ≡ judgedBy (entryFault f base p) (startAt f p)
+      pub judge-14 : typedAt profile f (codeOf k) (startAt f p) ≡ false → Fault 14 p ≡ judgedBy (entryFault profile f base p) (startAt f p)
       unfolding entryFault
       judge-14 h =
-          let q : typedAt f (usageAt f p) (startAt f p) ≡ false = ap (λ (u : ℕ). typedAt f u (startAt f p)) (known-is _ k e .1) ∙ h in
+          let q : typedAt profile f (usageAt f p) (startAt f p) ≡ false = ap (λ (u : ℕ). typedAt profile f u (startAt f p)) (known-is _ k e .1) ∙ h in
           judged (refuse 14 p) (pass _ _ _ _ (known-is _ k e .0) ∙ pass _ _ _ _ b ∙ stop _ _ _ _ q)
 
-      module _ (t : typedAt f (codeOf k) (startAt f p) ≡ true) where
-        q14 : typedAt f (usageAt f p) (startAt f p) ≡ true
-        q14 = ap (λ (u : ℕ). typedAt f u (startAt f p)) (known-is _ k e .1) ∙ t
+      module _ (t : typedAt profile f (codeOf k) (startAt f p) ≡ true) where
+        q14 : typedAt profile f (usageAt f p) (startAt f p) ≡ true
+        q14 = ap (λ (u : ℕ). typedAt profile f u (startAt f p)) (known-is _ k e .1) ∙ t
 
-        pub judge-15 : not (eqb (usageAt f p) (codeOf Exec)) || eqb (numberAt f p) 0 ≡ false → Fault 15 (p + 4) ≡ judgedBy (entryFault f base p) (startAt f p)
+        pub judge-15 : not (eqb (usageAt f p) (codeOf Exec)) || eqb (numberAt f p) 0 ≡ false → Fault 15 (p + 4) ≡ judgedBy (entryFault profile f base p) (startAt f p)
         unfolding entryFault
         judge-15 h = judged (refuse 15 (p + 4)) (pass _ _ _ _ (known-is _ k e .0) ∙ pass _ _ _ _ b ∙ pass _ _ _ _ q14 ∙ fails-last _ _ _ h)
 
-        pub judge-good : not (eqb (usageAt f p) (codeOf Exec)) || eqb (numberAt f p) 0 ≡ true → At (startAt f p) ≡ judgedBy (entryFault f base p) (startAt f p)
+        pub judge-good : not (eqb (usageAt f p) (codeOf Exec)) || eqb (numberAt f p) 0 ≡ true → At (startAt f p) ≡ judgedBy (entryFault profile f base p) (startAt f p)
         unfolding entryFault
         judge-good h = judged accept (pass _ _ _ _ (known-is _ k e .0) ∙ pass _ _ _ _ b ∙ pass _ _ _ _ q14 ∙ holds-last _ _ _ h)
 
@@ -164,34 +180,34 @@ module _ (f : List ℕ) (p u : ℕ) (eu : u ≡ usageAt f p) where
   unfolding unstartedFault
   unstarted-13 k e = ap (λ (v : Verdict). judgedBy v 0) (sym (pass _ _ _ _ (known-is _ k (rw eu at e) .0)))
 
-pub unstarted : (f : List ℕ) (base p : ℕ) → isStart (startAt f p) base (chunksFrom f base) ≡ false
-    → judgedBy (unstartedFault f p) 0 ≡ judgedBy (entryFault f base p) (startAt f p)
+pub unstarted : (profile : ℕ) (f : List ℕ) (base p : ℕ) → isStart (startAt f p) base (chunksFrom f base) ≡ false
+    → judgedBy (unstartedFault f p) 0 ≡ judgedBy (entryFault profile f base p) (startAt f p)
 unfolding unstartedFault entryFault
-unstarted f base p h = go (knownUsage (usageAt f p)) refl
+unstarted profile f base p h = go (knownUsage (usageAt f p)) refl
   where
-    go : (b : Bool) → knownUsage (usageAt f p) ≡ b → judgedBy (unstartedFault f p) 0 ≡ judgedBy (entryFault f base p) (startAt f p)
-    go true k = ap (λ (v : Verdict). judgedBy v 0) (pass _ _ _ _ k) ∙ judged f base p (refuse 13 (p + 8)) (pass _ _ _ _ k ∙ stop _ _ _ _ h)
-    go false k = ap (λ (v : Verdict). judgedBy v 0) (stop _ _ _ _ k) ∙ judged f base p (refuse 12 p) (stop _ _ _ _ k)
+    go : (b : Bool) → knownUsage (usageAt f p) ≡ b → judgedBy (unstartedFault f p) 0 ≡ judgedBy (entryFault profile f base p) (startAt f p)
+    go true k = ap (λ (v : Verdict). judgedBy v 0) (pass _ _ _ _ k) ∙ judged profile f base p (refuse 13 (p + 8)) (pass _ _ _ _ k ∙ stop _ _ _ _ h)
+    go false k = ap (λ (v : Verdict). judgedBy v 0) (stop _ _ _ _ k) ∙ judged profile f base p (refuse 12 p) (stop _ _ _ _ k)
 
 -- what a good entry tells of its start
-pub entry-start : (f : List ℕ) (base p : ℕ) → entryFault f base p ≡ accept → isStart (startAt f p) base (chunksFrom f base) ≡ true
+pub entry-start : (profile : ℕ) (f : List ℕ) (base p : ℕ) → entryFault profile f base p ≡ accept → isStart (startAt f p) base (chunksFrom f base) ≡ true
 unfolding entryFault
-entry-start f base p h = check-accept _ _ _ (then-accept _ _ (then-accept _ _ h .1) .0)
+entry-start profile f base p h = check-accept _ _ _ (then-accept _ _ (then-accept _ _ h .1) .0)
 
 -- the loop over the entries
-module _ (f : List ℕ) (base count j : ℕ) (w : walkFrom f base ≡ accept) (h : j < count) where
+module _ (profile : ℕ) (f : List ℕ) (base count j : ℕ) (w : walkFrom f base ≡ accept) (h : j < count) where
   left : count - j ≡ suc (count - (j + 1))
   left = omega arith
 
-  turn : entriesFrom f base j (count - j) ≡ entryFault f base (place j) then (check (not (pairIn (usageAt f (place j)) (numberAt f (place j)) (earlier f base j))) 16 (place j)
-      then (check (leb (lastPlace (earlier f base j)) (placeOf (startAt f (place j)) base (chunksFrom f base))) 27 (place j + 8) then entriesFrom f base (suc j) (count - (j + 1))))
-  turn = ap (λ (n : ℕ). entriesFrom f base j n) left ∙ entries-on f base w j (count - (j + 1))
+  turn : entriesFrom profile f base j (count - j) ≡ entryFault profile f base (place j) then (check (not (pairIn (usageAt f (place j)) (numberAt f (place j)) (earlier f base j))) 16 (place j)
+      then (check (leb (lastPlace (earlier f base j)) (placeOf (startAt f (place j)) base (chunksFrom f base))) 27 (place j + 8) then entriesFrom profile f base (suc j) (count - (j + 1))))
+  turn = ap (λ (n : ℕ). entriesFrom profile f base j n) left ∙ entries-on profile f base w j (count - (j + 1))
 
-  pub entry-stop : (k p : ℕ) → entryFault f base (place j) ≡ refuse k p → refuse k p ≡ entriesFrom f base j (count - j)
+  pub entry-stop : (k p : ℕ) → entryFault profile f base (place j) ≡ refuse k p → refuse k p ≡ entriesFrom profile f base j (count - j)
   entry-stop k p e = sym (turn ∙ refuses _ _ _ _ e)
 
-  module _ (g : entryFault f base (place j) ≡ accept) where
-    pub pair-stop : pairIn (usageAt f (place j)) (numberAt f (place j)) (earlier f base j) ≡ true → refuse 16 (place j) ≡ entriesFrom f base j (count - j)
+  module _ (g : entryFault profile f base (place j) ≡ accept) where
+    pub pair-stop : pairIn (usageAt f (place j)) (numberAt f (place j)) (earlier f base j) ≡ true → refuse 16 (place j) ≡ entriesFrom profile f base j (count - j)
     pair-stop e = sym (turn ∙ accepts _ _ g ∙ stop _ _ _ _ (rw e))
 
     module _ (e : pairIn (usageAt f (place j)) (numberAt f (place j)) (earlier f base j) ≡ false) (x y : ℕ) (b : Before f base j x) (ey : startAt f (place j) ≡ y) where
@@ -202,24 +218,24 @@ module _ (f : List ℕ) (base count j : ℕ) (w : walkFrom f base ≡ accept) (h
       order-is : leb (lastPlace (earlier f base j)) at-place ≡ leb x y
       unfolding at-place
       order-is =
-          let s = startOf-placeOf (startAt f (place j)) base (chunksFrom f base) (entry-start f base (place j) g) in
+          let s = startOf-placeOf (startAt f (place j)) base (chunksFrom f base) (entry-start profile f base (place j) g) in
           sym (lower-start base (chunksFrom f base) (lastPlace (earlier f base j)) at-place (b .inside) (omega (arith, s .1)))
           ∙ (λ i. leb (b .starts i) ((s .0 ∙ ey) i))
 
-      pub order-stop : y < x → refuse 27 (place j + 8) ≡ entriesFrom f base j (count - j)
+      pub order-stop : y < x → refuse 27 (place j + 8) ≡ entriesFrom profile f base j (count - j)
       unfolding at-place
       order-stop l = sym (turn ∙ accepts _ _ g ∙ pass _ _ _ _ (rw e) ∙ stop _ _ _ _ (order-is ∙ lt-leb x y l))
 
-      pub entries-next : x ≤ y → entriesFrom f base (j + 1) (count - (j + 1)) ≡ entriesFrom f base j (count - j)
+      pub entries-next : x ≤ y → entriesFrom profile f base (j + 1) (count - (j + 1)) ≡ entriesFrom profile f base j (count - j)
       unfolding at-place
       entries-next l =
-          ap (λ (k : ℕ). entriesFrom f base k (count - (j + 1))) (add-one j)
+          ap (λ (k : ℕ). entriesFrom profile f base k (count - (j + 1))) (add-one j)
           ∙ (sym (turn ∙ accepts _ _ g ∙ pass _ _ _ _ (rw e) ∙ pass _ _ _ _ (order-is ∙ le-leb x y l)))
 
     pub before-next : (y : ℕ) → startAt f (place j) ≡ y → Before f base (j + 1) y
     unfolding earlier ref-at
     before-next y ey =
-        let s = startOf-placeOf (startAt f (place j)) base (chunksFrom f base) (entry-start f base (place j) g) in
+        let s = startOf-placeOf (startAt f (place j)) base (chunksFrom f base) (entry-start profile f base (place j) g) in
         let e : lastPlace (earlier f base (suc j)) ≡ placeOf (startAt f (place j)) base (chunksFrom f base)
         = rw (refOf-at f base (place j)) (last-snoc (earlier f base j) (ref-at f base (place j))) in
         rw (add-one j) (record { starts = rw e (s .0 ∙ ey); inside = rw e (omega (arith, s .1)) })
@@ -229,21 +245,21 @@ unfolding earlier lastPlace
 before-none f base = record { starts = startOf-zero base (chunksFrom f base); inside = omega arith }
 
 -- the same by the numbers that the code has read
-module _ (f : List ℕ) (base p u x : ℕ) (eu : u ≡ usageAt f p) where
-  pub by-12 : usageOf u ≡ Unknown → Fault 12 p ≡ judgedBy (entryFault f base p) (startAt f p)
-  by-12 e = judge-12 f base p (rw eu at e)
+module _ (profile : ℕ) (f : List ℕ) (base p u x : ℕ) (eu : u ≡ usageAt f p) where
+  pub by-12 : usageOf u ≡ Unknown → Fault 12 p ≡ judgedBy (entryFault profile f base p) (startAt f p)
+  by-12 e = judge-12 profile f base p (rw eu at e)
 
   module _ (k : Usage) (e : usageOf u ≡ Is k) (ex : x ≡ startAt f p) where
     module _ (b : isStart x base (chunksFrom f base) ≡ true) where
-      pub by-14 : typedAt f (codeOf k) x ≡ false → Fault 14 p ≡ judgedBy (entryFault f base p) (startAt f p)
-      by-14 h = judge-14 f base p k (rw eu at e) (rw ex at b) (rw ex at h)
+      pub by-14 : typedAt profile f (codeOf k) x ≡ false → Fault 14 p ≡ judgedBy (entryFault profile f base p) (startAt f p)
+      by-14 h = judge-14 profile f base p k (rw eu at e) (rw ex at b) (rw ex at h)
 
-      module _ (t : typedAt f (codeOf k) x ≡ true) (n : ℕ) (en : n ≡ numberAt f p) where
-        pub by-15 : not (eqb u (codeOf Exec)) || eqb n 0 ≡ false → Fault 15 (p + 4) ≡ judgedBy (entryFault f base p) (startAt f p)
-        by-15 h = judge-15 f base p k (rw eu at e) (rw ex at b) (rw ex at t) (rw (eu, en) at h)
+      module _ (t : typedAt profile f (codeOf k) x ≡ true) (n : ℕ) (en : n ≡ numberAt f p) where
+        pub by-15 : not (eqb u (codeOf Exec)) || eqb n 0 ≡ false → Fault 15 (p + 4) ≡ judgedBy (entryFault profile f base p) (startAt f p)
+        by-15 h = judge-15 profile f base p k (rw eu at e) (rw ex at b) (rw ex at t) (rw (eu, en) at h)
 
-        pub by-good : not (eqb u (codeOf Exec)) || eqb n 0 ≡ true → At x ≡ judgedBy (entryFault f base p) (startAt f p)
-        by-good h = ap At ex ∙ judge-good f base p k (rw eu at e) (rw ex at b) (rw ex at t) (rw (eu, en) at h)
+        pub by-good : not (eqb u (codeOf Exec)) || eqb n 0 ≡ true → At x ≡ judgedBy (entryFault profile f base p) (startAt f p)
+        by-good h = ap At ex ∙ judge-good profile f base p k (rw eu at e) (rw ex at b) (rw ex at t) (rw (eu, en) at h)
 
 -- a pair as one number
 key-go : (a b c : Bool) (u n v m : ℕ) → n < 4294967296 → m < 4294967296

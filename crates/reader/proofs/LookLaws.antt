@@ -12,7 +12,7 @@ use borrow.Author.Tests.{eq-eqb, lt-ltb, le-ltb, ltb-true, ltb-false}
 use Rattle.blorb.specs.Bytes.{rd32}
 use Rattle.blorb.specs.Format.{Entry, Ref, refOf, Chunk, chunkIn, entriesIn, placeOf}
 use Rattle.blorb.specs.Verdict.{Rules, accept, noChunk, entriesFault, pairIn}
-use Rattle.blorb.specs.Rules.{plainVerdict}
+use Rattle.blorb.specs.Rules.{profileVerdict}
 use Rattle.blorb.specs.Model.{Model, base, model}
 use Rattle.blorb.specs.Queries.{find, noRef, refAt, start}
 use Rattle.blorb.specs.Lookup.{missing, here, lookIn, lookup}
@@ -72,37 +72,37 @@ unfolding chunkIn
 body-at f x m e = rw (e, drop-drop 4 x f, drop-drop 8 x f)
 
 -- a lookup finds the chunk that starts at x, or nothing
-pub record There (f : List ℕ) (u n x : ℕ) : Type 0 where
-  pub found : lookupOf f u n ≡ Found (chunkFrom f x .type) (x + 8) (length (chunkFrom f x .body))
-  pub part : partOf (lookupOf f u n) f ≡ chunkFrom f x .body
+pub record There (profile : ℕ) (f : List ℕ) (u n x : ℕ) : Type 0 where
+  pub found : lookupOf profile f u n ≡ Found (chunkFrom f x .type) (x + 8) (length (chunkFrom f x .body))
+  pub part : partOf (lookupOf profile f u n) f ≡ chunkFrom f x .body
   pub looked : lookup (model f) u n ≡ here (chunkFrom f x)
   pub begins : start (model f) (refAt (model f) (find u n (model f .refs)) .chunk) ≡ x
   pub pair : pairIn u n (model f .refs) ≡ true
 
-pub record Absent (f : List ℕ) (u n : ℕ) : Type 0 where
-  pub found : lookupOf f u n ≡ Missing 22 0
+pub record Absent (profile : ℕ) (f : List ℕ) (u n : ℕ) : Type 0 where
+  pub found : lookupOf profile f u n ≡ Missing 22 0
   pub looked : lookup (model f) u n ≡ missing
   pub pair : pairIn u n (model f .refs) ≡ false
 
-module _ (f : List ℕ) (u n : ℕ) (h : plainVerdict f ≡ accept) where
+module _ (profile : ℕ) (f : List ℕ) (u n : ℕ) (h : profileVerdict profile f ≡ accept) where
   abbrev at-place : ℕ
   at-place = pairPlace u n (entriesIn (rd32 (drop 20 f)) (drop 24 f))
 
   find-is : find u n (model f .refs) ≡ at-place
-  find-is = rw (good f h .model) (find-pair (place (rd32 (drop 20 f))) (chunksFrom f (place (rd32 (drop 20 f)))) u n (entriesIn (rd32 (drop 20 f)) (drop 24 f)))
+  find-is = rw (good profile f h .model) (find-pair (place (rd32 (drop 20 f))) (chunksFrom f (place (rd32 (drop 20 f)))) u n (entriesIn (rd32 (drop 20 f)) (drop 24 f)))
 
   many-is : length (model f .refs) ≡ rd32 (drop 20 f)
-  many-is = rw (good f h .model) (refs-count f (rd32 (drop 20 f)))
+  many-is = rw (good profile f h .model) (refs-count f (rd32 (drop 20 f)))
 
-  there : at-place < rd32 (drop 20 f) → There f u n (startAt f (place at-place))
+  there : at-place < rd32 (drop 20 f) → There profile f u n (startAt f (place at-place))
   unfolding lookup start base
   there l =
-      let g = good f h in
+      let g = good profile f h in
       let count : ℕ = rd32 (drop 20 f) in
       let x : ℕ = startAt f (place at-place) in
       let b = entry-begun f count at-place (g .passed) l in
-      let found : lookupOf f u n ≡ Found (chunkFrom f x .type) (x + 8) (length (chunkFrom f x .body))
-      = look-on f u n count g ∙ ap (foundBy f) (sym (find-at f u n count at-place refl l x refl)) in
+      let found : lookupOf profile f u n ≡ Found (chunkFrom f x .type) (x + 8) (length (chunkFrom f x .body))
+      = look-on profile f u n count g ∙ ap (foundBy f) (sym (find-at f u n count at-place refl l x refl)) in
       let r : find u n (model f .refs) < length (model f .refs) = rw (find-is, many-is) l in
       let k : refAt (model f) (find u n (model f .refs)) .chunk ≡ placeOf x (place count) (chunksFrom f (place count)) = rw (find-is, g .model) (chunk-of f count at-place (g .passed) l) in
       let cs : model f .chunks ≡ chunksFrom f (place count) = ap (λ (m : Model). m .chunks) (g .model) in
@@ -114,19 +114,19 @@ module _ (f : List ℕ) (u n : ℕ) (h : plainVerdict f ≡ accept) where
         pair = pair-found u n (model f .refs) ∙ lt-ltb _ _ r;
       }
 
-  absent : rd32 (drop 20 f) ≤ at-place → Absent f u n
+  absent : rd32 (drop 20 f) ≤ at-place → Absent profile f u n
   unfolding lookup
   absent l =
-      let g = good f h in
+      let g = good profile f h in
       let count : ℕ = rd32 (drop 20 f) in
       let r : length (model f .refs) ≤ find u n (model f .refs) = rw (find-is, many-is) l in
       record {
-        found = look-on f u n count g ∙ ap (foundBy f) (sym (find-none f u n count at-place refl l));
+        found = look-on profile f u n count g ∙ ap (foundBy f) (sym (find-none f u n count at-place refl l));
         looked = look-none (model f .chunks) u n (model f .refs) r;
         pair = pair-found u n (model f .refs) ∙ le-ltb _ _ r;
       }
 
-  pub either : (P : Type 0) → ((x : ℕ) → There f u n x → P) → (Absent f u n → P) → P
+  pub either : (P : Type 0) → ((x : ℕ) → There profile f u n x → P) → (Absent profile f u n → P) → P
   either P is none = go (ltb at-place (rd32 (drop 20 f))) refl
     where
       go : (b : Bool) → ltb at-place (rd32 (drop 20 f)) ≡ b → P

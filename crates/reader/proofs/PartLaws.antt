@@ -9,11 +9,11 @@ use native.Mathlib.Nat.{not-suc-le-zero, le-of-suc-le-suc}
 use lib.ListN.{length, getD, drop, length-map}
 use lib.Seq.{drop-drop}
 use lib.Dec.{eqb, ltb}
-use borrow.Author.Tests.{eq-eqb, ne-eqb, eqb-true, eqb-false, lt-ltb, le-ltb}
+use borrow.Author.Tests.{eq-eqb, ne-eqb, eqb-true, eqb-false, lt-ltb, le-ltb, le-leb, lt-leb}
 use Rattle.blorb.specs.Bytes.{rd32}
 use Rattle.blorb.specs.Format.{Chunk, Entry, Ref, refOf, size, chunkIn, entryIn, entriesIn, isStart, placeOf}
-use Rattle.blorb.specs.Verdict.{Verdict, accept, refuse, noChunk}
-use Rattle.blorb.specs.Rules.{plainVerdict, typeIn}
+use Rattle.blorb.specs.Verdict.{Verdict, accept, refuse, noChunk, verdict, reading}
+use Rattle.blorb.specs.Rules.{rulesOf, profileVerdict, typeIn}
 use Rattle.blorb.specs.Tags.{RelN, Fspc}
 use Rattle.blorb.specs.Model.{base, model, startOf}
 use Rattle.blorb.specs.Queries.{find, uses, without, noRef, refAt, shared, start, frontPlace}
@@ -21,12 +21,13 @@ use Rattle.blorb.specs.All.{All}
 use Rattle.blorb.proofs.AllLaws.{all-getD}
 use Rattle.blorb.proofs.Places.{startOf-zero, startOf-suc, startOf-placeOf}
 use Rattle.blorb.proofs.Accept.{starts-ok}
-use Rattle.blorb.proofs.Checks.{then-accept, check-accept, and-both}
+use Rattle.blorb.proofs.Profiles.{profile-known}
+use Rattle.blorb.proofs.Checks.{then-accept, check-accept, and-both, stop}
 use Rattle.chunks.specs.Walk.{chunkFrom, skipAt, chunksFrom, walkFrom}
 use Rattle.chunks.specs.Ordinary.{ordinaryType, allOrdinary}
 use Rattle.reader.specs.Entries.{startAt, place, pairPlace, startAgain}
 use Rattle.reader.specs.Optional.{oneRule, rulesFrom, optionalFault}
-use Rattle.reader.specs.Passed.{Judges, JudgesEntries, Passed, modelAt, Fronts, pickFront, frontFrom}
+use Rattle.reader.specs.Passed.{readKnown, Judges, JudgesEntries, Passed, modelAt, Fronts, pickFront, frontFrom}
 use Rattle.reader.specs.Inspecting.{pieceOf, targetBy, targetOf, frontBy, frontOf, factsOf, inspectionOf}
 use Rattle.reader.specs.declared.Piece.{Piece}
 use Rattle.reader.specs.declared.Target.{Target}
@@ -274,27 +275,40 @@ facts-are f count u n x t r b et er eb =
     λ j. record { count = c j; target = et j; front = er j; begins = s j }
 
 -- the verdict of a judgement, and the inspection by it
-module _ (f : List ℕ) where
-  -- what is left once refusals 1 to 16 are ruled out
-  pub entries-no : (r : Judgement) (k p : ℕ) → JudgesEntries r f → r ≡ judgement.Refused k p → Refused k p ≡ readOf f
-  entries-no r k p j e = rw e at j
+module _ (profile : ℕ) (f : List ℕ) where
+  -- 52 comes first; of a known profile the table decides
+  pub unknown-profile : 1 < profile → profileVerdict profile f ≡ refuse 52 0
+  unfolding profileVerdict reading
+  unknown-profile h = stop _ _ _ _ (lt-leb _ _ h)
 
-  pub entries-good : (r : Judgement) (n : ℕ) (ordinary : Bool) → JudgesEntries r f → r ≡ judgement.Good n ordinary → JudgesEntries (judgement.Good n ordinary) f
+  pub unknown-is : 1 < profile → Refused 52 0 ≡ readOf profile f
+  unfolding readOf
+  unknown-is h = rw (unknown-profile h)
+
+  known-is : profile ≤ 1 → readKnown profile f ≡ readOf profile f
+  unfolding readOf readKnown
+  known-is h = let q : profileVerdict profile f ≡ verdict (rulesOf profile) f = profile-known profile f (le-leb _ _ h) in rw q
+
+  -- what is left once refusals 1 to 16 are ruled out
+  pub entries-no : (r : Judgement) (k p : ℕ) → profile ≤ 1 → JudgesEntries profile r f → r ≡ judgement.Refused k p → Refused k p ≡ readOf profile f
+  entries-no r k p h j e = (rw e at j) ∙ known-is h
+
+  pub entries-good : (r : Judgement) (n : ℕ) (ordinary : Bool) → JudgesEntries profile r f → r ≡ judgement.Good n ordinary → JudgesEntries profile (judgement.Good n ordinary) f
   entries-good r n ordinary j e = rw e at j
 
   -- 17 to 19 decide
-  pub rest-is : (n : ℕ) (v : Verdict) → readBy (optionalFault f n) (length f) n ≡ readOf f → optionalFault f n ≡ v → readBy v (length f) n ≡ readOf f
-  rest-is n v q e = ap (λ (x : Verdict). readBy x (length f) n) (sym e) ∙ q
+  pub rest-is : (n : ℕ) (v : Verdict) → profile ≤ 1 → readBy (optionalFault f n) (length f) n ≡ readKnown profile f → optionalFault f n ≡ v → readBy v (length f) n ≡ readOf profile f
+  rest-is n v h q e = ap (λ (x : Verdict). readBy x (length f) n) (sym e) ∙ q ∙ known-is h
 
-  pub judged-good : (r : Judgement) (n : ℕ) (ordinary : Bool) → Judges r f → r ≡ judgement.Good n ordinary
-      → (readOf f ≡ Accepted (length f) n) × (ordinary ≡ true → allOrdinary (chunksFrom f (place n)) ≡ true)
-  judged-good r n ordinary j e = let q : Judges (judgement.Good n ordinary) f = rw e at j in (sym (q .0), q .1)
+  pub judged-good : (r : Judgement) (n : ℕ) (ordinary : Bool) → Judges profile r f → r ≡ judgement.Good n ordinary
+      → (readOf profile f ≡ Accepted (length f) n) × (ordinary ≡ true → allOrdinary (chunksFrom f (place n)) ≡ true)
+  judged-good r n ordinary j e = let q : Judges profile (judgement.Good n ordinary) f = rw e at j in (sym (q .0), q .1)
 
-  pub judged-no : (r : Judgement) (k p : ℕ) → Judges r f → r ≡ judgement.Refused k p → readOf f ≡ Refused k p
-  judged-no r k p j e = let q : Judges (judgement.Refused k p) f = rw e at j in sym q
+  pub judged-no : (r : Judgement) (k p : ℕ) → Judges profile r f → r ≡ judgement.Refused k p → readOf profile f ≡ Refused k p
+  judged-no r k p j e = let q : Judges profile (judgement.Refused k p) f = rw e at j in sym q
 
-  pub inspected-no : (u n x k p : ℕ) → plainVerdict f ≡ refuse k p → inspection.Refused k p ≡ inspectionOf (plainVerdict f) (model f) u n x
+  pub inspected-no : (u n x k p : ℕ) → profileVerdict profile f ≡ refuse k p → inspection.Refused k p ≡ inspectionOf (profileVerdict profile f) (model f) u n x
   inspected-no u n x k p e = rw e
 
-  pub inspected : (u n x count : ℕ) → Good f count → (t : Facts) → t ≡ factsOf (modelAt f count) u n x → inspection.Whole t ≡ inspectionOf (plainVerdict f) (model f) u n x
+  pub inspected : (u n x count : ℕ) → Good profile f count → (t : Facts) → t ≡ factsOf (modelAt f count) u n x → inspection.Whole t ≡ inspectionOf (profileVerdict profile f) (model f) u n x
   inspected u n x count g t e = rw (g .verdict, g .model) (ap inspection.Whole e)

@@ -106,28 +106,28 @@ came-end f base at p e c =
     (sym (c .along .rest) ∙ walk-end f at l, sym (c .second) ∙ second-end f at l, λ o. sym (c .along .ordinary o) ∙ ordinary-end f at l)
 
 -- 12, 14 and 15 by the numbers that the code has read
-pub suits-good : (f : List ℕ) (p u x n : ℕ) (k : Usage) → u ≡ usageAt f p → usageOf u ≡ Is k → x ≡ startAt f p → typedAt f (codeOf k) x ≡ true
+pub suits-good : (profile : ℕ) (f : List ℕ) (p u x n : ℕ) (k : Usage) → u ≡ usageAt f p → usageOf u ≡ Is k → x ≡ startAt f p → typedAt profile f (codeOf k) x ≡ true
     → n ≡ numberAt f p → not (eqb u (codeOf Exec)) || eqb n 0 ≡ true → (base : ℕ) → isStart (startAt f p) base (chunksFrom f base) ≡ true
-    → entryFault f base p ≡ accept
-suits-good f p u x n k eu e ex t en h base b = judged-at _ _ _ (sym (by-good f base p u x eu k e ex (rw ex b) t n en h)) .0
+    → entryFault profile f base p ≡ accept
+suits-good profile f p u x n k eu e ex t en h base b = judged-at _ _ _ (sym (by-good profile f base p u x eu k e ex (rw ex b) t n en h)) .0
 
-pub suits-not : (f : List ℕ) (p : ℕ) → Suits false f p
-suits-not f p e = let z : _≡_ {A = ℕ} 0 1 = cc in absurd (omega arith)
+pub suits-not : (profile : ℕ) (f : List ℕ) (p : ℕ) → Suits profile false f p
+suits-not profile f p e = let z : _≡_ {A = ℕ} 0 1 = cc in absurd (omega arith)
 
 -- before the first entry
-pub sofar-none : (f : List ℕ) (base count found : ℕ) → (found < 4294967296 → ⊥) → SoFar f base count 0 found base
-sofar-none f base count found n =
+pub sofar-none : (profile : ℕ) (f : List ℕ) (base count found : ℕ) → (found < 4294967296 → ⊥) → SoFar profile f base count 0 found base
+sofar-none profile f base count found n =
     let z : count - 0 ≡ count = omega arith in
-    record { entries = ap (entriesFrom f base 0) z; last = base; before = before-none f base; behind = omega arith; level = λ l. absurd (n l) }
+    record { entries = ap (entriesFrom profile f base 0) z; last = base; before = before-none f base; behind = omega arith; level = λ l. absurd (n l) }
 
 -- an entry more
-pub sofar-next : (f : List ℕ) (base count j found at start behind : ℕ) → walkFrom f base ≡ accept → j < count → entryFault f base (place j) ≡ accept
+pub sofar-next : (profile : ℕ) (f : List ℕ) (base count j found at start behind : ℕ) → walkFrom f base ≡ accept → j < count → entryFault profile f base (place j) ≡ accept
     → pairIn (usageAt f (place j)) (numberAt f (place j)) (earlier f base j) ≡ false → startAt f (place j) ≡ start → start < 4294967296
-    → ((start ≡ found → ⊥) → at ≤ start) → start ≤ behind → SoFar f base count j found at → SoFar f base count (j + 1) start behind
-sofar-next f base count j found at start behind w h good fresh es small onward l s = record {
-  entries = entries-next f base count j w h good fresh (s .last) start (s .before) es (order (eqb start found) refl) ∙ s .entries;
+    → ((start ≡ found → ⊥) → at ≤ start) → start ≤ behind → SoFar profile f base count j found at → SoFar profile f base count (j + 1) start behind
+sofar-next profile f base count j found at start behind w h good fresh es small onward l s = record {
+  entries = entries-next profile f base count j w h good fresh (s .last) start (s .before) es (order (eqb start found) refl) ∙ s .entries;
   last = start;
-  before = before-next f base count j w h good start es;
+  before = before-next profile f base count j w h good start es;
   behind = l;
   level = λ z. omega arith;
 }
@@ -136,13 +136,13 @@ sofar-next f base count j found at start behind w h good fresh es small onward l
     order true e = let q : start ≡ found = eqb-true start found e in let v = s .level (omega arith) in omega arith
     order false e = let v = onward (eqb-false start found e) in omega (arith, s .behind)
 
-pub sofar-end : (f : List ℕ) (base count j found at : ℕ) → walkFrom f base ≡ accept → j ≡ count → SoFar f base count j found at
-    → entriesFrom f base 0 count ≡ accept
-sofar-end f base count j found at w e s =
-    let z : count - j ≡ 0 = omega arith in sym (s .entries) ∙ ap (entriesFrom f base j) z ∙ entries-end f base w j
+pub sofar-end : (profile : ℕ) (f : List ℕ) (base count j found at : ℕ) → walkFrom f base ≡ accept → j ≡ count → SoFar profile f base count j found at
+    → entriesFrom profile f base 0 count ≡ accept
+sofar-end profile f base count j found at w e s =
+    let z : count - j ≡ 0 = omega arith in sym (s .entries) ∙ ap (entriesFrom profile f base j) z ∙ entries-end profile f base w j
 
 -- the file's head and the index's length; the rest by the pass
-module _ (f : List ℕ) (count m : ℕ) (head : headFault f ≡ accept) (room : 24 ≤ length f) (index : rd32 (drop 12 f) ≡ RIdx) (em : m ≡ rd32 (drop 16 f))
+module _ (profile : ℕ) (f : List ℕ) (count m : ℕ) (head : headFault f ≡ accept) (room : 24 ≤ length f) (index : rd32 (drop 12 f) ≡ RIdx) (em : m ≡ rd32 (drop 16 f))
     (ec : count ≡ rd32 (drop 20 f)) (shape : m ≡ 4 + 12 * count) (few : count ≤ 4096) (all : place count ≤ length f) where
   even : m % 2 ≡ 0
   even = omega arith
@@ -154,7 +154,7 @@ module _ (f : List ℕ) (count m : ℕ) (head : headFault f ≡ accept) (room : 
   behind = let e : rd32 (drop 16 f) ≡ 4 + 12 * count = sym em ∙ shape in rw e (omega arith)
 
   module _ (walks : walkFrom f (place count) ≡ accept) (second : secondIndex (place count) (chunksFrom f (place count)) ≡ accept)
-      (entries : entriesFrom f (place count) 0 count ≡ accept) where
+      (entries : entriesFrom profile f (place count) 0 count ≡ accept) where
     walk : walkFrom f 12 ≡ accept
     walk = sym (walk-next f 12 long (sym (chunk-even f 12 m long em (omega arith) (omega arith) even))) ∙ ap (walkFrom f) behind ∙ walks
 
@@ -164,15 +164,15 @@ module _ (f : List ℕ) (count m : ℕ) (head : headFault f ≡ accept) (room : 
     shaped : 4 ≤ rd32 (drop 16 f)
     shaped = omega arith
 
-    straight-good : (ordinary : Bool) → (ordinary ≡ true → allOrdinary (chunksFrom f (place count)) ≡ true) → JudgesEntries (judgement.Good count ordinary) f
+    straight-good : (ordinary : Bool) → (ordinary ≡ true → allOrdinary (chunksFrom f (place count)) ≡ true) → JudgesEntries profile (judgement.Good count ordinary) f
     straight-good ordinary o =
         let first = sym (first-good f long index) in
         let i = sym (shape-good f long walk shaped (sym em ∙ shape ∙ ap (λ (n : ℕ). 4 + 12 * n) ec) (omega arith)) in (
-          is-judged f head walk first (skipAt f 12) refl second-12 i count ec entries,
-          read-rest f head walk first (skipAt f 12) refl second-12 i count ec entries,
+          is-judged profile f head walk first (skipAt f 12) refl second-12 i count ec entries,
+          read-rest profile f head walk first (skipAt f 12) refl second-12 i count ec entries,
           o,
         )
 
-  pub straight-told : (r : Straight) → Alongside r f count → Straightly r f
+  pub straight-told : (r : Straight) → Alongside profile r f count → Straightly profile r f
   straight-told (Good n ordinary) a = rw (a .0) (straight-good (a .1) (a .2) (a .4) ordinary (a .3))
   straight-told Unsure a = tt

@@ -10,7 +10,7 @@ use Rattle.blorb.specs.Usages.{codeOf}
 use Rattle.blorb.specs.Format.{Entry, Ref, refOf, entryIn, entriesIn, isStart}
 use Rattle.blorb.specs.Verdict.{Verdict, accept, refuse, _then_, check, knownUsage, entriesFault, lastPlace}
 use Rattle.blorb.specs.Model.{startOf}
-use Rattle.blorb.specs.Rules.{plainAllows, plainRules}
+use Rattle.blorb.specs.Rules.{allows, rulesOf}
 use Rattle.chunks.specs.Walk.{chunkFrom, chunksFrom}
 use Rattle.blorb.specs.declared.Usage.the-variants.{Exec}
 use Rattle.reader.specs.declared.entries.Judged.{Judged}
@@ -30,16 +30,16 @@ startAt f p = rd32 (drop (p + 8) f)
 abbrev pub place : ℕ → ℕ
 place i = 24 + 12 * i
 
--- rule 5 of the chunk at x
-abbrev pub typedAt : List ℕ → ℕ → ℕ → Bool
-typedAt f u x = plainAllows u (chunkFrom f x)
+-- rule 5 of the chunk at x, under the profile
+abbrev pub typedAt : (profile : ℕ) → List ℕ → ℕ → ℕ → Bool
+typedAt profile f u x = allows profile u (chunkFrom f x)
 
 -- 12 to 15 of the entry at p; the chunks behind the index stand from base on
-unfoldable pub entryFault : List ℕ → ℕ → ℕ → Verdict
-entryFault f base p =
+unfoldable pub entryFault : (profile : ℕ) → List ℕ → ℕ → ℕ → Verdict
+entryFault profile f base p =
     check (knownUsage (usageAt f p)) 12 p
     then check (isStart (startAt f p) base (chunksFrom f base)) 13 (p + 8)
-    then check (typedAt f (usageAt f p) (startAt f p)) 14 p
+    then check (typedAt profile f (usageAt f p) (startAt f p)) 14 p
     then check (not (eqb (usageAt f p) (codeOf Exec)) || eqb (numberAt f p) 0) 15 (p + 4)
 
 -- the same where no chunk begins at its start
@@ -66,8 +66,8 @@ abbrev pub samePair : List ℕ → ℕ → ℕ → Bool
 samePair f i j = eqb (usageAt f (place i)) (usageAt f (place j)) && eqb (numberAt f (place i)) (numberAt f (place j))
 
 -- 12 to 16 and 27 of n entries from entry j on
-unfoldable pub entriesFrom : List ℕ → ℕ → ℕ → ℕ → Verdict
-entriesFrom f base j n = entriesFault plainRules base (chunksFrom f base) (earlier f base j) (place j) (entriesIn n (drop (place j) f))
+unfoldable pub entriesFrom : (profile : ℕ) → List ℕ → ℕ → ℕ → ℕ → Verdict
+entriesFrom profile f base j n = entriesFault (rulesOf profile) base (chunksFrom f base) (earlier f base j) (place j) (entriesIn n (drop (place j) f))
 
 -- the entries before j that have its usage have numbers below top
 abbrev pub Topped : List ℕ → ℕ → ℕ → Type 0

@@ -7,30 +7,36 @@ use lib.ListN.{length, drop}
 use lib.Dec.{eqb}
 use Rattle.blorb.specs.Bytes.{rd32}
 use Rattle.blorb.specs.Format.{Chunk, size, refOf, entriesIn}
-use Rattle.blorb.specs.Verdict.{accept}
+use Rattle.blorb.specs.Verdict.{accept, verdict}
+use Rattle.blorb.specs.Rules.{rulesOf}
 use Rattle.blorb.specs.Tags.{Fspc}
 use Rattle.blorb.specs.Model.{Model}
 use Rattle.chunks.specs.Ordinary.{allOrdinary}
 use Rattle.chunks.specs.Walk.{chunksFrom}
 use Rattle.reader.specs.Entries.{place}
 use Rattle.reader.specs.Optional.{optionalFault, EntriesPassed}
-use Rattle.reader.specs.Reading.{readBy, readOf}
+use Rattle.reader.specs.Reading.{indexOf, readBy, readOf}
+use Rattle.reader.specs.declared.Reading.{Reading}
 use Rattle.reader.specs.declared.Reading.the-variants.{Accepted, Refused}
 use Rattle.reader.specs.declared.Judgement.{Judgement}
 use Rattle.reader.specs.declared.Judgement.the-variants as judgement
 use Rattle.reader.specs.declared.Front.{Front}
 use Rattle.reader.specs.declared.Front.the-variants as front
 
--- a judgement is the reading of the file; ordinary is told only where every chunk behind the index is
-abbrev pub Judges : Judgement → List ℕ → Type 0
-Judges (judgement.Good n ordinary) f = (Accepted (length f) n ≡ readOf f) × (ordinary ≡ true → allOrdinary (chunksFrom f (place n)) ≡ true)
-Judges (judgement.Refused k p) f = Refused k p ≡ readOf f
+-- the reading under a profile that is known: the table alone, without 52
+unfoldable pub readKnown : (profile : ℕ) → List ℕ → Reading
+readKnown profile f = readBy (verdict (rulesOf profile) f) (length f) (length (indexOf f))
 
--- the same of refusals 1 to 16: 17 to 19 decide
-abbrev pub JudgesEntries : Judgement → List ℕ → Type 0
-JudgesEntries (judgement.Good n ordinary) f =
-    EntriesPassed f n × (readBy (optionalFault f n) (length f) n ≡ readOf f) × (ordinary ≡ true → allOrdinary (chunksFrom f (place n)) ≡ true)
-JudgesEntries (judgement.Refused k p) f = Refused k p ≡ readOf f
+-- a judgement is the reading of the file under the profile; ordinary is told only where every chunk behind the index is
+abbrev pub Judges : (profile : ℕ) → Judgement → List ℕ → Type 0
+Judges profile (judgement.Good n ordinary) f = (Accepted (length f) n ≡ readOf profile f) × (ordinary ≡ true → allOrdinary (chunksFrom f (place n)) ≡ true)
+Judges profile (judgement.Refused k p) f = Refused k p ≡ readOf profile f
+
+-- the same of refusals 1 to 16 under a known profile: 17 to 19 decide
+abbrev pub JudgesEntries : (profile : ℕ) → Judgement → List ℕ → Type 0
+JudgesEntries profile (judgement.Good n ordinary) f =
+    EntriesPassed f n × (readBy (optionalFault f n) (length f) n ≡ readKnown profile f) × (ordinary ≡ true → allOrdinary (chunksFrom f (place n)) ≡ true)
+JudgesEntries profile (judgement.Refused k p) f = Refused k p ≡ readKnown profile f
 
 -- what is known once refusals 1 to 19, 28 and 29 are ruled out for a file with count entries
 pub record Passed (f : List ℕ) (count : ℕ) : Type 0 where

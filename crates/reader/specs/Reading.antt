@@ -1,4 +1,4 @@
--- What the reader answers (01, Found resources), as functions of the file's bytes.
+-- What the reader answers (01, Found resources), as functions of the profile (02, P12) and the file's bytes.
 use Prim.Native.Nat.{ℕ, _+_}
 use mathlib.Core.List.{List, [], _∷_}
 use mathlib.Core.Bool.{Bool, true, false, _&&_}
@@ -7,7 +7,7 @@ use lib.Dec.{eqb, ltb}
 use Rattle.blorb.specs.Format as format
 use Rattle.blorb.specs.Format.{chunksOf, entriesOf}
 use Rattle.blorb.specs.Verdict.{Verdict, accept, refuse, noChunk}
-use Rattle.blorb.specs.Rules.{plainVerdict}
+use Rattle.blorb.specs.Rules.{profileVerdict}
 use Rattle.chunks.specs.Walk.{chunkFrom}
 use Rattle.blorb.specs.declared.Known.{Known}
 use Rattle.blorb.specs.declared.Known.the-variants.{Is, Unknown}
@@ -32,8 +32,8 @@ abbrev pub readBy : Verdict → ℕ → ℕ → Reading
 readBy accept l n = Accepted l n
 readBy (refuse k p) l n = Refused k p
 
-unfoldable pub readOf : List ℕ → Reading
-readOf f = readBy (plainVerdict f) (length f) (length (indexOf f))
+unfoldable pub readOf : (profile : ℕ) → List ℕ → Reading
+readOf profile f = readBy (profileVerdict profile f) (length f) (length (indexOf f))
 
 -- an entry with its usage as one of the four kinds; p is its place. The second clause is never met in an accepted file (Promises, entry-given).
 abbrev pub givenBy : Known → ℕ → ℕ → ℕ → Asked
@@ -52,8 +52,8 @@ askedBy accept es i = entryBy (ltb i (length es)) (getD es i noEntry) i
 askedBy (refuse k p) es i = Withheld k p
 
 -- "Asked for entry i, it gives usage, number and start, or 22 if i isn't below the count, after its own refusals."
-unfoldable pub askedOf : List ℕ → ℕ → Asked
-askedOf f i = askedBy (plainVerdict f) (indexOf f) i
+unfoldable pub askedOf : (profile : ℕ) → List ℕ → ℕ → Asked
+askedOf profile f i = askedBy (profileVerdict profile f) (indexOf f) i
 
 -- the start of the first entry with this usage and number
 abbrev pub pickHit : Bool → ℕ → Hit → Hit
@@ -74,8 +74,8 @@ lookedBy accept l = l
 lookedBy (refuse k p) l = Missing k p
 
 -- "A lookup gives the chunk's type and the part of the caller's slice that is its data"; "Lookup: reader's number, 22"
-unfoldable pub lookupOf : List ℕ → ℕ → ℕ → Looked
-lookupOf f u n = lookedBy (plainVerdict f) (foundBy f (hitIn u n (indexOf f)))
+unfoldable pub lookupOf : (profile : ℕ) → List ℕ → ℕ → ℕ → Looked
+lookupOf profile f u n = lookedBy (profileVerdict profile f) (foundBy f (hitIn u n (indexOf f)))
 
 -- "the part's call gives an empty part where the answer's call refuses, and otherwise exactly the part the answer names"
 abbrev pub partOf : Looked → List ℕ → List ℕ

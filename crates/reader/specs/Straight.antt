@@ -41,25 +41,25 @@ Stepped (To behind ordinary) f base found at start q =
 Stepped Away f base found at start q = Unit {0}
 
 -- 12, 14 and 15 are ruled out, so that only 13 is left to judge
-abbrev pub Suits : Bool → List ℕ → ℕ → Type 0
-Suits r f p = r ≡ true → (base : ℕ) → isStart (startAt f p) base (chunksFrom f base) ≡ true → entryFault f base p ≡ accept
+abbrev pub Suits : (profile : ℕ) → Bool → List ℕ → ℕ → Type 0
+Suits profile r f p = r ≡ true → (base : ℕ) → isStart (startAt f p) base (chunksFrom f base) ≡ true → entryFault profile f base p ≡ accept
 
 -- of an accepted walk: what the first j of count entries leave to judge
-pub record SoFar (f : List ℕ) (base count j found at : ℕ) : Type 0 where
-  pub entries : entriesFrom f base j (count - j) ≡ entriesFrom f base 0 count
+pub record SoFar (profile : ℕ) (f : List ℕ) (base count j found at : ℕ) : Type 0 where
+  pub entries : entriesFrom profile f base j (count - j) ≡ entriesFrom profile f base 0 count
   pub last : ℕ
   pub before : Before f base j last
   pub behind : last ≤ at
   pub level : found < 4294967296 → last ≤ found
 
 -- the whole index and all chunks have been gone through
-abbrev pub Alongside : Straight → List ℕ → ℕ → Type 0
-Alongside (Good n ordinary) f count =
+abbrev pub Alongside : (profile : ℕ) → Straight → List ℕ → ℕ → Type 0
+Alongside profile (Good n ordinary) f count =
     (n ≡ count) × (walkFrom f (place count) ≡ accept) × (secondIndex (place count) (chunksFrom f (place count)) ≡ accept)
-    × (ordinary ≡ true → allOrdinary (chunksFrom f (place count)) ≡ true) × (entriesFrom f (place count) 0 count ≡ accept)
-Alongside Unsure f count = Unit {0}
+    × (ordinary ≡ true → allOrdinary (chunksFrom f (place count)) ≡ true) × (entriesFrom profile f (place count) 0 count ≡ accept)
+Alongside profile Unsure f count = Unit {0}
 
 -- refusals 1 to 16 and 27 are ruled out: 17 to 19 decide
-abbrev pub Straightly : Straight → List ℕ → Type 0
-Straightly (Good n ordinary) f = JudgesEntries (judgement.Good n ordinary) f
-Straightly Unsure f = Unit {0}
+abbrev pub Straightly : (profile : ℕ) → Straight → List ℕ → Type 0
+Straightly profile (Good n ordinary) f = JudgesEntries profile (judgement.Good n ordinary) f
+Straightly profile Unsure f = Unit {0}

@@ -9,6 +9,7 @@ ghost use lib.ListN.{length, drop};
 ghost use lib.Dec.{eqb};
 ghost use Rattle.blorb.specs.Verdict.{accept, refuse, chunkFault, indexFault};
 ghost use Rattle.blorb.specs.Format.{isStart, entriesIn};
+ghost use Rattle.blorb.specs.Rules.{plainAllows};
 ghost use Rattle.blorb.specs.Usages.{codeOf};
 ghost use Rattle.blorb.specs.declared.Usage.the-variants.{Exec};
 ghost use Rattle.chunks.specs.Walk.{chunkFrom, chunksFrom, walkFrom, verdictOf, Reached};
@@ -110,14 +111,25 @@ pub(crate) fn slot(code: u64) -> usize
     (code / 16777216 % 8) as usize
 }
 
-// Rule 5: the chunk at `at` has a type that the usage allows.
-pub(crate) fn typed(s: &[u8], usage: Usage, at: usize) -> bool
+// Rule 5 for plain files, of the chunk at `at`.
+pub(crate) fn plainly_typed(s: &[u8], usage: Usage, at: usize) -> bool
     requires { ⌜ (at < length (now s)) × (chunkFault at (drop at (now s)) ≡ accept) ⌝ }
-    ensures { λ r. ⌜ r ≡ typedAt (now (s .entry)) (codeOf usage) at ⌝ }
+    ensures { λ r. ⌜ r ≡ plainAllows (codeOf usage) (chunkFrom (now (s .entry)) at) ⌝ }
 {
     let from = at + 8;
     let to = from + blorb::be32_at(s, at + 4) as usize;
-    usage.allows(blorb::be32_at(s, at), &s[from..to])
+    usage.plain_allows(blorb::be32_at(s, at), &s[from..to])
+}
+
+// Rule 5: the chunk at `at` has a type that the usage allows under the profile.
+fn typed(s: &[u8], profile: u32, usage: Usage, at: usize) -> bool
+    requires { ⌜ (at < length (now s)) × (chunkFault at (drop at (now s)) ≡ accept) ⌝ }
+    ensures { λ r. ⌜ r ≡ typedAt profile (now (s .entry)) (codeOf usage) at ⌝ }
+{
+    if plainly_typed(s, usage, at) {
+        return true;
+    }
+    usage.also_allows(profile, blorb::be32_at(s, at))
 }
 
 // Whether a chunk behind the index begins at `start`: the walk goes on from `from`, where one begins, if `start` is not before it. Only an
@@ -150,9 +162,9 @@ fn unstarted(s: &[u8], p: usize) -> Judged
 }
 
 // Refusals 12 to 15 of the entry at `p`. The start is looked for first: the usage's test then leads straight to the one of its types.
-fn judge(s: &[u8], base: usize, from: usize, p: usize) -> Judged
+fn judge(s: &[u8], profile: u32, base: usize, from: usize, p: usize) -> Judged
     requires { ⌜ (p + 12 ≤ length (now s)) × (walkFrom (now s) base ≡ accept) × (walkFrom (now s) from ≡ accept) × Reached (now s) base from ⌝ }
-    ensures { λ r. ⌜ r ≡ judgedBy (entryFault (now (s .entry)) base p) (startAt (now (s .entry)) p) ⌝ }
+    ensures { λ r. ⌜ r ≡ judgedBy (entryFault profile (now (s .entry)) base p) (startAt (now (s .entry)) p) ⌝ }
 {
     let start = blorb::be32_at(s, p + 8) as usize;
     if !begins_behind(s, base, from, start) {
@@ -165,7 +177,7 @@ fn judge(s: &[u8], base: usize, from: usize, p: usize) -> Judged
             place: p,
         };
     };
-    if !typed(s, usage, start) {
+    if !typed(s, profile, usage, start) {
         return Judged::Fault {
             number: 14,
             place: p,
@@ -194,9 +206,9 @@ fn unordered(p: usize) -> Check
 
 // Refusals 12 to 16 and 27, entry by entry. For each usage a number above all of its numbers so far is kept, so that
 // the search among the earlier entries runs only for an entry that could repeat one of them.
-pub(crate) fn entries(s: &[u8], count: usize) -> Check
+pub(crate) fn entries(s: &[u8], profile: u32, count: usize) -> Check
     requires { ⌜ (count ≤ 4096) × (place count ≤ length (now s)) × (walkFrom (now s) (place count) ≡ accept) ⌝ }
-    ensures { λ r. ⌜ verdictOf r ≡ entriesFrom (now (s .entry)) (place count) 0 count ⌝ }
+    ensures { λ r. ⌜ verdictOf r ≡ entriesFrom profile (now (s .entry)) (place count) 0 count ⌝ }
 {
     let base = 24 + 12 * count;
     let mut answer = Check::Good;
@@ -206,7 +218,7 @@ pub(crate) fn entries(s: &[u8], count: usize) -> Check
     'entries: while j < count {
         let p = 24 + 12 * j;
         let before = found;
-        match judge(s, base, before, p) {
+        match judge(s, profile, base, before, p) {
             Judged::Fault { number, place } => return Check::Refused { number, place },
             Judged::At(start) => {
                 found = start;

@@ -13,7 +13,7 @@ mod straight;
 
 ghost use mathlib.Core.Path.{_≡_};
 ghost use Rattle.blorb.specs.Bytes.{rd32};
-ghost use Rattle.blorb.specs.Rules.{plainVerdict};
+ghost use Rattle.blorb.specs.Rules.{profileVerdict};
 ghost use Rattle.blorb.specs.Model.{model};
 ghost use Rattle.reader.specs.Reading.{readOf, askedOf, lookupOf, partOf, partAt};
 ghost use Rattle.reader.specs.Inspecting.{inspectionOf};
@@ -81,8 +81,8 @@ enum Judgement {
 }
 
 // Refusals 1 to 16, each in its turn; `Good` where only 17 to 19 are left to judge.
-fn judge_in_turn(file: &[u8]) -> Judgement
-    ensures { λ r. ⌜ JudgesEntries r (now (file .entry)) ⌝ }
+fn judge_in_turn(file: &[u8], profile: u32) -> Judgement
+    ensures { λ r. ⌜ JudgesEntries profile r (now (file .entry)) ⌝ }
 {
     if let Check::Refused { number, place } = chunks::head(file) {
         return Judgement::Refused { number, place };
@@ -106,7 +106,7 @@ fn judge_in_turn(file: &[u8]) -> Judgement
         return Judgement::Refused { number, place };
     }
     let count = blorb::be32_at(file, 20) as usize;
-    if let Check::Refused { number, place } = entries::entries(file, count) {
+    if let Check::Refused { number, place } = entries::entries(file, profile, count) {
         return Judgement::Refused { number, place };
     }
     Judgement::Good {
@@ -116,20 +116,26 @@ fn judge_in_turn(file: &[u8]) -> Judgement
 }
 
 // The same. An accepted file is known by the straight way; only a refused one is judged in turn, for its first refusal.
-fn judge_entries(file: &[u8]) -> Judgement
-    ensures { λ r. ⌜ JudgesEntries r (now (file .entry)) ⌝ }
+fn judge_entries(file: &[u8], profile: u32) -> Judgement
+    ensures { λ r. ⌜ JudgesEntries profile r (now (file .entry)) ⌝ }
 {
-    match straight::in_one_pass(file) {
+    match straight::in_one_pass(file, profile) {
         Straight::Good { count, ordinary } => Judgement::Good { count, ordinary },
-        Straight::Unsure => judge_in_turn(file),
+        Straight::Unsure => judge_in_turn(file, profile),
     }
 }
 
-// The whole table: 1 to 19, 27, 28 and 29.
-fn judge_file(file: &[u8]) -> Judgement
-    ensures { λ r. ⌜ Judges r (now (file .entry)) ⌝ }
+// 52, then the whole table: 1 to 19, 27, 28 and 29.
+fn judge_file(file: &[u8], profile: u32) -> Judgement
+    ensures { λ r. ⌜ Judges profile r (now (file .entry)) ⌝ }
 {
-    match judge_entries(file) {
+    if 1 < profile {
+        return Judgement::Refused {
+            number: 52,
+            place: 0,
+        };
+    }
+    match judge_entries(file, profile) {
         Judgement::Refused { number, place } => Judgement::Refused { number, place },
         Judgement::Good { count, ordinary } => {
             if ordinary {
@@ -143,11 +149,11 @@ fn judge_file(file: &[u8]) -> Judgement
     }
 }
 
-// The reader's verdict: the file's length and entry count, or the first refusal of the table.
-pub fn read(file: &[u8]) -> Reading
-    ensures { λ r. ⌜ r ≡ readOf (now (file .entry)) ⌝ }
+// The reader's verdict under a profile, 0 plain and 1 ADRIFT: the file's length and entry count, or the first refusal of the table.
+pub fn read(file: &[u8], profile: u32) -> Reading
+    ensures { λ r. ⌜ r ≡ readOf profile (now (file .entry)) ⌝ }
 {
-    match judge_file(file) {
+    match judge_file(file, profile) {
         Judgement::Refused { number, place } => Reading::Refused { number, place },
         Judgement::Good { count, ordinary: _ } => Reading::Accepted {
             length: file.len(),
@@ -157,10 +163,10 @@ pub fn read(file: &[u8]) -> Reading
 }
 
 // Entry i of the index: its usage, number and start.
-pub fn entry(file: &[u8], i: usize) -> Asked
-    ensures { λ r. ⌜ r ≡ askedOf (now (file .entry)) i ⌝ }
+pub fn entry(file: &[u8], profile: u32, i: usize) -> Asked
+    ensures { λ r. ⌜ r ≡ askedOf profile (now (file .entry)) i ⌝ }
 {
-    match read(file) {
+    match read(file, profile) {
         Reading::Refused { number, place } => Asked::Refused { number, place },
         Reading::Accepted { length: _, count } => {
             if count <= i {
@@ -194,10 +200,10 @@ fn code(usage: [u8; 4]) -> u64
 }
 
 // The chunk of the entry (usage, number): its type, and where its data is.
-pub fn lookup(file: &[u8], usage: [u8; 4], number: u32) -> Looked
-    ensures { λ r. ⌜ r ≡ lookupOf (now (file .entry)) (rd32 usage) number ⌝ }
+pub fn lookup(file: &[u8], profile: u32, usage: [u8; 4], number: u32) -> Looked
+    ensures { λ r. ⌜ r ≡ lookupOf profile (now (file .entry)) (rd32 usage) number ⌝ }
 {
-    match read(file) {
+    match read(file, profile) {
         Reading::Refused { number, place } => Looked::Refused { number, place },
         Reading::Accepted { length: _, count } => {
             let Hit::At(at) = entries::find(file, count, code(usage), number as u64) else {
@@ -218,10 +224,10 @@ pub fn lookup(file: &[u8], usage: [u8; 4], number: u32) -> Looked
 }
 
 // The part of `file` that the lookup names: these very bytes, where they lie. It is empty where the lookup refuses.
-pub fn data(file: &[u8], usage: [u8; 4], number: u32) -> &[u8]
-    ensures { λ r. ⌜ (now r ≡ partOf (lookupOf (now (file .entry)) (rd32 usage) number) (now (file .entry))) × (r .ptr ≡ partAt (lookupOf (now (file .entry)) (rd32 usage) number) (file .entry .ptr)) ⌝ }
+pub fn data(file: &[u8], profile: u32, usage: [u8; 4], number: u32) -> &[u8]
+    ensures { λ r. ⌜ (now r ≡ partOf (lookupOf profile (now (file .entry)) (rd32 usage) number) (now (file .entry))) × (r .ptr ≡ partAt (lookupOf profile (now (file .entry)) (rd32 usage) number) (file .entry .ptr)) ⌝ }
 {
-    match lookup(file, usage, number) {
+    match lookup(file, profile, usage, number) {
         Looked::Found {
             kind: _,
             start,
@@ -239,10 +245,10 @@ pub fn data(file: &[u8], usage: [u8; 4], number: u32) -> &[u8]
 
 // One reading for whoever changes a file: its verdict and, where it is accepted, its entry count, the chunk of the entry
 // (usage, number), the frontispiece, and whether a chunk behind the index begins at `at`.
-pub fn inspect(file: &[u8], usage: u32, number: u32, at: usize) -> Inspection
-    ensures { λ r. ⌜ r ≡ inspectionOf (plainVerdict (now (file .entry))) (model (now (file .entry))) usage number at ⌝ }
+pub fn inspect(file: &[u8], profile: u32, usage: u32, number: u32, at: usize) -> Inspection
+    ensures { λ r. ⌜ r ≡ inspectionOf (profileVerdict profile (now (file .entry))) (model (now (file .entry))) usage number at ⌝ }
 {
-    match judge_file(file) {
+    match judge_file(file, profile) {
         Judgement::Refused { number, place } => Inspection::Refused { number, place },
         Judgement::Good { count, ordinary } => Inspection::Whole(parts::facts(
             file,

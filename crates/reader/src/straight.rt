@@ -88,19 +88,45 @@ fn step_to(s: &[u8], found: usize, at: usize, start: usize) -> Step
     }
 }
 
-// Whether the entry at `p`, whose chunk begins at `start`, gives no cause for 12, 14 and 15.
-fn suits(s: &[u8], p: usize, start: usize) -> bool
+// Whether the entry at `p`, whose chunk begins at `start`, gives no cause for 12, 14 and 15, its type being a plain one.
+fn suits_plainly(s: &[u8], p: usize, start: usize) -> bool
     requires { ⌜ (p + 12 ≤ length (now s)) × (start < length (now s)) × (chunkFault start (drop start (now s)) ≡ accept) × (startAt (now s) p ≡ start) ⌝ }
-    ensures { λ r. ⌜ Suits r (now (s .entry)) p ⌝ }
+    ensures { λ r. ⌜ ((profile : ℕ) → Suits profile r (now (s .entry)) p) ⌝ }
 {
     let code = blorb::be32_at(s, p);
     let Known::Is(usage) = Usage::of_code(code) else {
         return false;
     };
-    if !entries::typed(s, usage, start) {
+    if !entries::plainly_typed(s, usage, start) {
         return false;
     }
     entries::numbered(code, blorb::be32_at(s, p + 4))
+}
+
+// The same, its type being one that the profile allows besides.
+fn suits_also(s: &[u8], profile: u32, p: usize, start: usize) -> bool
+    requires { ⌜ (p + 12 ≤ length (now s)) × (start < length (now s)) × (chunkFault start (drop start (now s)) ≡ accept) × (startAt (now s) p ≡ start) ⌝ }
+    ensures { λ r. ⌜ Suits profile r (now (s .entry)) p ⌝ }
+{
+    let code = blorb::be32_at(s, p);
+    let Known::Is(usage) = Usage::of_code(code) else {
+        return false;
+    };
+    if !usage.also_allows(profile, blorb::be32_at(s, start)) {
+        return false;
+    }
+    entries::numbered(code, blorb::be32_at(s, p + 4))
+}
+
+// The same under the profile. The plain types come first, apart from the others, so that the pass over a plain file stays as short as without profiles.
+fn suits(s: &[u8], profile: u32, p: usize, start: usize) -> bool
+    requires { ⌜ (p + 12 ≤ length (now s)) × (start < length (now s)) × (chunkFault start (drop start (now s)) ≡ accept) × (startAt (now s) p ≡ start) ⌝ }
+    ensures { λ r. ⌜ Suits profile r (now (s .entry)) p ⌝ }
+{
+    if suits_plainly(s, p, start) {
+        return true;
+    }
+    suits_also(s, profile, p, start)
 }
 
 // Whether an entry before entry j has its usage and number.
@@ -141,9 +167,9 @@ fn above(top: u64, number: u64) -> u64
 }
 
 // The entries with their chunks, which stand from the index's end on, and the chunks behind the last of them.
-fn side_by_side(s: &[u8], count: usize) -> Straight
+fn side_by_side(s: &[u8], profile: u32, count: usize) -> Straight
     requires { ⌜ (count ≤ 4096) × (place count ≤ length (now s)) ⌝ }
-    ensures { λ r. ⌜ Alongside r (now (s .entry)) count ⌝ }
+    ensures { λ r. ⌜ Alongside profile r (now (s .entry)) count ⌝ }
 {
     let mut tops = [0u64; 8];
     let mut found: usize = 4294967296;
@@ -160,7 +186,7 @@ fn side_by_side(s: &[u8], count: usize) -> Straight
         else {
             return Straight::Unsure;
         };
-        if !suits(s, p, start) {
+        if !suits(s, profile, p, start) {
             return Straight::Unsure;
         }
         let k = entries::slot(blorb::be32_at(s, p));
@@ -185,8 +211,8 @@ fn side_by_side(s: &[u8], count: usize) -> Straight
 }
 
 // Whether a file keeps all rules but rule 7, told only where the straight way shows it.
-pub(crate) fn in_one_pass(file: &[u8]) -> Straight
-    ensures { λ r. ⌜ Straightly r (now (file .entry)) ⌝ }
+pub(crate) fn in_one_pass(file: &[u8], profile: u32) -> Straight
+    ensures { λ r. ⌜ Straightly profile r (now (file .entry)) ⌝ }
 {
     if let Check::Refused {
         number: _,
@@ -210,5 +236,5 @@ pub(crate) fn in_one_pass(file: &[u8]) -> Straight
     if file.len() < 24 + 12 * count {
         return Straight::Unsure;
     }
-    side_by_side(file, count)
+    side_by_side(file, profile, count)
 }

@@ -1,8 +1,8 @@
 // Runs the reader on the sample files that stand packed on standard input, and says what it answers.
 //
-// A packed sample: four numbers of four bytes (the length of its name, the length of its file, how many entries and
-// how many pairs are asked), the name, the file, eight bytes for each entry's number, four bytes of usage and four of
-// number for each pair. The next sample follows at once; tests/make_reading_samples.py writes them.
+// A packed sample: five numbers of four bytes (the length of its name, the length of its file, how many entries and
+// how many pairs are asked, and the profile), the name, the file, eight bytes for each entry's number, four bytes of usage
+// and four of number for each pair. The next sample follows at once; tests/make_reading_samples.py writes them.
 use blorb::Entry;
 use libc::STDIN_FILENO;
 use libc::STDOUT_FILENO;
@@ -46,8 +46,8 @@ fn refused(k: u64, place: usize) {
     number(place as u64);
 }
 
-fn verdict(file: &[u8]) {
-    match reader::read(file) {
+fn verdict(file: &[u8], profile: u32) {
+    match reader::read(file, profile) {
         Reading::Accepted { length, count } => {
             text(b"accepted ");
             number(length as u64);
@@ -71,11 +71,11 @@ fn given(e: Entry) {
     number(e.start as u64);
 }
 
-fn ask_entry(file: &[u8], i: usize) {
+fn ask_entry(file: &[u8], profile: u32, i: usize) {
     text(b" entry ");
     number(i as u64);
     text(b": ");
-    match reader::entry(file, i) {
+    match reader::entry(file, profile, i) {
         Asked::Given(e) => given(e),
         Asked::Refused { number, place } => refused(number, place),
     }
@@ -97,13 +97,13 @@ fn checksum(s: &[u8]) -> u64 {
     sum
 }
 
-fn ask_pair(file: &[u8], usage: [u8; 4], n: u32) {
+fn ask_pair(file: &[u8], profile: u32, usage: [u8; 4], n: u32) {
     text(b" ");
     text(&usage);
     text(b" ");
     number(n as u64);
     text(b": ");
-    match reader::lookup(file, usage, n) {
+    match reader::lookup(file, profile, usage, n) {
         Looked::Found {
             kind,
             start,
@@ -117,7 +117,7 @@ fn ask_pair(file: &[u8], usage: [u8; 4], n: u32) {
         }
         Looked::Refused { number, place } => refused(number, place),
     }
-    let part = reader::data(file, usage, n);
+    let part = reader::data(file, profile, usage, n);
     text(b"; part ");
     number(part.len() as u64);
     text(b" sum ");
@@ -126,48 +126,49 @@ fn ask_pair(file: &[u8], usage: [u8; 4], n: u32) {
 }
 
 // One row of eight bytes: a pair, or an entry's number.
-fn ask(file: &[u8], row: &[u8], pair: bool) {
+fn ask(file: &[u8], profile: u32, row: &[u8], pair: bool) {
     if row.len() < 8 {
         return;
     }
     let high = blorb::be32_at(row, 0);
     let low = blorb::be32_at(row, 4);
     if pair {
-        ask_pair(file, [row[0], row[1], row[2], row[3]], low as u32);
+        ask_pair(file, profile, [row[0], row[1], row[2], row[3]], low as u32);
     } else {
-        ask_entry(file, (high * 4294967296 + low) as usize);
+        ask_entry(file, profile, (high * 4294967296 + low) as usize);
     }
 }
 
-fn ask_all(file: &[u8], rows: &[u8], pair: bool) {
+fn ask_all(file: &[u8], profile: u32, rows: &[u8], pair: bool) {
     for k in 0..rows.len() / 8 {
         let at = 8 * k;
         let end = at + 8;
-        ask(file, &rows[at..end], pair);
+        ask(file, profile, &rows[at..end], pair);
     }
 }
 
 // The sample at `at`. Answers where the next one stands, or 0 where the packing is bad.
 fn sample(s: &[u8], at: usize) -> usize {
-    if s.len() < 16 {
+    if s.len() < 20 {
         return 0;
     }
-    if s.len() - 16 < at {
+    if s.len() - 20 < at {
         return 0;
     }
-    let name = at + 16;
+    let name = at + 20;
     let file = name + blorb::be32_at(s, at) as usize;
     let asked = file + blorb::be32_at(s, at + 4) as usize;
     let paired = asked + 8 * blorb::be32_at(s, at + 8) as usize;
     let end = paired + 8 * blorb::be32_at(s, at + 12) as usize;
+    let profile = blorb::be32_at(s, at + 16) as u32;
     if s.len() < end {
         return 0;
     }
     text(&s[name..file]);
     text(b": ");
-    verdict(&s[file..asked]);
-    ask_all(&s[file..asked], &s[asked..paired], false);
-    ask_all(&s[file..asked], &s[paired..end], true);
+    verdict(&s[file..asked], profile);
+    ask_all(&s[file..asked], profile, &s[asked..paired], false);
+    ask_all(&s[file..asked], profile, &s[paired..end], true);
     end
 }
 

@@ -8,7 +8,7 @@ use mathlib.Core.Bool.{true}
 use lib.ListN.{take, set, replicate}
 use Rattle.blorb.specs.All.{All}
 use Rattle.blorb.specs.Format.{Entry}
-use Rattle.blorb.specs.Tags.{Pict, Snd, Data}
+use Rattle.blorb.specs.Tags.{Pict, Snd, Data, GIF}
 use Rattle.rows.specs.Rows.{listed, rowsOf, flat}
 use Rattle.rows.specs.Order.{insertRow, sorted}
 use Rattle.rows.specs.Halving.{halving}
@@ -16,7 +16,7 @@ use Rattle.table.specs.Answers.{tableOf, buildOf, agree, checkOf, searchOf}
 use Rattle.table.specs.declared.Built.the-variants as built
 use Rattle.table.specs.declared.Checked.the-variants.{Accepted, Refused}
 use Rattle.table.specs.declared.Found.the-variants as found
-use Rattle.samples.specs.Files.{blank, A, B, withoutEel, binary}
+use Rattle.samples.specs.Files.{blank, A, B, withoutEel, binary, kindOf}
 use Rattle.samples.specs.TableRows.{TableRow, builtFor, checkedFor, builds, checks, searches, TableRowHolds}
 use Rattle.samples.proofs.Table.{computed}
 
@@ -36,18 +36,18 @@ tableB = Data ∷ (7 ∷ (48 ∷ (Pict ∷ (1 ∷ (60 ∷ [])))))
 unfoldable pub tableSamples : List TableRow
 tableSamples =
     -- B's table, with room to spare, with just enough, with a number too few; A with padding byte 1; a file of no entries
-    builtFor B (replicate 6 0 ++ (5 ∷ [])) (built.Rows 2) (tableB ++ (5 ∷ [])) ∷ (
-    builtFor B (replicate 6 9) (built.Rows 2) tableB ∷ (
-    builtFor B (replicate 5 9) (built.Refused 34 0) (replicate 5 9) ∷ (
-    builtFor (set A 47 1) (replicate 6 9) (built.Refused 7 47) (replicate 6 9) ∷ (
-    builtFor blank (5 ∷ []) (built.Rows 0) (5 ∷ []) ∷ (
+    builtFor 0 B (replicate 6 0 ++ (5 ∷ [])) (built.Rows 2) (tableB ++ (5 ∷ [])) ∷ (
+    builtFor 0 B (replicate 6 9) (built.Rows 2) tableB ∷ (
+    builtFor 0 B (replicate 5 9) (built.Refused 34 0) (replicate 5 9) ∷ (
+    builtFor 0 (set A 47 1) (replicate 6 9) (built.Refused 7 47) (replicate 6 9) ∷ (
+    builtFor 0 blank (5 ∷ []) (built.Rows 0) (5 ∷ []) ∷ (
     -- it is B's, and stale after the removal of Data 7, after a replacement that moves the second start, and for another file
-    checkedFor B tableB Accepted ∷ (
-    checkedFor withoutEel tableB (Refused 35 0) ∷ (
-    checkedFor binary tableB (Refused 35 1) ∷ (
-    checkedFor A (take 3 tableB) (Refused 35 0) ∷ (
-    checkedFor blank tableB (Refused 35 0) ∷ (
-    checkedFor (set A 47 1) tableB (Refused 7 47) ∷ (
+    checkedFor 0 B tableB Accepted ∷ (
+    checkedFor 0 withoutEel tableB (Refused 35 0) ∷ (
+    checkedFor 0 binary tableB (Refused 35 1) ∷ (
+    checkedFor 0 A (take 3 tableB) (Refused 35 0) ∷ (
+    checkedFor 0 blank tableB (Refused 35 0) ∷ (
+    checkedFor 0 (set A 47 1) tableB (Refused 7 47) ∷ (
     -- built in a slice with room to spare: what is behind the last row stays
     builds (0 ∷ (0 ∷ (0 ∷ (0 ∷ (0 ∷ (0 ∷ (0 ∷ (0 ∷ (0 ∷ (5 ∷ (6 ∷ []))))))))))) index (good ++ (5 ∷ (6 ∷ []))) ∷ (
     builds (5 ∷ []) [] (5 ∷ []) ∷ (
@@ -71,71 +71,17 @@ tableSamples =
     searches [] Data 7 (record { found = found.Refused 22 0; probes = 0 }) ∷ (
     searches (take 2 good) Data 7 (record { found = found.Refused 22 0; probes = 0 }) ∷ (
     -- rows out of order may be missed
-    searches (flat index) Pict 9 (record { found = found.Refused 22 0; probes = 2 }) ∷ [])))))))))))))))))))))))))))))
+    searches (flat index) Pict 9 (record { found = found.Refused 22 0; probes = 2 }) ∷ (
+    -- 02, P12: a 'GIF ' under Pict, as plain and under ADRIFT; an unknown profile
+    builtFor 0 (kindOf Pict GIF) (replicate 3 9) (built.Refused 14 24) (replicate 3 9) ∷ (
+    builtFor 1 (kindOf Pict GIF) (replicate 3 9) (built.Rows 1) (Pict ∷ (7 ∷ (36 ∷ []))) ∷ (
+    builtFor 2 B (replicate 5 9) (built.Refused 52 0) (replicate 5 9) ∷ (
+    checkedFor 0 (kindOf Pict GIF) (Pict ∷ (7 ∷ (36 ∷ []))) (Refused 14 24) ∷ (
+    checkedFor 1 (kindOf Pict GIF) (Pict ∷ (7 ∷ (36 ∷ []))) Accepted ∷ (
+    checkedFor 1 B tableB Accepted ∷ (
+    checkedFor 2 B tableB (Refused 52 0) ∷ []))))))))))))))))))))))))))))))))))))
 
 pub table-samples : All TableRowHolds tableSamples
 unfolding computed tableSamples tableOf buildOf checkOf listed rowsOf flat insertRow sorted halving agree searchOf
-table-samples = (
-  (refl, refl),
-  (
-    (refl, refl),
-    (
-      (refl, refl),
-      (
-        (refl, refl),
-        (
-          (refl, refl),
-          (
-            refl,
-            (
-              refl,
-              (
-                refl,
-                (
-                  refl,
-                  (
-                    refl,
-                    (
-                      refl,
-                      (
-                        refl,
-                        (
-                          refl,
-                          (
-                            refl,
-                            (
-                              refl,
-                              (
-                                refl,
-                                (
-                                  refl,
-                                  (
-                                    refl,
-                                    (
-                                      refl,
-                                      (
-                                        refl,
-                                        (
-                                          refl,
-                                          (refl, (refl, (refl, (refl, (refl, (refl, (refl, (refl, (refl, tt))))))))),
-                                        ),
-                                      ),
-                                    ),
-                                  ),
-                                ),
-                              ),
-                            ),
-                          ),
-                        ),
-                      ),
-                    ),
-                  ),
-                ),
-              ),
-            ),
-          ),
-        ),
-      ),
-    ),
-  ),
-)
+table-samples =
+    ((refl, refl), ((refl, refl), ((refl, refl), ((refl, refl), ((refl, refl), (refl, (refl, (refl, (refl, (refl, (refl, (refl, (refl, (refl, (refl, (refl, (refl, (refl, (refl, (refl, (refl, (refl, (refl, (refl, (refl, (refl, (refl, (refl, (refl, (refl, ((refl, refl), ((refl, refl), ((refl, refl), (refl, (refl, (refl, (refl, tt)))))))))))))))))))))))))))))))))))))

@@ -3,7 +3,7 @@ use Prim.Native.Nat.{ℕ}
 use mathlib.Core.List.{List, [], _∷_, _++_}
 use lib.ListN.{take, drop, set}
 use Rattle.blorb.specs.Bytes.{be32}
-use Rattle.blorb.specs.Tags.{Data}
+use Rattle.blorb.specs.Tags.{Data, Pict, Fspc, GIF}
 
 -- 'FORM' 16 'IFRS' 'RIdx' 4 0
 abbrev pub blank : List ℕ
@@ -71,3 +71,11 @@ sameTwice = set (take 24 B) 7 64 ++ (entry Data 7 60 ++ (entry Data 7 48 ++ (tex
 -- three entries: the second has a lower start than the first, the third an unknown usage
 abbrev pub lowThenUnknown : List ℕ
 lowThenUnknown = set (set (set (take 24 B) 7 76) 19 40) 23 3 ++ (entry Data 7 72 ++ (entry Data 8 60 ++ (entry 0 9 60 ++ (text ++ text))))
+
+-- 02, P12. A with another usage and type: Pict 7 a 'GIF ', for one
+abbrev pub kindOf : ℕ → ℕ → List ℕ
+kindOf u t = take 24 A ++ (be32 u ++ (take 8 (drop 28 A) ++ (be32 t ++ drop 40 A)))
+
+-- and with a frontispiece behind it, which names Pict 7
+abbrev pub fronted : List ℕ
+fronted = set (kindOf Pict GIF) 7 52 ++ (be32 Fspc ++ (be32 4 ++ be32 7))

@@ -1,10 +1,10 @@
--- What a row of the sample table says.
+-- What a row of the sample table says. Each row but that of a blank file names the profile first (02, P12).
 use mathlib.Core.Path.{_≡_}
 use Prim.Native.Nat.{ℕ}
 use mathlib.Core.List.{List}
 use lib.ListN.{length}
 use Rattle.blorb.specs.Verdict.{accept}
-use Rattle.blorb.specs.Rules.{plainRules}
+use Rattle.blorb.specs.Rules.{rulesOf}
 use Rattle.edits.specs.Edit.{Edit}
 use Rattle.edits.specs.Blank.{blanked}
 use Rattle.edits.specs.Run.{State, Call, Answer, editFault, undoFault, editedFile, editRecord, undoneFile, answers, run}
@@ -15,25 +15,25 @@ use Rattle.reader.specs.Reading.{readOf, askedOf, lookupOf, partOf}
 
 pub data Row : Type 0 where
   -- a file and what the reader answers
-  reads : List ℕ → Reading → Row
+  reads : (profile : ℕ) → List ℕ → Reading → Row
   -- a file, an entry's place and the answer
-  asks : List ℕ → ℕ → Asked → Row
+  asks : (profile : ℕ) → List ℕ → ℕ → Asked → Row
   -- a file, a usage and number, the lookup's answer and the part it names
-  looks : List ℕ → ℕ → ℕ → Looked → List ℕ → Row
+  looks : (profile : ℕ) → List ℕ → ℕ → ℕ → Looked → List ℕ → Row
   -- a file, an edit, the file after it and its journal record; both buffers have 100 bytes
-  edits : List ℕ → Edit → List ℕ → List ℕ → Row
+  edits : (profile : ℕ) → List ℕ → Edit → List ℕ → List ℕ → Row
   -- a file, the journal's used bytes and the file after an undo; both buffers have 100 bytes
-  undoes : List ℕ → List ℕ → List ℕ → Row
+  undoes : (profile : ℕ) → List ℕ → List ℕ → List ℕ → Row
   -- a buffer, and what it is after a blank file has been made in it
   blanks : List ℕ → List ℕ → Row
   -- a state, the calls of a run, their answers, and the state after it
-  runs : State → List Call → List Answer → State → Row
+  runs : (profile : ℕ) → State → List Call → List Answer → State → Row
 
 abbrev pub RowHolds : Row → Type 0
-RowHolds (reads f r) = readOf f ≡ r
-RowHolds (asks f i a) = askedOf f i ≡ a
-RowHolds (looks f u n a p) = (lookupOf f u n ≡ a) × (partOf a f ≡ p)
-RowHolds (edits f e g r) = (editFault plainRules 100 100 f (length f) 0 e ≡ accept) × (editedFile f e ≡ g) × (editRecord f e ≡ r)
-RowHolds (undoes f j g) = (undoFault plainRules 100 100 f (length f) (length j) j ≡ accept) × (undoneFile f j ≡ g)
+RowHolds (reads p f r) = readOf p f ≡ r
+RowHolds (asks p f i a) = askedOf p f i ≡ a
+RowHolds (looks p f u n a d) = (lookupOf p f u n ≡ a) × (partOf a f ≡ d)
+RowHolds (edits p f e g r) = (editFault (rulesOf p) 100 100 f (length f) 0 e ≡ accept) × (editedFile f e ≡ g) × (editRecord f e ≡ r)
+RowHolds (undoes p f j g) = (undoFault (rulesOf p) 100 100 f (length f) (length j) j ≡ accept) × (undoneFile f j ≡ g)
 RowHolds (blanks b c) = blanked b ≡ c
-RowHolds (runs s cs ans t) = (answers plainRules s cs ≡ ans) × (run plainRules s cs ≡ t)
+RowHolds (runs p s cs ans t) = (answers (rulesOf p) s cs ≡ ans) × (run (rulesOf p) s cs ≡ t)

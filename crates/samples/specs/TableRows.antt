@@ -13,10 +13,10 @@ use Rattle.table.specs.declared.Checked.{Checked}
 use Rattle.table.specs.declared.Searched.{Searched}
 
 pub data TableRow : Type 0 where
-  -- a file, a slice, the answer of building its table there, and the slice afterwards
-  builtFor : List ℕ → List ℕ → Built → List ℕ → TableRow
-  -- a file, a slice, and what the check answers
-  checkedFor : List ℕ → List ℕ → Checked → TableRow
+  -- a profile, a file, a slice, the answer of building its table there, and the slice afterwards
+  builtFor : (profile : ℕ) → List ℕ → List ℕ → Built → List ℕ → TableRow
+  -- a profile, a file, a slice, and what the check answers
+  checkedFor : (profile : ℕ) → List ℕ → List ℕ → Checked → TableRow
   -- a slice, a file's entries in index order, and the slice after its table is built there
   builds : List ℕ → List Entry → List ℕ → TableRow
   -- a slice, a file's entries, and what the check of an accepted file answers
@@ -25,8 +25,8 @@ pub data TableRow : Type 0 where
   searches : List ℕ → ℕ → ℕ → Searched → TableRow
 
 abbrev pub TableRowHolds : TableRow → Type 0
-TableRowHolds (builtFor f t answer after) = (buildOf f (length t) ≡ answer) × (written answer (flat (tableOf f)) t ≡ after)
-TableRowHolds (checkedFor f t answer) = checkOf f (rowsOf t) (length t) ≡ answer
+TableRowHolds (builtFor p f t answer after) = (buildOf p f (length t) ≡ answer) × (written answer (flat (tableOf f)) t ≡ after)
+TableRowHolds (checkedFor p f t answer) = checkOf p f (rowsOf t) (length t) ≡ answer
 TableRowHolds (builds t es after) = written (built.Rows (length es)) (flat (sorted es)) t ≡ after
 TableRowHolds (checks t es answer) = compared (rowsOf t) (length t) (sorted es) ≡ answer
 TableRowHolds (searches t u n answer) = searchOf (rowsOf t) u n ≡ answer

@@ -12,7 +12,7 @@ use Rattle.blorb.specs.Bytes.{Byte}
 use Rattle.blorb.specs.All.{All}
 use Rattle.blorb.specs.Format.{Entry, Ref, Chunk, size}
 use Rattle.blorb.specs.Verdict.{Verdict, accept, refuse, verdict}
-use Rattle.blorb.specs.Rules.{plainRules, plainVerdict}
+use Rattle.blorb.specs.Rules.{rulesOf, profileVerdict}
 use Rattle.blorb.specs.Model.{Model, file, model}
 use Rattle.blorb.specs.Queries.{find, refAt, chunkAt, shared, start, noRef}
 use Rattle.blorb.specs.Sound.{W, RefOk, Sound}
@@ -20,6 +20,7 @@ use Rattle.blorb.proofs.AllLaws.{all-getD, all-take}
 use Rattle.blorb.proofs.Checks.{then-accept, check-accept, and-both}
 use Rattle.blorb.proofs.ModelLaws.{entries, model-file}
 use Rattle.blorb.proofs.Accept.{accept-short}
+use Rattle.blorb.proofs.Profiles.{profile-accept, profile-known}
 use Rattle.reader.specs.Reading.{indexOf}
 use Rattle.reader.proofs.Promises.{index-is}
 use Rattle.rows.specs.Rows.{rowsOf}
@@ -51,10 +52,9 @@ pub record Exactly (P : Type 0) (f g : List ℕ) : Type 0 where
 
 -- ---- an accepted file f, and an accepted file made of a sound model
 
-module _ (f : List ℕ) (fine : plainVerdict f ≡ accept) (new : Model) (s : Sound new) (fine2 : plainVerdict (file new) ≡ accept) where
+module _ (profile : ℕ) (f : List ℕ) (fine : profileVerdict profile f ≡ accept) (new : Model) (s : Sound new) (fine2 : profileVerdict profile (file new) ≡ accept) where
   index-new : indexOf (file new) ≡ entries new
-  unfolding plainVerdict
-  index-new = index-is (file new) fine2 ∙ ap entries (model-file new s (omega (arith, accept-short plainRules (file new) fine2)))
+  index-new = index-is profile (file new) fine2 ∙ ap entries (model-file new s (omega (arith, accept-short (rulesOf profile) (file new) (profile-accept profile (file new) fine2 .1))))
 
   -- another number of entries
   pub other-count : (length (new .refs) ≡ length (model f .refs) → ⊥) → Exactly ⊥ f (file new)
@@ -62,31 +62,30 @@ module _ (f : List ℕ) (fine : plainVerdict f ≡ accept) (new : Model) (s : So
       record {
         same-if = λ x. absurd x;
         only-if = λ same.
-            (let e = same-count (indexOf f) (indexOf (file new)) (pairs-once f fine) (pairs-once (file new) fine2) same in
-            let a : length (indexOf f) ≡ length (model f .refs) = ap length (index-is f fine) ∙ length-map (model f .refs) _ in
+            (let e = same-count (indexOf f) (indexOf (file new)) (pairs-once profile f fine) (pairs-once profile (file new) fine2) same in
+            let a : length (indexOf f) ≡ length (model f .refs) = ap length (index-is profile f fine) ∙ length-map (model f .refs) _ in
             let b : length (indexOf (file new)) ≡ length (new .refs) = ap length index-new ∙ length-map (new .refs) _ in
             d (sym b ∙ sym e ∙ a));
       }
 
 -- chunk k replaced
-module _ (f : List ℕ) (fine : plainVerdict f ≡ accept) (k : ℕ) (c : Chunk) (l : k < length (model f .chunks)) (s : Sound (replaced (model f) k c))
-    (fine2 : plainVerdict (file (replaced (model f) k c)) ≡ accept) where
+module _ (profile : ℕ) (f : List ℕ) (fine : profileVerdict profile f ≡ accept) (k : ℕ) (c : Chunk) (l : k < length (model f .chunks)) (s : Sound (replaced (model f) k c))
+    (fine2 : profileVerdict profile (file (replaced (model f) k c)) ≡ accept) where
   index-moved : indexOf (file (replaced (model f) k c)) ≡ map (moved (behind (start (model f) k) (size (chunkAt (model f) k)) (size c))) (indexOf f)
-  index-moved = index-new f fine (replaced (model f) k c) s fine2 ∙ starts-replaced (model f) k c l ∙ rw (index-is f fine)
+  index-moved = index-new profile f fine (replaced (model f) k c) s fine2 ∙ starts-replaced (model f) k c l ∙ rw (index-is profile f fine)
 
   pub replaced-exactly : Exactly (MovesNone f k c) f (file (replaced (model f) k c))
   replaced-exactly =
       record {
         same-if = λ h. rw index-moved (unmoved-same (indexOf f) (start (model f) k) (size (chunkAt (model f) k)) (size c) h);
-        only-if = λ same. same-unmoved (indexOf f) (start (model f) k) (size (chunkAt (model f) k)) (size c) (pairs-once f fine) (rw index-moved at same);
+        only-if = λ same. same-unmoved (indexOf f) (start (model f) k) (size (chunkAt (model f) k)) (size c) (pairs-once profile f fine) (rw index-moved at same);
       }
 
 -- ---- an edit
 
-module _ (f : List ℕ) (bytes : All Byte f) (fine : plainVerdict f ≡ accept) where
-  facts : AcceptedFile f
-  unfolding plainVerdict
-  facts = accepted-facts f bytes fine
+module _ (profile : ℕ) (f : List ℕ) (bytes : All Byte f) (fine : profileVerdict profile f ≡ accept) where
+  facts : AcceptedFile profile f
+  facts = accepted-facts profile f bytes (profile-accept profile f fine .1)
 
   chunk-in : (i : ℕ) → i < length (model f .refs) → refAt (model f) i .chunk < length (model f .chunks)
   chunk-in i l = all-getD (RefOk (length (model f .chunks))) (model f .refs) i noRef (facts .sound .refs-ok) l .chunk-there
@@ -99,18 +98,18 @@ module _ (f : List ℕ) (bytes : All Byte f) (fine : plainVerdict f ≡ accept) 
       go true e = omega (arith, length-without i (model f .refs) l)
       go false e = omega (arith, length-remaining (model f) i (refAt (model f) i .chunk) l)
 
-  pub edit-exactly : (e : Edit) → ArgsOk e → Applies (model f) e → plainVerdict (editedFile f e) ≡ accept → Exactly (EditLeaves f e) f (editedFile f e)
+  pub edit-exactly : (e : Edit) → ArgsOk e → Applies (model f) e → profileVerdict profile (editedFile f e) ≡ accept → Exactly (EditLeaves f e) f (editedFile f e)
   unfolding editedFile edited added
   edit-exactly (add u n t d) a p fine2 =
-      other-count f fine (edited (model f) (add u n t d)) (edit-sound (model f) (add u n t d) (facts .sound) a p) fine2
+      other-count profile f fine (edited (model f) (add u n t d)) (edit-sound (model f) (add u n t d) (facts .sound) a p) fine2
       (λ e. let w : length (model f .refs ++ (record { usage = u; number = n; chunk = length (model f .chunks) } ∷ [])) ≡ suc (length (model f .refs)) =
       simp length-append (omega arith) in
       omega arith)
   edit-exactly (replace u n t d) a p fine2 =
-      replaced-exactly f fine (refAt (model f) (find u n (model f .refs)) .chunk) (givenChunk t d) (chunk-in (find u n (model f .refs)) (p .0))
+      replaced-exactly profile f fine (refAt (model f) (find u n (model f .refs)) .chunk) (givenChunk t d) (chunk-in (find u n (model f .refs)) (p .0))
       (edit-sound (model f) (replace u n t d) (facts .sound) a p) fine2
   edit-exactly (remove u n) a p fine2 =
-      other-count f fine (edited (model f) (remove u n)) (edit-sound (model f) (remove u n) (facts .sound) a p) fine2 (removed-fewer (find u n (model f
+      other-count profile f fine (edited (model f) (remove u n)) (edit-sound (model f) (remove u n) (facts .sound) a p) fine2 (removed-fewer (find u n (model f
       .refs)) p)
 
   -- ---- an undo, by the record's kind
@@ -122,7 +121,7 @@ module _ (f : List ℕ) (bytes : All Byte f) (fine : plainVerdict f ≡ accept) 
         let w : length (take (length (model f .refs) - 1) (model f .refs)) ≡ length (model f .refs) - 1 = simp length-take (omega arith) in
         omega arith
 
-    pub undo-exactly : fits r (model f) ≡ true → plainVerdict (file (undone r (model f))) ≡ accept → Exactly (UndoLeaves f r) f (file (undone r (model f)))
+    pub undo-exactly : fits r (model f) ≡ true → profileVerdict profile (file (undone r (model f))) ≡ accept → Exactly (UndoLeaves f r) f (file (undone r (model f)))
     unfolding fits undone undo1 undo2 undo3 undo4 inserted entered
     undo-exactly = go (eqb (r .kind) 1) (eqb (r .kind) 2) (eqb (r .kind) 3)
       where
@@ -133,81 +132,85 @@ module _ (f : List ℕ) (bytes : All Byte f) (fine : plainVerdict f ≡ accept) 
         entry r m = record { usage = r .usage; number = r .number; chunk = oldPlace r m }
 
         go : (a b c : Bool) → cond a (fits1 r m) (cond b (fits2 r m) (cond c (fits3 r m) (fits4 r m))) ≡ true
-            → plainVerdict (file (cond a (undo1 m) (cond b (undo2 r m) (cond c (undo3 r m) (undo4 r m))))) ≡ accept
+            → profileVerdict profile (file (cond a (undo1 m) (cond b (undo2 r m) (cond c (undo3 r m) (undo4 r m))))) ≡ accept
             → Exactly (cond a ⊥ (cond b (MovesNone f (refAt m (r .place) .chunk) (oldChunk r)) (cond c ⊥ ⊥))) f
             (file (cond a (undo1 m) (cond b (undo2 r m) (cond c (undo3 r m) (undo4 r m)))))
-        go true b c fit fine2 = other-count f fine (undo1 m) (sound1 r m (facts .sound) (facts .judged) fit) fine2 (λ e. take-less e fit)
+        go true b c fit fine2 = other-count profile f fine (undo1 m) (sound1 profile r m (facts .sound) (facts .judged) fit) fine2 (λ e. take-less e fit)
         go false true c fit fine2 =
             let p = fits2-facts r m fit in
-            replaced-exactly f fine (refAt m (r .place) .chunk) (oldChunk r) (chunk-in (r .place) (p .inside)) (sound2 r m (facts .sound) (facts .judged)
+            replaced-exactly profile f fine (refAt m (r .place) .chunk) (oldChunk r) (chunk-in (r .place) (p .inside)) (sound2 profile r m (facts .sound) (facts .judged)
             ht) fine2
         go false false true fit fine2 =
-            other-count f fine (undo3 r m) (sound3 r m (facts .sound) (facts .judged) hu hn ht) fine2
+            other-count profile f fine (undo3 r m) (sound3 profile r m (facts .sound) (facts .judged) hu hn ht) fine2
             (λ e. omega (arith, length-with (r .place) (entry r m) (map (raise (oldPlace r m)) (m .refs)), length-map (m .refs) (raise (oldPlace r m))))
         go false false false fit fine2 =
-            other-count f fine (undo4 r m) (sound4 r m (facts .sound) (facts .judged) hu hn fit) fine2
+            other-count profile f fine (undo4 r m) (sound4 profile r m (facts .sound) (facts .judged) hu hn fit) fine2
             (λ e. omega (arith, length-with (r .place) (entry r m) (m .refs)))
 
 -- ---- a call on the lent buffers
 
-caught : (P : Type 0) (f g t : List ℕ) → plainVerdict g ≡ accept → checkOf f (rowsOf t) (length t) ≡ checked.Accepted → Exactly P f g → Caught P f g t
-caught P f g t fine good x =
+caught : (profile : ℕ) (P : Type 0) (f g t : List ℕ) → profileVerdict profile g ≡ accept → checkOf profile f (rowsOf t) (length t) ≡ checked.Accepted → Exactly P f g → Caught profile P f g t
+caught profile P f g t fine good x =
     record {
-      stays-good = λ p. same-accepted f g t fine good (x .same-if p);
-      good-only = λ a. x .only-if (accepted-same f g t fine good a);
-      else-35 = λ no. stale-refused f g t fine good (λ same. no (x .only-if same));
+      stays-good = λ p. same-accepted profile f g t fine good (x .same-if p);
+      good-only = λ a. x .only-if (accepted-same profile f g t fine good a);
+      else-35 = λ no. stale-refused profile f g t fine good (λ same. no (x .only-if same));
     }
 
 accepted-is : (v : Verdict) → accepted v ≡ true → v ≡ accept
 accepted-is accept h = refl
 accepted-is (refuse k p) h = cc
 
--- a successful call: an add, a replacement, a removal or an undo, in any state of the buffers
-pub call-caught : (s : State) (c : Call) (t : List ℕ) → All Byte (s .buffer) → All Byte (s .journal) → CallOk c → fault plainRules s c ≡ accept
-    → checkOf (fileIn s) (rowsOf t) (length t) ≡ checked.Accepted → Caught (Leaves s c) (fileIn s) (fileIn (step plainRules s c)) t
-unfolding step after afterEdit afterUndo fault editFault undoFault undoneFile plainVerdict
-call-caught s (edit e) t bytes bytesj args h good =
+-- a successful call under a profile: an add, a replacement, a removal or an undo, in any state of the buffers
+pub call-caught : (profile : ℕ) (s : State) (c : Call) (t : List ℕ) → All Byte (s .buffer) → All Byte (s .journal) → CallOk c → fault (rulesOf profile) s c ≡ accept
+    → checkOf profile (fileIn s) (rowsOf t) (length t) ≡ checked.Accepted → Caught profile (Leaves s c) (fileIn s) (fileIn (step (rulesOf profile) s c)) t
+unfolding step after afterEdit afterUndo fault editFault undoFault undoneFile
+call-caught profile s (edit e) t bytes bytesj args h good =
     let f : List ℕ = fileIn s in
-    let h2 = then-accept _ _ (then-accept _ _ h .1) in
+    let h0 = then-accept _ _ h in
+    let read : (g : List ℕ) → verdict (rulesOf profile) g ≡ accept → profileVerdict profile g ≡ accept = λ g v. profile-known profile g (check-accept _ _ _ (h0 .0)) ∙ v in
+    let h2 = then-accept _ _ (then-accept _ _ (h0 .1) .1) in
     let h3 = then-accept _ _ (h2 .1) in
-    let x = facts f (all-take Byte (s .L) (s .buffer) bytes) (h2 .0) in
-    let old : Good plainRules f = record { fine = h2 .0; whole = x .whole; sound = x .sound; short = accept-short plainRules f (h2 .0) } in
-    let fine2 : verdict plainRules (editedFile f e) ≡ accept = made plainRules (length (s .buffer)) (length (s .journal)) f (s .L) (s .U) e old args
-    h .good .fine in
-    let q : fileIn (step plainRules s (edit e)) ≡ editedFile f e = rw h (take-written (s .buffer) (s .L) (editedFile f e)) in
-    rw q (caught (EditLeaves f e) f (editedFile f e) t fine2 good
-    (edit-exactly f (all-take Byte (s .L) (s .buffer) bytes) (h2 .0) e args (target-applies (model f) e (h3 .0)) fine2))
-call-caught s undo t bytes bytesj args h good =
+    let x = accepted-facts profile f (all-take Byte (s .L) (s .buffer) bytes) (h2 .0) in
+    let old : Good (rulesOf profile) f = record { fine = h2 .0; whole = x .whole; sound = x .sound; short = accept-short (rulesOf profile) f (h2 .0) } in
+    let fine2 : verdict (rulesOf profile) (editedFile f e) ≡ accept = made (rulesOf profile) (length (s .buffer)) (length (s .journal)) f (s .L) (s .U) e old args
+    (h0 .1) .good .fine in
+    let q : fileIn (step (rulesOf profile) s (edit e)) ≡ editedFile f e = rw h (take-written (s .buffer) (s .L) (editedFile f e)) in
+    rw q (caught profile (EditLeaves f e) f (editedFile f e) t (read _ fine2) good
+    (edit-exactly profile f (all-take Byte (s .L) (s .buffer) bytes) (read f (h2 .0)) e args (target-applies (model f) e (h3 .0)) (read _ fine2)))
+call-caught profile s undo t bytes bytesj args h good =
     let f : List ℕ = fileIn s in
     let j : List ℕ = take (s .U) (s .journal) in
-    let h2 = then-accept _ _ (then-accept _ _ h .1) in
+    let h0 = then-accept _ _ h in
+    let read : (g : List ℕ) → verdict (rulesOf profile) g ≡ accept → profileVerdict profile g ≡ accept = λ g v. profile-known profile g (check-accept _ _ _ (h0 .0)) ∙ v in
+    let h2 = then-accept _ _ (then-accept _ _ (h0 .1) .1) in
     let h4 = then-accept _ _ (then-accept _ _ (h2 .1) .1) in
-    let p = and-both (wellFormed j && fits (lastRec j) (model f)) (accepted (verdict plainRules (undoneFile f j))) (check-accept _ _ _ (h4 .0)) in
+    let p = and-both (wellFormed j && fits (lastRec j) (model f)) (accepted (verdict (rulesOf profile) (undoneFile f j))) (check-accept _ _ _ (h4 .0)) in
     let fit = and-both (wellFormed j) (fits (lastRec j) (model f)) (p .0) .1 in
-    let fine2 : verdict plainRules (undoneFile f j) ≡ accept = accepted-is _ (p .1) in
+    let fine2 : verdict (rulesOf profile) (undoneFile f j) ≡ accept = accepted-is _ (p .1) in
     let w = last-small j (all-take Byte (s .U) (s .journal) bytesj) in
-    let q : fileIn (step plainRules s undo) ≡ undoneFile f j = rw h (take-written (s .buffer) (s .L) (undoneFile f j)) in
-    rw q (caught (UndoLeaves f (lastRec j)) f (undoneFile f j) t fine2 good
-    (undo-exactly f (all-take Byte (s .L) (s .buffer) bytes) (h2 .0) (lastRec j) (w .0) (w .1) (w .2) fit fine2))
+    let q : fileIn (step (rulesOf profile) s undo) ≡ undoneFile f j = rw h (take-written (s .buffer) (s .L) (undoneFile f j)) in
+    rw q (caught profile (UndoLeaves f (lastRec j)) f (undoneFile f j) t (read _ fine2) good
+    (undo-exactly profile f (all-take Byte (s .L) (s .buffer) bytes) (read f (h2 .0)) (lastRec j) (w .0) (w .1) (w .2) fit (read _ fine2)))
 
 -- ---- the calls by themselves
 
 -- t is a good table of the file in the state, and the call succeeds
-module _ (s : State) (t : List ℕ) (bytes : All Byte (s .buffer)) (bytesj : All Byte (s .journal)) (good : checkOf (fileIn s) (rowsOf t) (length t) ≡
+module _ (profile : ℕ) (s : State) (t : List ℕ) (bytes : All Byte (s .buffer)) (bytesj : All Byte (s .journal)) (good : checkOf profile (fileIn s) (rowsOf t) (length t) ≡
     checked.Accepted) where
   -- every add makes it stale
-  pub add-stale : (u n k : ℕ) (d : List ℕ) → ArgsOk (add u n k d) → fault plainRules s (edit (add u n k d)) ≡ accept
-      → checkOf (fileIn (step plainRules s (edit (add u n k d)))) (rowsOf t) (length t)
-      ≡ checked.Refused 35 (agree (tableOf (fileIn s)) (tableOf (fileIn (step plainRules s (edit (add u n k d))))))
-  add-stale u n k d a h = call-caught s (edit (add u n k d)) t bytes bytesj a h good .else-35 (λ x. x)
+  pub add-stale : (u n k : ℕ) (d : List ℕ) → ArgsOk (add u n k d) → fault (rulesOf profile) s (edit (add u n k d)) ≡ accept
+      → checkOf profile (fileIn (step (rulesOf profile) s (edit (add u n k d)))) (rowsOf t) (length t)
+      ≡ checked.Refused 35 (agree (tableOf (fileIn s)) (tableOf (fileIn (step (rulesOf profile) s (edit (add u n k d))))))
+  add-stale u n k d a h = call-caught profile s (edit (add u n k d)) t bytes bytesj a h good .else-35 (λ x. x)
 
   -- and every removal
-  pub remove-stale : (u n : ℕ) → ArgsOk (remove u n) → fault plainRules s (edit (remove u n)) ≡ accept
-      → checkOf (fileIn (step plainRules s (edit (remove u n)))) (rowsOf t) (length t)
-      ≡ checked.Refused 35 (agree (tableOf (fileIn s)) (tableOf (fileIn (step plainRules s (edit (remove u n))))))
-  remove-stale u n a h = call-caught s (edit (remove u n)) t bytes bytesj a h good .else-35 (λ x. x)
+  pub remove-stale : (u n : ℕ) → ArgsOk (remove u n) → fault (rulesOf profile) s (edit (remove u n)) ≡ accept
+      → checkOf profile (fileIn (step (rulesOf profile) s (edit (remove u n)))) (rowsOf t) (length t)
+      ≡ checked.Refused 35 (agree (tableOf (fileIn s)) (tableOf (fileIn (step (rulesOf profile) s (edit (remove u n))))))
+  remove-stale u n a h = call-caught profile s (edit (remove u n)) t bytes bytesj a h good .else-35 (λ x. x)
 
   -- a refused call leaves it good: "A refused call changes nothing."
-  pub refused-good : (c : Call) (k p : ℕ) → fault plainRules s c ≡ refuse k p → checkOf (fileIn (step plainRules s c)) (rowsOf t) (length t) ≡ checked.Accepted
+  pub refused-good : (c : Call) (k p : ℕ) → fault (rulesOf profile) s c ≡ refuse k p → checkOf profile (fileIn (step (rulesOf profile) s c)) (rowsOf t) (length t) ≡ checked.Accepted
   unfolding step
   refused-good c k p h = rw h good

@@ -39,9 +39,9 @@ abbrev pub Leaves : State → Call → Type 0
 Leaves s (edit e) = EditLeaves (fileIn s) e
 Leaves s undo = UndoLeaves (fileIn s) (lastRec (take (s .U) (s .journal)))
 
--- what becomes of the table t of the file f when f becomes g: it is good exactly if P, else refused with 35 at the first row in which the two files'
+-- what becomes under a profile of the table t of the file f when f becomes g: it is good exactly if P, else refused with 35 at the first row in which the two files'
 -- tables differ, or the smaller row count where one is the other's beginning
-pub record Caught (P : Type 0) (f g t : List ℕ) : Type 0 where
-  pub stays-good : P → checkOf g (rowsOf t) (length t) ≡ checked.Accepted
-  pub good-only : checkOf g (rowsOf t) (length t) ≡ checked.Accepted → P
-  pub else-35 : (P → ⊥) → checkOf g (rowsOf t) (length t) ≡ checked.Refused 35 (agree (tableOf f) (tableOf g))
+pub record Caught (profile : ℕ) (P : Type 0) (f g t : List ℕ) : Type 0 where
+  pub stays-good : P → checkOf profile g (rowsOf t) (length t) ≡ checked.Accepted
+  pub good-only : checkOf profile g (rowsOf t) (length t) ≡ checked.Accepted → P
+  pub else-35 : (P → ⊥) → checkOf profile g (rowsOf t) (length t) ≡ checked.Refused 35 (agree (tableOf f) (tableOf g))

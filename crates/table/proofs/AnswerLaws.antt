@@ -81,53 +81,53 @@ module _ (f t : List ℕ) (count rows step gap i : ℕ) (once : NoTwice (entries
       = rw (length-listed (rowIn t step gap) rows, length-sorted f count) (q ∙ m) in
       sym q ∙ agree-all (rowsBy t rows step gap) (sorted (entriesIn count (drop 24 f))) i p a
 
-pub check-refused : (f : List ℕ) (k p : ℕ) (rows : List Entry) (size : ℕ) → readOf f ≡ Refused k p → checked.Refused k p ≡ checkOf f rows size
+pub check-refused : (profile : ℕ) (f : List ℕ) (k p : ℕ) (rows : List Entry) (size : ℕ) → readOf profile f ≡ Refused k p → checked.Refused k p ≡ checkOf profile f rows size
 unfolding checkOf
-check-refused f k p rows size e = rw e
+check-refused profile f k p rows size e = rw e
 
-module _ (f : List ℕ) (l count : ℕ) (e : readOf f ≡ Accepted l count) where
+module _ (profile : ℕ) (f : List ℕ) (l count : ℕ) (e : readOf profile f ≡ Accepted l count) where
   pub table-is : tableOf f ≡ sorted (entriesIn count (drop 24 f))
   unfolding tableOf
-  table-is = ap sorted (indexed f l count e .index)
+  table-is = ap sorted (indexed profile f l count e .index)
 
   pub table-count : length (tableOf f) ≡ count
   table-count = ap length table-is ∙ length-sorted f count
 
   pub check-last : (rows : List Entry) (size p : ℕ) → p ≡ agree rows (sorted (entriesIn count (drop 24 f))) → acceptIf
-      (eqb size (3 * count) && eqb p count) p ≡ checkOf f rows size
+      (eqb size (3 * count) && eqb p count) p ≡ checkOf profile f rows size
   unfolding checkOf
   check-last rows size p w = rw (e, table-is, length-sorted f count, ← w)
 
   pub check-yes : (rows : List Entry) (size p : ℕ) → p ≡ agree rows (sorted (entriesIn count (drop 24 f))) → eqb size (3 * count) && eqb p count ≡ true
-      → checked.Accepted ≡ checkOf f rows size
+      → checked.Accepted ≡ checkOf profile f rows size
   check-yes rows size p w y = rw y at (check-last rows size p w)
 
   pub check-no : (rows : List Entry) (size p : ℕ) → p ≡ agree rows (sorted (entriesIn count (drop 24 f))) → eqb size (3 * count) && eqb p count ≡ false
-      → checked.Refused 35 p ≡ checkOf f rows size
+      → checked.Refused 35 p ≡ checkOf profile f rows size
   check-no rows size p w y = rw y at (check-last rows size p w)
 
-  pub check-quick : (rows : List Entry) (size : ℕ) → size ≡ 3 * count → rows ≡ sorted (entriesIn count (drop 24 f)) → checked.Accepted ≡ checkOf f rows size
+  pub check-quick : (rows : List Entry) (size : ℕ) → size ≡ 3 * count → rows ≡ sorted (entriesIn count (drop 24 f)) → checked.Accepted ≡ checkOf profile f rows size
   check-quick rows size s w =
       let a : agree rows (sorted (entriesIn count (drop 24 f))) ≡ count = rw w (agree-self (sorted (entriesIn count (drop 24 f))) ∙ length-sorted f count) in
       check-yes rows size (agree rows (sorted (entriesIn count (drop 24 f)))) refl (rw (a, eq-eqb size (3 * count) s, eq-eqb count count refl))
 
 -- ---- building
 
-pub build-refused : (f : List ℕ) (k p size : ℕ) → readOf f ≡ Refused k p → built.Refused k p ≡ buildOf f size
+pub build-refused : (profile : ℕ) (f : List ℕ) (k p size : ℕ) → readOf profile f ≡ Refused k p → built.Refused k p ≡ buildOf profile f size
 unfolding buildOf
-build-refused f k p size e = rw e
+build-refused profile f k p size e = rw e
 
-module _ (f : List ℕ) (l count size : ℕ) (e : readOf f ≡ Accepted l count) where
-  pub build-short : size < 3 * count → built.Refused 34 0 ≡ buildOf f size
+module _ (profile : ℕ) (f : List ℕ) (l count size : ℕ) (e : readOf profile f ≡ Accepted l count) where
+  pub build-short : size < 3 * count → built.Refused 34 0 ≡ buildOf profile f size
   unfolding buildOf
   build-short h = rw (e, lt-leb (3 * count) size h)
 
-  pub build-rows : 3 * count ≤ size → built.Rows count ≡ buildOf f size
+  pub build-rows : 3 * count ≤ size → built.Rows count ≡ buildOf profile f size
   unfolding buildOf
   build-rows h = rw (e, le-leb (3 * count) size h)
 
   pub build-numbers : (t d : List ℕ) → d ≡ flat (sorted (entriesIn count (drop 24 f))) ++ drop (3 * count) t → d ≡ written (built.Rows count)
       (flat (tableOf f)) t
   build-numbers t d h =
-      let q : length (flat (tableOf f)) ≡ 3 * count = length-flat (tableOf f) ∙ ap (λ (k : ℕ). 3 * k) (table-count f l count e) in
-      rw (q, table-is f l count e) h
+      let q : length (flat (tableOf f)) ≡ 3 * count = length-flat (tableOf f) ∙ ap (λ (k : ℕ). 3 * k) (table-count profile f l count e) in
+      rw (q, table-is profile f l count e) h

@@ -7,7 +7,7 @@ use lib.ListN.{length, drop}
 use lib.Dec.{eqb}
 use Rattle.blorb.specs.Format.{Entry, Ref, refOf, entriesIn}
 use Rattle.blorb.specs.Verdict.{Rules, accept, entriesFault, pairIn}
-use Rattle.blorb.specs.Rules.{plainVerdict}
+use Rattle.blorb.specs.Rules.{profileVerdict}
 use Rattle.blorb.specs.All.{All}
 use Rattle.chunks.specs.Walk.{walkFrom, chunksFrom}
 use Rattle.reader.specs.Entries.{place}
@@ -50,17 +50,17 @@ module _ (R : Rules) (f : List ℕ) (base : ℕ) (w : walkFrom f base ≡ accept
       ((a .1, s .0), (s .1, rest .1))
 
 -- the index of a file that the reader accepts with n entries
-pub record Indexed (f : List ℕ) (n : ℕ) : Type 0 where
-  pub verdict : plainVerdict f ≡ accept
+pub record Indexed (profile : ℕ) (f : List ℕ) (n : ℕ) : Type 0 where
+  pub verdict : profileVerdict profile f ≡ accept
   pub few : n ≤ 4096
   pub room : place n ≤ length f
   pub index : indexOf f ≡ entriesIn n (drop 24 f)
   pub many : length (indexOf f) ≡ n
   pub once : NoTwice (entriesIn n (drop 24 f))
 
-pub indexed : (f : List ℕ) (l n : ℕ) → readOf f ≡ Accepted l n → Indexed f n
-indexed f l n e =
-    let g : Good f n = accepted f l n e in
+pub indexed : (profile : ℕ) (f : List ℕ) (l n : ℕ) → readOf profile f ≡ Accepted l n → Indexed profile f n
+indexed profile f l n e =
+    let g : Good profile f n = accepted profile f l n e in
     record {
       verdict = g .verdict;
       few = g .passed .judged .few;

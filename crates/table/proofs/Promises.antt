@@ -16,13 +16,13 @@ use Rattle.table.specs.TableOf.{SameEntries, TableOf}
 use Rattle.rows.proofs.OrderLaws.{before-less, less-irreflexive, pair-true, pair-not, same-entry}
 use lib.Seq.{take-at}
 use Rattle.blorb.specs.Verdict.{accept}
-use Rattle.blorb.specs.Rules.{plainVerdict}
+use Rattle.blorb.specs.Rules.{profileVerdict}
 use Rattle.blorb.proofs.Checks.{and-both}
 use Rattle.reader.specs.Reading.{indexOf, readOf, hitIn, lookupOf}
 use Rattle.reader.specs.declared.Reading.{Reading}
 use Rattle.reader.specs.declared.Reading.the-variants.{Accepted, Refused}
 use Rattle.reader.specs.declared.entries.Hit.the-variants.{Nothing}
-use Rattle.reader.proofs.Promises.{accepted-when, lookup-found}
+use Rattle.reader.proofs.Promises.{accepted-when, lookup-found, plain-answers, unknown-answers}
 use Rattle.rows.specs.Rows.{rowsOf, flat}
 use Rattle.rows.specs.Bridging.{NoTwice}
 use Rattle.table.specs.declared.Found.the-variants as found
@@ -51,8 +51,8 @@ pub probes-none : (t : List ℕ) (u n : ℕ) → length t < 3 → searchOf (rows
 probes-none t u n l = omega (arith, probes-log t u n 0 (omega arith))
 
 -- the index of an accepted file has no pair twice
-pub pairs-once : (f : List ℕ) → plainVerdict f ≡ accept → NoTwice (indexOf f)
-pairs-once f h = let i = indexed f _ _ (accepted-when f h) in rw (i .index) (i .once)
+pub pairs-once : (profile : ℕ) (f : List ℕ) → profileVerdict profile f ≡ accept → NoTwice (indexOf f)
+pairs-once profile f h = let i = indexed profile f _ _ (accepted-when profile f h) in rw (i .index) (i .once)
 
 -- ---- a table is accepted exactly when it holds the file's entries, each once, in order, and nothing more
 
@@ -60,93 +60,93 @@ yes : (b : Bool) (p : ℕ) → acceptIf b p ≡ checked.Accepted → b ≡ true
 yes true p h = refl
 yes false p h = let z : _≡_ {A = ℕ} 0 1 = cc in absurd (omega arith)
 
-accepted-by : (r : Reading) (f : List ℕ) (rows : List Entry) (size : ℕ) → readOf f ≡ r → checkBy r rows size (tableOf f) ≡ checked.Accepted
-    → (l : ℕ) × (n : ℕ) × (readOf f ≡ Accepted l n) × (eqb size (3 * length (tableOf f)) && eqb (agree rows (tableOf f)) (length (tableOf f)) ≡ true)
-accepted-by (Accepted l n) f rows size e h = (l, n, e, yes _ _ h)
-accepted-by (Refused k p) f rows size e h = let z : _≡_ {A = ℕ} 0 1 = cc in absurd (omega arith)
+accepted-by : (profile : ℕ) (r : Reading) (f : List ℕ) (rows : List Entry) (size : ℕ) → readOf profile f ≡ r → checkBy r rows size (tableOf f) ≡ checked.Accepted
+    → (l : ℕ) × (n : ℕ) × (readOf profile f ≡ Accepted l n) × (eqb size (3 * length (tableOf f)) && eqb (agree rows (tableOf f)) (length (tableOf f)) ≡ true)
+accepted-by profile (Accepted l n) f rows size e h = (l, n, e, yes _ _ h)
+accepted-by profile (Refused k p) f rows size e h = let z : _≡_ {A = ℕ} 0 1 = cc in absurd (omega arith)
 
 -- sorting changes no entry
 sorted-same : (es : List Entry) → SameEntries (sorted es) es
 sorted-same es = (λ x k. perm-mem (sorted-perm es) k, λ x k. perm-mem (Permᴰ·symm (sorted-perm es)) k)
 
-module _ (f : List ℕ) (rows : List Entry) (size : ℕ) (hl : length rows ≡ size / 3) where
-  accepted-rows : checkOf f rows size ≡ checked.Accepted → (plainVerdict f ≡ accept) × (rows ≡ tableOf f) × (size ≡ 3 * length rows)
+module _ (profile : ℕ) (f : List ℕ) (rows : List Entry) (size : ℕ) (hl : length rows ≡ size / 3) where
+  accepted-rows : checkOf profile f rows size ≡ checked.Accepted → (profileVerdict profile f ≡ accept) × (rows ≡ tableOf f) × (size ≡ 3 * length rows)
   unfolding checkOf
   accepted-rows h =
-      let a = accepted-by (readOf f) f rows size refl h in
+      let a = accepted-by profile (readOf profile f) f rows size refl h in
       let b = and-both _ _ (a .3) in
       let s : size ≡ 3 * length (tableOf f) = eqb-true _ _ (b .0) in
       let l : length rows ≡ length (tableOf f) = omega arith in
-      (indexed f (a .0) (a .1) (a .2) .verdict, agree-same-rows rows (tableOf f) l (eqb-true _ _ (b .1)), s ∙ ap (λ (k : ℕ). 3 * k) (sym l))
+      (indexed profile f (a .0) (a .1) (a .2) .verdict, agree-same-rows rows (tableOf f) l (eqb-true _ _ (b .1)), s ∙ ap (λ (k : ℕ). 3 * k) (sym l))
 
-  pub accepted-is-table : checkOf f rows size ≡ checked.Accepted → TableOf f rows size
+  pub accepted-is-table : checkOf profile f rows size ≡ checked.Accepted → TableOf profile f rows size
   unfolding tableOf
   accepted-is-table h =
       let a = accepted-rows h in
       record {
         accepts = a .0;
         entries = rw (a .1) (sorted-same (indexOf f));
-        rises = rw (a .1) (sorted-rising (indexOf f) (pairs-once f (a .0)));
+        rises = rw (a .1) (sorted-rising (indexOf f) (pairs-once profile f (a .0)));
         whole = a .2;
       }
 
-  pub table-is-accepted : TableOf f rows size → checkOf f rows size ≡ checked.Accepted
+  pub table-is-accepted : TableOf profile f rows size → checkOf profile f rows size ≡ checked.Accepted
   table-is-accepted t =
-      let e = accepted-when f (t .accepts) in
-      let i = indexed f _ _ e in
+      let e = accepted-when profile f (t .accepts) in
+      let i = indexed profile f _ _ e in
       let s = sorted-same (indexOf f) in
       let w : rows ≡ sorted (indexOf f) =
-      rising-equal rows (sorted (indexOf f)) (t .rises) (sorted-rising (indexOf f) (pairs-once f (t .accepts))) (λ x k. s .1 x (t .entries .0 x k))
+      rising-equal rows (sorted (indexOf f)) (t .rises) (sorted-rising (indexOf f) (pairs-once profile f (t .accepts))) (λ x k. s .1 x (t .entries .0 x k))
       (λ x k. t .entries .1 x (s .0 x k)) in
       let n : length rows ≡ length (indexOf f) = ap length w ∙ perm-length (sorted-perm (indexOf f)) in
-      sym (check-quick f _ _ e rows size (t .whole ∙ ap (λ (k : ℕ). 3 * k) (n ∙ i .many)) (w ∙ ap sorted (i .index)))
+      sym (check-quick profile f _ _ e rows size (t .whole ∙ ap (λ (k : ℕ). 3 * k) (n ∙ i .many)) (w ∙ ap sorted (i .index)))
 
 -- in P2's form: every number of it is the built table's
-pub accepted-numbers : (f t : List ℕ) → checkOf f (rowsOf t) (length t) ≡ checked.Accepted → t ≡ flat (tableOf f)
-accepted-numbers f t h = let a = accepted-rows f (rowsOf t) (length t) (length-rowsOf t) h in sym (flat-rowsOf t (length (rowsOf t)) (a .2)) ∙ ap flat (a .1)
+pub accepted-numbers : (profile : ℕ) (f t : List ℕ) → checkOf profile f (rowsOf t) (length t) ≡ checked.Accepted → t ≡ flat (tableOf f)
+accepted-numbers profile f t h = let a = accepted-rows profile f (rowsOf t) (length t) (length-rowsOf t) h in sym (flat-rowsOf t (length (rowsOf t)) (a .2)) ∙ ap flat (a .1)
 
 -- what is built is accepted: the part of the slice that the rows take
-built-by : (r : Reading) (f : List ℕ) (size n : ℕ) → readOf f ≡ r → buildBy r size ≡ built.Rows n → (l : ℕ) × (readOf f ≡ Accepted l n)
-built-by (Accepted l m) f size n e h = go (leb (3 * m) size) h
+built-by : (profile : ℕ) (r : Reading) (f : List ℕ) (size n : ℕ) → readOf profile f ≡ r → buildBy r size ≡ built.Rows n → (l : ℕ) × (readOf profile f ≡ Accepted l n)
+built-by profile (Accepted l m) f size n e h = go (leb (3 * m) size) h
   where
-    go : (b : Bool) → roomFor b m ≡ built.Rows n → (k : ℕ) × (readOf f ≡ Accepted k n)
+    go : (b : Bool) → roomFor b m ≡ built.Rows n → (k : ℕ) × (readOf profile f ≡ Accepted k n)
     go true w = let q : m ≡ n = cc in (l, e ∙ rw q)
     go false w = let z : _≡_ {A = ℕ} 0 1 = cc in absurd (omega arith)
-built-by (Refused k p) f size n e h = let z : _≡_ {A = ℕ} 0 1 = cc in absurd (omega arith)
+built-by profile (Refused k p) f size n e h = let z : _≡_ {A = ℕ} 0 1 = cc in absurd (omega arith)
 
-pub build-accepted : (f t : List ℕ) (n : ℕ) → buildOf f (length t) ≡ built.Rows n
-    → checkOf f (rowsOf (take (3 * n) (written (built.Rows n) (flat (tableOf f)) t)))
+pub build-accepted : (profile : ℕ) (f t : List ℕ) (n : ℕ) → buildOf profile f (length t) ≡ built.Rows n
+    → checkOf profile f (rowsOf (take (3 * n) (written (built.Rows n) (flat (tableOf f)) t)))
     (length (take (3 * n) (written (built.Rows n) (flat (tableOf f)) t))) ≡ checked.Accepted
 unfolding buildOf
-build-accepted f t n b =
-    let r = built-by (readOf f) f (length t) n refl b in
-    let c = table-count f (r .0) n (r .1) in
+build-accepted profile f t n b =
+    let r = built-by profile (readOf profile f) f (length t) n refl b in
+    let c = table-count profile f (r .0) n (r .1) in
     let q : take (3 * n) (flat (tableOf f) ++ drop (length (flat (tableOf f))) t) ≡ flat (tableOf f) =
     take-at (flat (tableOf f)) (drop (length (flat (tableOf f))) t) (3 * n) (length-flat (tableOf f) ∙ ap (λ (k : ℕ). 3 * k) c) in
     rw (q, rowsOf-flat (tableOf f), length-flat (tableOf f))
-    (sym (check-quick f (r .0) n (r .1) (tableOf f) (3 * length (tableOf f)) (ap (λ (k : ℕ). 3 * k) c) (table-is f (r .0) n (r .1))))
+    (sym (check-quick profile f (r .0) n (r .1) (tableOf f) (3 * length (tableOf f)) (ap (λ (k : ℕ). 3 * k) c) (table-is profile f (r .0) n (r .1))))
 
 -- ---- a stale table is caught
 
 -- the check of an accepted file accepts, or refuses with 35 at the first differing row
-module _ (g : List ℕ) (rows : List Entry) (size : ℕ) (h : plainVerdict g ≡ accept) where
-  check-either : (checkOf g rows size ≡ checked.Accepted) ⊎ (checkOf g rows size ≡ checked.Refused 35 (agree rows (tableOf g)))
+module _ (profile : ℕ) (g : List ℕ) (rows : List Entry) (size : ℕ) (h : profileVerdict profile g ≡ accept) where
+  check-either : (checkOf profile g rows size ≡ checked.Accepted) ⊎ (checkOf profile g rows size ≡ checked.Refused 35 (agree rows (tableOf g)))
   unfolding checkOf
-  check-either = rw (accepted-when g h) (go (eqb size (3 * length (tableOf g)) && eqb (agree rows (tableOf g)) (length (tableOf g))))
+  check-either = rw (accepted-when profile g h) (go (eqb size (3 * length (tableOf g)) && eqb (agree rows (tableOf g)) (length (tableOf g))))
     where
       go : (b : Bool) → (acceptIf b (agree rows (tableOf g)) ≡ checked.Accepted) ⊎
           (acceptIf b (agree rows (tableOf g)) ≡ checked.Refused 35 (agree rows (tableOf g)))
       go true = inl refl
       go false = inr refl
 
--- f and g are accepted, and t is a good table of f: it is one of g exactly when both have the same entries
-module _ (f g t : List ℕ) (hg : plainVerdict g ≡ accept) (good : checkOf f (rowsOf t) (length t) ≡ checked.Accepted) where
-  table-f : TableOf f (rowsOf t) (length t)
-  table-f = accepted-is-table f (rowsOf t) (length t) (length-rowsOf t) good
+-- f and g are accepted under one profile, and t is a good table of f: it is one of g exactly when both have the same entries
+module _ (profile : ℕ) (f g t : List ℕ) (hg : profileVerdict profile g ≡ accept) (good : checkOf profile f (rowsOf t) (length t) ≡ checked.Accepted) where
+  table-f : TableOf profile f (rowsOf t) (length t)
+  table-f = accepted-is-table profile f (rowsOf t) (length t) (length-rowsOf t) good
 
-  pub same-accepted : SameEntries (indexOf f) (indexOf g) → checkOf g (rowsOf t) (length t) ≡ checked.Accepted
+  pub same-accepted : SameEntries (indexOf f) (indexOf g) → checkOf profile g (rowsOf t) (length t) ≡ checked.Accepted
   same-accepted s =
-      table-is-accepted g (rowsOf t) (length t) (length-rowsOf t)
+      table-is-accepted profile g (rowsOf t) (length t) (length-rowsOf t)
       (record {
         accepts = hg;
         entries = (λ x k. s .0 x (table-f .entries .0 x k), λ x k. table-f .entries .1 x (s .1 x k));
@@ -154,17 +154,17 @@ module _ (f g t : List ℕ) (hg : plainVerdict g ≡ accept) (good : checkOf f (
         whole = table-f .whole;
       })
 
-  pub accepted-same : checkOf g (rowsOf t) (length t) ≡ checked.Accepted → SameEntries (indexOf f) (indexOf g)
+  pub accepted-same : checkOf profile g (rowsOf t) (length t) ≡ checked.Accepted → SameEntries (indexOf f) (indexOf g)
   accepted-same a =
-      let u = accepted-is-table g (rowsOf t) (length t) (length-rowsOf t) a in
+      let u = accepted-is-table profile g (rowsOf t) (length t) (length-rowsOf t) a in
       (λ x k. u .entries .0 x (table-f .entries .1 x k), λ x k. table-f .entries .0 x (u .entries .1 x k))
 
   -- else it is refused with 35, at the first row in which the two tables differ
-  pub stale-refused : (SameEntries (indexOf f) (indexOf g) → ⊥) → checkOf g (rowsOf t) (length t) ≡ checked.Refused 35 (agree (tableOf f) (tableOf g))
+  pub stale-refused : (SameEntries (indexOf f) (indexOf g) → ⊥) → checkOf profile g (rowsOf t) (length t) ≡ checked.Refused 35 (agree (tableOf f) (tableOf g))
   stale-refused d =
-      let r : rowsOf t ≡ tableOf f = accepted-rows f (rowsOf t) (length t) (length-rowsOf t) good .1 in
+      let r : rowsOf t ≡ tableOf f = accepted-rows profile f (rowsOf t) (length t) (length-rowsOf t) good .1 in
       ⊎-elim (λ a. absurd (d (accepted-same a))) (λ e. e ∙ ap (λ (rows : List Entry). checked.Refused 35 (agree rows (tableOf g))) r)
-      (check-either g (rowsOf t) (length t) hg)
+      (check-either profile g (rowsOf t) (length t) hg)
 
 -- ---- a search in an accepted table gives the start of the chunk that the lookup finds, or both answer 22
 
@@ -173,8 +173,8 @@ unfolding hitIn
 no-hit u n [] h = refl
 no-hit u n (e ∷ es) h = rw (h e (List·Memᴰ·head refl)) (no-hit u n es (λ x k. h x (List·Memᴰ·tail k)))
 
-module _ (f : List ℕ) (u n : ℕ) (h : plainVerdict f ≡ accept) where
-  search-there : halving (tableOf f) u n .found ≡ true → found.At (rowOf (tableOf f) (halving (tableOf f) u n .row) .start) ≡ startFrom (lookupOf f u n)
+module _ (profile : ℕ) (f : List ℕ) (u n : ℕ) (h : profileVerdict profile f ≡ accept) where
+  search-there : halving (tableOf f) u n .found ≡ true → found.At (rowOf (tableOf f) (halving (tableOf f) u n .row) .start) ≡ startFrom (lookupOf profile f u n)
   unfolding tableOf
   search-there g =
       let r : Entry = rowOf (tableOf f) (halving (tableOf f) u n .row) in
@@ -182,14 +182,14 @@ module _ (f : List ℕ) (u n : ℕ) (h : plainVerdict f ≡ accept) where
       let p = pair-true u n r (a .pair g) in
       let m = mem-at noRow (indexOf f) (perm-mem (sorted-perm (indexOf f)) (at-mem noRow (tableOf f) (halving (tableOf f) u n .row) (a .there g))) in
       let e : getD (indexOf f) (m .0) noRow ≡ record { usage = u; number = n; start = r .start } = m .2 ∙ same-entry _ _ (p .0) (p .1) refl in
-      let k = lookup-found f u n (m .0) (r .start) h (m .1) e .0 in
+      let k = lookup-found profile f u n (m .0) (r .start) h (m .1) e .0 in
       let s : r .start + 8 - 8 ≡ r .start = omega arith in
       rw k (ap found.At (sym s))
 
-  search-nowhere : halving (tableOf f) u n .found ≡ false → found.Refused 22 0 ≡ startFrom (lookupOf f u n)
+  search-nowhere : halving (tableOf f) u n .found ≡ false → found.Refused 22 0 ≡ startFrom (lookupOf profile f u n)
   unfolding tableOf lookupOf
   search-nowhere g =
-      let m = missed (tableOf f) u n (sorted-rising (indexOf f) (pairs-once f h)) in
+      let m = missed (tableOf f) u n (sorted-rising (indexOf f) (pairs-once profile f h)) in
       let none : (x : Entry) → List·Memᴰ x (indexOf f) → isPair u n x ≡ false = λ x k.
       (let i = mem-at noRow (tableOf f) (perm-mem (Permᴰ·symm (sorted-perm (indexOf f))) k) in
       pair-not u n x
@@ -208,17 +208,32 @@ module _ (f : List ℕ) (u n : ℕ) (h : plainVerdict f ≡ accept) where
       apart i l s false e m =
           less-irreflexive u n (before-less u n u n (rw (s .0, s .1) at (m .back g i (ltb-false _ _ e) l)))
 
-  search-table : searchOf (tableOf f) u n .found ≡ startFrom (lookupOf f u n)
+  search-table : searchOf (tableOf f) u n .found ≡ startFrom (lookupOf profile f u n)
   unfolding searchOf
   search-table = go (halving (tableOf f) u n .found) refl
     where
-      go : (b : Bool) → halving (tableOf f) u n .found ≡ b → searchOf (tableOf f) u n .found ≡ startFrom (lookupOf f u n)
+      go : (b : Bool) → halving (tableOf f) u n .found ≡ b → searchOf (tableOf f) u n .found ≡ startFrom (lookupOf profile f u n)
       go true e = rw e (search-there e)
       go false e = rw e (search-nowhere e)
 
-pub accepted-search : (f : List ℕ) (rows : List Entry) (size u n : ℕ) → length rows ≡ size / 3 → checkOf f rows size ≡ checked.Accepted
-    → searchOf rows u n .found ≡ startFrom (lookupOf f u n)
-accepted-search f rows size u n hl h = let a = accepted-rows f rows size hl h in rw (a .1) (search-table f u n (a .0))
+pub accepted-search : (profile : ℕ) (f : List ℕ) (rows : List Entry) (size u n : ℕ) → length rows ≡ size / 3 → checkOf profile f rows size ≡ checked.Accepted
+    → searchOf rows u n .found ≡ startFrom (lookupOf profile f u n)
+accepted-search profile f rows size u n hl h = let a = accepted-rows profile f rows size hl h in rw (a .1) (search-table profile f u n (a .0))
 
-pub table-search : (f t : List ℕ) (u n : ℕ) → checkOf f (rowsOf t) (length t) ≡ checked.Accepted → searchOf (rowsOf t) u n .found ≡ startFrom (lookupOf f u n)
-table-search f t u n h = accepted-search f (rowsOf t) (length t) u n (length-rowsOf t) h
+pub table-search : (profile : ℕ) (f t : List ℕ) (u n : ℕ) → checkOf profile f (rowsOf t) (length t) ≡ checked.Accepted → searchOf (rowsOf t) u n .found ≡ startFrom (lookupOf profile f u n)
+table-search profile f t u n h = accepted-search profile f (rowsOf t) (length t) u n (length-rowsOf t) h
+
+-- ---- under another profile
+
+-- of a file accepted as plain, building and checking answer the same under ADRIFT (02, P12)
+pub plain-tables : (f : List ℕ) → profileVerdict 0 f ≡ accept
+    → ((size : ℕ) → buildOf 1 f size ≡ buildOf 0 f size) × ((rows : List Entry) (size : ℕ) → checkOf 1 f rows size ≡ checkOf 0 f rows size)
+unfolding buildOf checkOf
+plain-tables f h = let r = plain-answers f h .0 in (λ size. rw r, λ rows size. rw r)
+
+-- of an unknown profile both answer 52, before all others, and building leaves the slice as it was
+pub unknown-tables : (profile : ℕ) (f : List ℕ) → 1 < profile
+    → ((size : ℕ) → buildOf profile f size ≡ built.Refused 52 0) × ((rows : List Entry) (size : ℕ) → checkOf profile f rows size ≡ checked.Refused 52 0)
+    × ((t : List ℕ) → written (buildOf profile f (length t)) (flat (tableOf f)) t ≡ t)
+unfolding buildOf checkOf
+unknown-tables profile f h = let r = unknown-answers profile f h .0 in ((λ size. rw r), (λ rows size. rw r), λ t. rw r)

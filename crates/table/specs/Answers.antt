@@ -33,9 +33,9 @@ abbrev pub buildBy : Reading → ℕ → Built
 buildBy (reading.Accepted l n) size = roomFor (leb (3 * n) size) n
 buildBy (reading.Refused k p) size = built.Refused k p
 
--- building in a slice of size numbers: "Refusals, after the reader's own: 34"
-unfoldable pub buildOf : List ℕ → ℕ → Built
-buildOf f size = buildBy (readOf f) size
+-- building in a slice of size numbers, under a profile (02, P12): "Refusals, after the reader's own: 34"
+unfoldable pub buildOf : (profile : ℕ) → List ℕ → ℕ → Built
+buildOf profile f size = buildBy (readOf profile f) size
 
 -- the slice afterwards: these numbers at its front; "Building leaves the slice behind the last row as it was"
 abbrev pub written : Built → List ℕ → List ℕ → List ℕ
@@ -60,9 +60,9 @@ abbrev pub checkBy : Reading → List Entry → ℕ → List Entry → Checked
 checkBy (reading.Accepted l n) rows size right = compared rows size right
 checkBy (reading.Refused k p) rows size right = checked.Refused k p
 
--- the check of a slice of size numbers that holds these rows: "Refusals, after the reader's own: .. 35"
-unfoldable pub checkOf : List ℕ → List Entry → ℕ → Checked
-checkOf f rows size = checkBy (readOf f) rows size (tableOf f)
+-- the check, under a profile, of a slice of size numbers that holds these rows: "Refusals, after the reader's own: .. 35"
+unfoldable pub checkOf : (profile : ℕ) → List ℕ → List Entry → ℕ → Checked
+checkOf profile f rows size = checkBy (readOf profile f) rows size (tableOf f)
 
 abbrev pub foundBy : Bool → ℕ → Found
 foundBy true x = found.At x

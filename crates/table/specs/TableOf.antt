@@ -6,7 +6,7 @@ use mathlib.Core.List.{List, List·Memᴰ}
 use lib.ListN.{length}
 use Rattle.blorb.specs.Format.{Entry}
 use Rattle.blorb.specs.Verdict.{accept}
-use Rattle.blorb.specs.Rules.{plainVerdict}
+use Rattle.blorb.specs.Rules.{profileVerdict}
 use Rattle.reader.specs.Reading.{indexOf}
 use Rattle.rows.specs.Order.{Rising}
 
@@ -14,9 +14,9 @@ use Rattle.rows.specs.Order.{Rising}
 abbrev pub SameEntries : List Entry → List Entry → Type 0
 SameEntries xs ys = ((x : Entry) → List·Memᴰ x xs → List·Memᴰ x ys) × ((x : Entry) → List·Memᴰ x ys → List·Memᴰ x xs)
 
--- the rows of a slice of size numbers are the table of the file f. Rows that rise hold no row twice, so "each once" is in it.
-pub record TableOf (f : List ℕ) (rows : List Entry) (size : ℕ) : Type 0 where
-  pub accepts : plainVerdict f ≡ accept
+-- the rows of a slice of size numbers are the table of the file f, which the profile accepts. Rows that rise hold no row twice, so "each once" is in it.
+pub record TableOf (profile : ℕ) (f : List ℕ) (rows : List Entry) (size : ℕ) : Type 0 where
+  pub accepts : profileVerdict profile f ≡ accept
   -- "that file's entries"
   pub entries : SameEntries rows (indexOf f)
   -- "each once, in that order": each row stands before all that follow it

@@ -266,11 +266,11 @@ fn differing(file: &[u8], count: usize, t: &[u32], rows: usize, step: usize, gap
     most
 }
 
-fn compare(file: &[u8], t: &[u32], rows: usize, step: usize, gap: usize) -> Checked
+fn compare(file: &[u8], profile: u32, t: &[u32], rows: usize, step: usize, gap: usize) -> Checked
     requires { ⌜ Fits (length (now t)) rows step gap × (rows ≡ length (now t) / 3) ⌝ }
-    ensures { λ r. ⌜ r ≡ checkOf (now (file .entry)) (rowsBy (now (t .entry)) rows step gap) (length (now (t .entry))) ⌝ }
+    ensures { λ r. ⌜ r ≡ checkOf profile (now (file .entry)) (rowsBy (now (t .entry)) rows step gap) (length (now (t .entry))) ⌝ }
 {
-    match reader::read(file) {
+    match reader::read(file, profile) {
         Reading::Refused { number, place } => Checked::Refused { number, place },
         Reading::Accepted { length: _, count } => {
             if quick(file, count, t, rows, step, gap) {
@@ -285,11 +285,11 @@ fn compare(file: &[u8], t: &[u32], rows: usize, step: usize, gap: usize) -> Chec
     }
 }
 
-// Whether the slice holds that file's entries, each once, in the order of the rows, and nothing more.
-pub fn check(file: &[u8], table: &[u32]) -> Checked
-    ensures { λ r. ⌜ r ≡ checkOf (now (file .entry)) (rowsOf (now (table .entry))) (length (now (table .entry))) ⌝ }
+// Whether the slice holds the entries of that file of this profile, each once, in the order of the rows, and nothing more.
+pub fn check(file: &[u8], profile: u32, table: &[u32]) -> Checked
+    ensures { λ r. ⌜ r ≡ checkOf profile (now (file .entry)) (rowsOf (now (table .entry))) (length (now (table .entry))) ⌝ }
 {
-    compare(file, table, table.len() / 3, 3, 1)
+    compare(file, profile, table, table.len() / 3, 3, 1)
 }
 
 // The rows of the file's entries, in the file's order.
@@ -320,11 +320,11 @@ fn fill(file: &[u8], count: usize, t: &mut [u32])
     rows::sort(t, count);
 }
 
-// The file's table at the front of the slice: the number of its rows.
-pub fn build(file: &[u8], table: &mut [u32]) -> Built
-    ensures { λ r. ⌜ (r ≡ buildOf (now (file .entry)) (length (now (table .entry)))) × (now (table .exit) ≡ written r (flat (tableOf (now (file .entry)))) (now (table .entry))) ⌝ }
+// The table of a file of this profile at the front of the slice: the number of its rows.
+pub fn build(file: &[u8], profile: u32, table: &mut [u32]) -> Built
+    ensures { λ r. ⌜ (r ≡ buildOf profile (now (file .entry)) (length (now (table .entry)))) × (now (table .exit) ≡ written r (flat (tableOf (now (file .entry)))) (now (table .entry))) ⌝ }
 {
-    match reader::read(file) {
+    match reader::read(file, profile) {
         Reading::Refused { number, place } => Built::Refused { number, place },
         Reading::Accepted { length: _, count } => {
             if table.len() < 3 * count {

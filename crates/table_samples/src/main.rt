@@ -1,8 +1,8 @@
 // Runs the finding table on the samples that stand packed on standard input, and says what it answers.
 //
-// A packed sample: four numbers of four bytes (the length of its name, the length of its file, how many numbers its slice
-// has and how many pairs are sought), the name, the file, four bytes for each number of the slice, four bytes of usage
-// and four of number for each pair. The next sample follows at once; tests/make_table_samples.py writes them.
+// A packed sample: five numbers of four bytes (the length of its name, the length of its file, how many numbers its slice
+// has, how many pairs are sought, and the profile), the name, the file, four bytes for each number of the slice, four bytes
+// of usage and four of number for each pair. The next sample follows at once; tests/make_table_samples.py writes them.
 use libc::STDIN_FILENO;
 use libc::STDOUT_FILENO;
 use table::Built;
@@ -39,8 +39,8 @@ fn refused(k: u64, place: usize) {
     number(place as u64);
 }
 
-fn say_check(file: &[u8], t: &[u32]) {
-    match table::check(file, t) {
+fn say_check(file: &[u8], profile: u32, t: &[u32]) {
+    match table::check(file, profile, t) {
         Checked::Accepted => text(b"accepted"),
         Checked::Refused { number, place } => refused(number, place),
     }
@@ -81,8 +81,8 @@ fn checksum(t: &[u32]) -> u64 {
     sum
 }
 
-fn say_build(file: &[u8], t: &mut [u32]) {
-    match table::build(file, t) {
+fn say_build(file: &[u8], profile: u32, t: &mut [u32]) {
+    match table::build(file, profile, t) {
         Built::Rows(rows) => {
             text(b"rows ");
             number(rows as u64);
@@ -118,48 +118,55 @@ fn search_all(t: &[u32], pairs: &[u8]) {
 }
 
 // The slice is checked, built anew and, as it was given, searched.
-fn ask(file: &[u8], numbers: &[u8], pairs: &[u8], t: &mut [u32]) {
+fn ask(file: &[u8], profile: u32, numbers: &[u8], pairs: &[u8], t: &mut [u32]) {
     load(numbers, t);
-    say_check(file, t);
+    say_check(file, profile, t);
     text(b"; ");
-    say_build(file, t);
+    say_build(file, profile, t);
     text(b"; then ");
-    say_check(file, t);
+    say_check(file, profile, t);
     text(b"\n");
     load(numbers, t);
     search_all(t, pairs);
 }
 
 // A slice of `count` numbers.
-fn ask_slice(file: &[u8], numbers: &[u8], count: usize, pairs: &[u8]) {
+fn ask_slice(file: &[u8], profile: u32, numbers: &[u8], count: usize, pairs: &[u8]) {
     let mut t = slice_room();
     if 16384 < count {
         text(b"too many numbers\n");
         return;
     }
-    ask(file, numbers, pairs, &mut t[..count]);
+    ask(file, profile, numbers, pairs, &mut t[..count]);
 }
 
 // The sample at `at`. Answers where the next one stands, or 0 where the packing is bad.
 fn sample(s: &[u8], at: usize) -> usize {
-    if s.len() < 16 {
+    if s.len() < 20 {
         return 0;
     }
-    if s.len() - 16 < at {
+    if s.len() - 20 < at {
         return 0;
     }
-    let name = at + 16;
+    let name = at + 20;
     let file = name + blorb::be32_at(s, at) as usize;
     let numbers = file + blorb::be32_at(s, at + 4) as usize;
     let count = blorb::be32_at(s, at + 8) as usize;
     let pairs = numbers + 4 * count;
     let end = pairs + 8 * blorb::be32_at(s, at + 12) as usize;
+    let profile = blorb::be32_at(s, at + 16) as u32;
     if s.len() < end {
         return 0;
     }
     text(&s[name..file]);
     text(b": ");
-    ask_slice(&s[file..numbers], &s[numbers..pairs], count, &s[pairs..end]);
+    ask_slice(
+        &s[file..numbers],
+        profile,
+        &s[numbers..pairs],
+        count,
+        &s[pairs..end],
+    );
     end
 }
 

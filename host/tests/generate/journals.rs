@@ -61,7 +61,7 @@ fn edited_state(rng: &mut Rng, file: Vec<u8>) -> State {
 
 /// A record written for this file. About half of them fit; the others miss in one way.
 fn made_record(rng: &mut Rng, file: &[u8]) -> Record {
-    let file = File::open(file).expect("a good file");
+    let file = File::open(file, rng.profile).expect("a good file");
     let mut record = match rng.below(4) {
         0 => record_of_add(&file),
         1 => record_of_replace(rng, &file),
@@ -123,7 +123,7 @@ fn place_for(rng: &mut Rng, file: &File, kind: u8, position: usize) -> u32 {
 /// A usage that the chunk suits, where there is one.
 fn usage_for(rng: &mut Rng, file: &File, chunk: usize) -> Tag {
     let tag = &file.chunks[chunk].tag;
-    let fitting = USAGES.into_iter().find(|usage| tags_of(usage).contains(&tag));
+    let fitting = USAGES.into_iter().find(|usage| tags_of(rng.profile, usage).contains(&tag));
     *fitting.unwrap_or(rng.pick(&USAGES))
 }
 

@@ -1,5 +1,5 @@
 use mathlib.Core.Path.{sym, _∙_}
-use Rattle.blorb.proofs.UsageLaws.{plain-unknown, plain-known}
+use Rattle.blorb.proofs.UsageLaws.{allows-unknown, allows-known}
 use borrow.Author.Needs.{needs}
 use Rattle.blorb.proofs.type_allowed.Statement.{statement}
 use Rattle.blorb.proofs.type_allowed.Tie as tie
@@ -22,7 +22,7 @@ enum-told c = search needs
 
 -- src/lib.rt:159:9
 returns : tie.Need-returns
-returns c = sym (plain-unknown _ _ (sym (c .before .before .of-code .ensures) ∙ c .enum-told .given .1))
+returns c = sym (allows-unknown _ _ _ (sym (c .before .before .of-code .ensures) ∙ c .enum-told .given .1))
 
 -- src/lib.rt:161:5
 allows-requires : tie.Need-allows-requires
@@ -30,7 +30,7 @@ allows-requires c κs = search needs
 
 -- src/lib.rt:155:1
 returns-2 : tie.Need-returns-2
-returns-2 c = c .allows .ensures ∙ plain-known _ _ _ (sym (c .before .before .before .before .of-code .ensures) ∙ c .before .before .usage .given .1)
+returns-2 c = c .allows .ensures ∙ allows-known _ _ _ _ (sym (c .before .before .before .before .of-code .ensures) ∙ c .before .before .usage .given .1)
 
 pub type-allowed-spec : {M : Type 1} → statement M
 type-allowed-spec =

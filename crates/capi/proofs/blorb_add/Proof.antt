@@ -25,7 +25,7 @@ same-length-2 c = search needs
 
 -- src/lib.rt:150:1
 returns : tie.Need-returns
-returns c = answered _ _ _ _ _ _ (c .numbers .ensures) (c .before .before .before .before .before .add .ensures)
+returns c = answered _ _ _ _ _ _ _ (c .numbers .ensures) (c .before .before .before .before .before .add .ensures)
 
 pub blorb-add-spec : {M : Type 1} → statement M
 blorb-add-spec =

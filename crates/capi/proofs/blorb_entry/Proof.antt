@@ -22,12 +22,12 @@ code-requires : tie.Need-code-requires
 code-requires c κs = search needs
 
 -- src/lib.rt:86:24
-cast-t10 : tie.Need-cast-t10
-cast-t10 c = record { fits = rw (c .code .ensures) (code-small (c .before .before .e .given .0 .0 .usage)) }
+cast-t11 : tie.Need-cast-t11
+cast-t11 c = record { fits = rw (c .code .ensures) (code-small (c .before .before .e .given .0 .0 .usage)) }
 
 -- src/lib.rt:88:24
-cast-t11 : tie.Need-cast-t11
-cast-t11 c = search needs
+cast-t12 : tie.Need-cast-t12
+cast-t12 c = search needs
 
 -- src/lib.rt:91:26
 enum-known-number : tie.Need-enum-known-number
@@ -48,8 +48,8 @@ blorb-entry-spec =
     entry-requires
     enum-known-e
     code-requires
-    cast-t10
     cast-t11
+    cast-t12
     enum-known-number
     returns
     returns-2)

@@ -21,7 +21,7 @@ same-length c = search needs
 
 -- src/lib.rt:196:1
 returns : tie.Need-returns
-returns c = answered _ _ _ _ _ _ (c .numbers .ensures) (c .before .before .before .undo .ensures)
+returns c = answered _ _ _ _ _ _ _ (c .numbers .ensures) (c .before .before .before .undo .ensures)
 
 pub blorb-undo-spec : {M : Type 1} → statement M
 blorb-undo-spec = tie.close (tie.spec undo-requires numbers-requires same-length returns)

@@ -7,10 +7,10 @@ use Rattle.editing_samples.proofs.steps.Statement.{statement}
 use Rattle.editing_samples.proofs.steps.Tie as tie
 
 abbrev Inv-loop : tie.InvT-loop
-Inv-loop s file₀ jrn₀ first-len first-used at₀ len₀ used₀ t10 file jrn at len used = (length file ≡ length file₀) × (length jrn ≡ length jrn₀)
+Inv-loop s file₀ jrn₀ first-len first-used profile at₀ len₀ used₀ t11 file jrn at len used = (length file ≡ length file₀) × (length jrn ≡ length jrn₀)
 
 abbrev μ-loop : tie.MeasureT-loop
-μ-loop s file₀ jrn₀ first-len first-used at₀ len₀ used₀ t10 file jrn at len used = length s - at
+μ-loop s file₀ jrn₀ first-len first-used profile at₀ len₀ used₀ t11 file jrn at len used = length s - at
 
 loop-holds : tie.Need-loop-holds Inv-loop μ-loop
 loop-holds c = search needs

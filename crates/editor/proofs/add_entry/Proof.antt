@@ -38,7 +38,7 @@ add-bytes-requires c κs =
     let a = c .before .before .before .before .before .before .before .before .before .args in
     let b = now (a .buf) in
     let bytes : All Byte (take (a .len) b) = all-take Byte (a .len) b (bytes-all b (λ i. omega (arith, c .before .before .before .before .before .before .before .before .slice-known .given i))) in
-    let r = ready b (a .len) (length (now (a .jrn))) (a .used) (a .usage) (a .number) (a .kind) (now (a .d)) bytes (c .before .before .count .given .0 .0) (sym (c .before .before .before .before .add-plan .ensures) ∙ c .before .before .count .given .1) in
+    let r = ready (a .profile) b (a .len) (length (now (a .jrn))) (a .used) (a .usage) (a .number) (a .kind) (now (a .d)) bytes (c .before .before .count .given .0 .0) (sym (c .before .before .before .before .add-plan .ensures) ∙ c .before .before .count .given .1) in
     (r .stands, (r .room, r .short))
 
 -- src/lib.rt:123:104
@@ -59,16 +59,16 @@ put-record-requires c κs =
     let a = c .before .before .before .before .before .before .before .before .before .before .before .before .before .before .args in
     let b = now (a .buf) in
     let bytes : All Byte (take (a .len) b) = all-take Byte (a .len) b (bytes-all b (λ i. omega (arith, c .before .before .before .before .before .before .before .before .before .before .before .before .before .slice-known .given i))) in
-    let r = ready b (a .len) (length (now (a .jrn))) (a .used) (a .usage) (a .number) (a .kind) (now (a .d)) bytes (c .before .before .before .before .before .before .before .count .given .0 .0) (sym (c .before .before .before .before .before .before .before .before .before .add-plan .ensures) ∙ c .before .before .before .before .before .before .before .count .given .1) in
+    let r = ready (a .profile) b (a .len) (length (now (a .jrn))) (a .used) (a .usage) (a .number) (a .kind) (now (a .d)) bytes (c .before .before .before .before .before .before .before .count .given .0 .0) (sym (c .before .before .before .before .before .before .before .before .before .add-plan .ensures) ∙ c .before .before .before .before .before .before .before .count .given .1) in
     r .journal-room
 
 -- src/lib.rt:124:39
 add-done : tie.Need-add-done
-add-done c = search needs
+add-done c = omega (arith, c .before .before .before .before .before .before .before .before .before .before .before .before .before .before .before .before .before .good, c .before .before .before .before .before .before .before .before .before .before .before .before .before .before .before .before .before .fits)
 
 -- src/lib.rt:124:33
 add-done-2 : tie.Need-add-done-2
-add-done-2 c = search needs
+add-done-2 c = omega (arith, c .before .before .before .before .before .before .before .before .before .before .before .before .before .before .before .before .before .good, c .before .before .before .before .before .before .before .before .before .before .before .before .before .before .before .before .before .fits)
 
 -- src/lib.rt:124:26
 add-done-3 : tie.Need-add-done-3
@@ -76,7 +76,7 @@ add-done-3 c =
     let a = c .before .before .before .before .before .before .before .before .before .before .before .before .before .before .before .before .before .args in
     let b = now (a .buf) in
     let bytes : All Byte (take (a .len) b) = all-take Byte (a .len) b (bytes-all b (λ i. omega (arith, c .before .before .before .before .before .before .before .before .before .before .before .before .before .before .before .before .slice-known .given i))) in
-    let r = ready b (a .len) (length (now (a .jrn))) (a .used) (a .usage) (a .number) (a .kind) (now (a .d)) bytes (c .before .before .before .before .before .before .before .before .before .before .count .given .0 .0) (sym (c .before .before .before .before .before .before .before .before .before .before .before .before .add-plan .ensures) ∙ c .before .before .before .before .before .before .before .before .before .before .count .given .1) in
+    let r = ready (a .profile) b (a .len) (length (now (a .jrn))) (a .used) (a .usage) (a .number) (a .kind) (now (a .d)) bytes (c .before .before .before .before .before .before .before .before .before .before .count .given .0 .0) (sym (c .before .before .before .before .before .before .before .before .before .before .before .before .add-plan .ensures) ∙ c .before .before .before .before .before .before .before .before .before .before .count .given .1) in
     omega (arith, r .room)
 
 -- src/lib.rt:124:52
@@ -85,7 +85,7 @@ add-done-4 c =
     let a = c .before .before .before .before .before .before .before .before .before .before .before .before .before .before .before .before .before .args in
     let b = now (a .buf) in
     let bytes : All Byte (take (a .len) b) = all-take Byte (a .len) b (bytes-all b (λ i. omega (arith, c .before .before .before .before .before .before .before .before .before .before .before .before .before .before .before .before .slice-known .given i))) in
-    let r = ready b (a .len) (length (now (a .jrn))) (a .used) (a .usage) (a .number) (a .kind) (now (a .d)) bytes (c .before .before .before .before .before .before .before .before .before .before .count .given .0 .0) (sym (c .before .before .before .before .before .before .before .before .before .before .before .before .add-plan .ensures) ∙ c .before .before .before .before .before .before .before .before .before .before .count .given .1) in
+    let r = ready (a .profile) b (a .len) (length (now (a .jrn))) (a .used) (a .usage) (a .number) (a .kind) (now (a .d)) bytes (c .before .before .before .before .before .before .before .before .before .before .count .given .0 .0) (sym (c .before .before .before .before .before .before .before .before .before .before .before .before .add-plan .ensures) ∙ c .before .before .before .before .before .before .before .before .before .before .count .given .1) in
     omega (arith, r .journal-room)
 
 -- src/lib.rt:124:13
@@ -101,7 +101,7 @@ returns : tie.Need-returns
 unfolding fault
 returns c =
     let a = c .before .before .before .before .before .before .before .before .before .args in
-    gave-refused (state (now (a .buf)) (a .len) (now (a .jrn)) (a .used)) (edit (add (a .usage) (a .number) (a .kind) (now (a .d)))) (c .refused .result) (c .before .before .k .given .0 .0) (c .before .before .k .given .0 .1 .0) (c .refused .ensures)
+    gave-refused (a .profile) (state (now (a .buf)) (a .len) (now (a .jrn)) (a .used)) (edit (add (a .usage) (a .number) (a .kind) (now (a .d)))) (c .refused .result) (c .before .before .k .given .0 .0) (c .before .before .k .given .0 .1 .0) (c .refused .ensures)
     (plan-no _ _ _ _ (sym (c .before .before .before .before .add-plan .ensures) ∙ c .before .before .k .given .1))
 
 -- src/lib.rt:115:1
@@ -119,10 +119,10 @@ returns-2 c =
     let a = c .before .before .before .before .before .before .before .before .before .before .before .before .before .before .before .before .before .before .args in
     let b = now (a .buf) in
     let bytes : All Byte (take (a .len) b) = all-take Byte (a .len) b (bytes-all b (λ i. omega (arith, c .before .before .before .before .before .before .before .before .before .before .before .before .before .before .before .before .before .slice-known .given i))) in
-    let r = ready b (a .len) (length (now (a .jrn))) (a .used) (a .usage) (a .number) (a .kind) (now (a .d)) bytes (c .before .before .before .before .before .before .before .before .before .before .before .count .given .0 .0) (sym (c .before .before .before .before .before .before .before .before .before .before .before .before .before .add-plan .ensures) ∙ c .before .before .before .before .before .before .before .before .before .before .before .count .given .1) in
-    gave-done (state b (a .len) (now (a .jrn)) (a .used)) (edit (add (a .usage) (a .number) (a .kind) (now (a .d)))) (c .done .result) _ _ _ _ (c .done .ensures)
+    let r = ready (a .profile) b (a .len) (length (now (a .jrn))) (a .used) (a .usage) (a .number) (a .kind) (now (a .d)) bytes (c .before .before .before .before .before .before .before .before .before .before .before .count .given .0 .0) (sym (c .before .before .before .before .before .before .before .before .before .before .before .before .before .add-plan .ensures) ∙ c .before .before .before .before .before .before .before .before .before .before .before .count .given .1) in
+    gave-done (a .profile) (state b (a .len) (now (a .jrn)) (a .used)) (edit (add (a .usage) (a .number) (a .kind) (now (a .d)))) (c .done .result) _ _ _ _ (c .done .ensures)
     (r .fine) (r .new-length) (ap (λ (z : ℕ). a .used + z) (r .new-record)) (c .before .before .before .before .before .before .before .before .add-bytes .ensures)
-    (c .before .before .before .put-record .ensures ∙ record-written b (a .len) (length (now (a .jrn))) (a .used) (a .usage) (a .number) (a .kind) (now (a .d)) bytes (now (a .jrn)) (c .before .before .before .before .before .before .before .before .before .before .before .count .given .0 .0) (r .stands .entries))
+    (c .before .before .before .put-record .ensures ∙ record-written (a .profile) b (a .len) (length (now (a .jrn))) (a .used) (a .usage) (a .number) (a .kind) (now (a .d)) bytes (now (a .jrn)) (c .before .before .before .before .before .before .before .before .before .before .before .count .given .0 .0) (r .stands .entries))
 
 pub add-entry-spec : {M : Type 1} → statement M
 add-entry-spec =

@@ -30,7 +30,7 @@ slice-aggregate-add-fault c =
     let a = c .before .before .before .before .before .before .before .args in
     let b = now (a .buf) in
     let bytes : All Byte (take (a .len) b) = all-take Byte (a .len) b (bytes-all b (λ i. omega (arith, c .before .before .before .before .before .before .shared-slice-known .given i))) in
-    sym (length-take-le (a .len) b (told-stands b (a .len) (a .room) (a .used) (a .usage) (a .number) (a .kind) (now (a .d)) bytes 0 (c .before .before .facts .given .0 .0) (sym (c .before .before .before .before .opened .ensures) ∙ c .before .before .facts .given .1) .0 .inside))
+    sym (length-take-le (a .len) b (told-stands (a .profile) b (a .len) (a .room) (a .used) (a .usage) (a .number) (a .kind) (now (a .d)) bytes 0 (c .before .before .facts .given .0 .0) (sym (c .before .before .before .before .opened .ensures) ∙ c .before .before .facts .given .1) .0 .inside))
 
 -- src/lib.rt:104:17
 add-fault-requires : tie.Need-add-fault-requires
@@ -38,7 +38,7 @@ add-fault-requires c κs =
     let a = c .before .before .before .before .before .before .before .args in
     let b = now (a .buf) in
     let bytes : All Byte (take (a .len) b) = all-take Byte (a .len) b (bytes-all b (λ i. omega (arith, c .before .before .before .before .before .before .shared-slice-known .given i))) in
-    told-pair b (a .len) (a .room) (a .used) (a .usage) (a .number) (a .kind) (now (a .d)) bytes 0 (c .before .before .facts .given .0 .0) (sym (c .before .before .before .before .opened .ensures) ∙ c .before .before .facts .given .1)
+    told-pair (a .profile) b (a .len) (a .room) (a .used) (a .usage) (a .number) (a .kind) (now (a .d)) bytes 0 (c .before .before .facts .given .0 .0) (sym (c .before .before .before .before .opened .ensures) ∙ c .before .before .facts .given .1)
 
 -- src/lib.rt:106:50
 add-with-room : tie.Need-add-with-room
@@ -54,7 +54,7 @@ add-with-room-3 c =
     let a = c .before .before .before .before .before .before .before .before .args in
     let b = now (a .buf) in
     let bytes : All Byte (take (a .len) b) = all-take Byte (a .len) b (bytes-all b (λ i. omega (arith, c .before .before .before .before .before .before .before .shared-slice-known .given i))) in
-    omega (arith, told-stands b (a .len) (a .room) (a .used) (a .usage) (a .number) (a .kind) (now (a .d)) bytes 0 (c .before .before .before .facts .given .0 .0) (sym (c .before .before .before .before .before .opened .ensures) ∙ c .before .before .before .facts .given .1) .0 .short, c .before .before .before .before .before .before .before .before .good, c .before .before .before .before .before .before .before .before .fits)
+    omega (arith, told-stands (a .profile) b (a .len) (a .room) (a .used) (a .usage) (a .number) (a .kind) (now (a .d)) bytes 0 (c .before .before .before .facts .given .0 .0) (sym (c .before .before .before .before .before .opened .ensures) ∙ c .before .before .before .facts .given .1) .0 .short, c .before .before .before .before .before .before .before .before .good, c .before .before .before .before .before .before .before .before .fits)
 
 -- src/lib.rt:106:78
 sub-with-room : tie.Need-sub-with-room
@@ -62,7 +62,7 @@ sub-with-room c =
     let a = c .before .before .before .before .before .before .before .before .args in
     let b = now (a .buf) in
     let bytes : All Byte (take (a .len) b) = all-take Byte (a .len) b (bytes-all b (λ i. omega (arith, c .before .before .before .before .before .before .before .shared-slice-known .given i))) in
-    told-stands b (a .len) (a .room) (a .used) (a .usage) (a .number) (a .kind) (now (a .d)) bytes 0 (c .before .before .before .facts .given .0 .0) (sym (c .before .before .before .before .before .opened .ensures) ∙ c .before .before .before .facts .given .1) .1
+    told-stands (a .profile) b (a .len) (a .room) (a .used) (a .usage) (a .number) (a .kind) (now (a .d)) bytes 0 (c .before .before .before .facts .given .0 .0) (sym (c .before .before .before .before .before .opened .ensures) ∙ c .before .before .before .facts .given .1) .1
 
 -- src/lib.rt:106:19
 with-room-requires : tie.Need-with-room-requires
@@ -82,7 +82,7 @@ returns c =
     let a = c .before .before .before .before .before .before .args in
     let b = now (a .buf) in
     let bytes : All Byte (take (a .len) b) = all-take Byte (a .len) b (bytes-all b (λ i. omega (arith, c .before .before .before .before .before .shared-slice-known .given i))) in
-    plan-unopened b (a .len) (a .room) (a .used) (a .usage) (a .number) (a .kind) (now (a .d)) bytes 0 (c .before .k .given .0 .0) (c .before .k .given .0 .1 .0) (sym (c .before .before .before .opened .ensures) ∙ c .before .k .given .1)
+    plan-unopened (a .profile) b (a .len) (a .room) (a .used) (a .usage) (a .number) (a .kind) (now (a .d)) bytes 0 (c .before .k .given .0 .0) (c .before .k .given .0 .1 .0) (sym (c .before .before .before .opened .ensures) ∙ c .before .k .given .1)
 
 -- src/lib.rt:96:1
 returns-2 : tie.Need-returns-2
@@ -90,7 +90,7 @@ returns-2 c =
     let a = c .before .before .before .before .before .before .before .before .before .before .before .before .args in
     let b = now (a .buf) in
     let bytes : All Byte (take (a .len) b) = all-take Byte (a .len) b (bytes-all b (λ i. omega (arith, c .before .before .before .before .before .before .before .before .before .before .before .shared-slice-known .given i))) in
-    plan-refused b (a .len) (a .room) (a .used) (a .usage) (a .number) (a .kind) (now (a .d)) bytes 0 (c .before .before .before .before .before .before .before .facts .given .0 .0) (sym (c .before .before .before .before .before .before .before .before .before .opened .ensures) ∙ c .before .before .before .before .before .before .before .facts .given .1) (c .before .before .before .before .add-fault .result) (c .before .before .before .with-room .result) (c .before .before .before .before .add-fault .ensures) (c .before .before .before .with-room .ensures) (c .before .k2 .given .0 .0) (c .before .k2 .given .0 .1 .0) (c .before .k2 .given .1)
+    plan-refused (a .profile) b (a .len) (a .room) (a .used) (a .usage) (a .number) (a .kind) (now (a .d)) bytes 0 (c .before .before .before .before .before .before .before .facts .given .0 .0) (sym (c .before .before .before .before .before .before .before .before .before .opened .ensures) ∙ c .before .before .before .before .before .before .before .facts .given .1) (c .before .before .before .before .add-fault .result) (c .before .before .before .with-room .result) (c .before .before .before .before .add-fault .ensures) (c .before .before .before .with-room .ensures) (c .before .k2 .given .0 .0) (c .before .k2 .given .0 .1 .0) (c .before .k2 .given .1)
 
 -- src/lib.rt:96:1
 returns-3 : tie.Need-returns-3
@@ -98,7 +98,7 @@ returns-3 c =
     let a = c .before .before .before .before .before .before .before .before .before .before .before .args in
     let b = now (a .buf) in
     let bytes : All Byte (take (a .len) b) = all-take Byte (a .len) b (bytes-all b (λ i. omega (arith, c .before .before .before .before .before .before .before .before .before .before .shared-slice-known .given i))) in
-    plan-fine b (a .len) (a .room) (a .used) (a .usage) (a .number) (a .kind) (now (a .d)) bytes 0 (c .before .before .before .before .before .before .facts .given .0 .0) (sym (c .before .before .before .before .before .before .before .before .opened .ensures) ∙ c .before .before .before .before .before .before .facts .given .1) (c .before .before .before .add-fault .result) (c .before .before .with-room .result) (c .before .before .before .add-fault .ensures) (c .before .before .with-room .ensures) (c .enum-told .given .1)
+    plan-fine (a .profile) b (a .len) (a .room) (a .used) (a .usage) (a .number) (a .kind) (now (a .d)) bytes 0 (c .before .before .before .before .before .before .facts .given .0 .0) (sym (c .before .before .before .before .before .before .before .before .opened .ensures) ∙ c .before .before .before .before .before .before .facts .given .1) (c .before .before .before .add-fault .result) (c .before .before .with-room .result) (c .before .before .before .add-fault .ensures) (c .before .before .with-room .ensures) (c .enum-told .given .1)
 
 pub add-plan-spec : {M : Type 1} → statement M
 add-plan-spec =

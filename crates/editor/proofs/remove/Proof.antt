@@ -25,7 +25,7 @@ same-length-2 c = search needs
 returns : tie.Need-returns
 returns c =
     let a = c .before .before .before .before .before .before .before .before .before .before .args in
-    called-as _ _ _ _ _ _ (λ i. edit (remove (c .before .before .before .before .before .before .before .code-of .ensures i) (a .number))) (c .before .before .before .before .remove-entry .ensures)
+    called-as _ _ _ _ _ _ _ (λ i. edit (remove (c .before .before .before .before .before .before .before .code-of .ensures i) (a .number))) (c .before .before .before .before .remove-entry .ensures)
 
 pub remove-spec : {M : Type 1} → statement M
 remove-spec =

@@ -37,8 +37,8 @@ gone-size-requires c κs =
     let a = c .before .before .before .before .before .before .before .args in
     let b = now (a .buf) in
     let bytes : All Byte (take (a .len) b) = all-take Byte (a .len) b (bytes-all b (λ i. omega (arith, c .before .before .before .before .before .before .slice-known .given i))) in
-    let r = ready b (a .len) (length (now (a .jrn))) (a .used) (a .usage) (a .number) bytes (c .before .count .given .0 .0) (c .before .count .given .0 .1 .0) (sym (c .before .before .before .remove-plan .ensures) ∙ c .before .count .given .1) in
-    body-short b (a .len) (length (now (a .jrn))) (a .used) (a .usage) (a .number) bytes (c .before .count .given .0 .1 .0) (r .found) (r .piece-is)
+    let r = ready (a .profile) b (a .len) (length (now (a .jrn))) (a .used) (a .usage) (a .number) bytes (c .before .count .given .0 .0) (c .before .count .given .0 .1 .0) (sym (c .before .before .before .remove-plan .ensures) ∙ c .before .count .given .1) in
+    body-short (a .profile) b (a .len) (length (now (a .jrn))) (a .used) (a .usage) (a .number) bytes (c .before .count .given .0 .1 .0) (r .found) (r .piece-is)
 
 -- src/lib.rt:195:24
 cast-size : tie.Need-cast-size
@@ -90,8 +90,8 @@ part-put-record-end c =
     let a = c .before .before .before .before .before .before .before .before .before .before .before .before .before .args in
     let b = now (a .buf) in
     let bytes : All Byte (take (a .len) b) = all-take Byte (a .len) b (bytes-all b (λ i. omega (arith, c .before .before .before .before .before .before .before .before .before .before .before .before .slice-known .given i))) in
-    let r = ready b (a .len) (length (now (a .jrn))) (a .used) (a .usage) (a .number) bytes (c .before .before .before .before .before .before .before .count .given .0 .0) (c .before .before .before .before .before .before .before .count .given .0 .1 .0) (sym (c .before .before .before .before .before .before .before .before .before .remove-plan .ensures) ∙ c .before .before .before .before .before .before .before .count .given .1) in
-    part-in b (now (a .jrn)) (a .len) (a .used) (a .usage) (a .number) bytes (c .before .before .before .before .before .before .before .count .given .0 .0) (c .before .before .before .before .before .before .before .count .given .0 .1 .0) r (c .before .before .before .before .kept-number .result) (c .before .before .before .before .kept-number .ensures)
+    let r = ready (a .profile) b (a .len) (length (now (a .jrn))) (a .used) (a .usage) (a .number) bytes (c .before .before .before .before .before .before .before .count .given .0 .0) (c .before .before .before .before .before .before .before .count .given .0 .1 .0) (sym (c .before .before .before .before .before .before .before .before .before .remove-plan .ensures) ∙ c .before .before .before .before .before .before .before .count .given .1) in
+    part-in (a .profile) b (now (a .jrn)) (a .len) (a .used) (a .usage) (a .number) bytes (c .before .before .before .before .before .before .before .count .given .0 .0) (c .before .before .before .before .before .before .before .count .given .0 .1 .0) r (c .before .before .before .before .kept-number .result) (c .before .before .before .before .kept-number .ensures)
 
 -- src/lib.rt:199:13
 put-record-requires : tie.Need-put-record-requires
@@ -99,8 +99,8 @@ put-record-requires c κs =
     let a = c .before .before .before .before .before .before .before .before .before .before .before .before .before .before .args in
     let b = now (a .buf) in
     let bytes : All Byte (take (a .len) b) = all-take Byte (a .len) b (bytes-all b (λ i. omega (arith, c .before .before .before .before .before .before .before .before .before .before .before .before .before .slice-known .given i))) in
-    let r = ready b (a .len) (length (now (a .jrn))) (a .used) (a .usage) (a .number) bytes (c .before .before .before .before .before .before .before .before .count .given .0 .0) (c .before .before .before .before .before .before .before .before .count .given .0 .1 .0) (sym (c .before .before .before .before .before .before .before .before .before .before .remove-plan .ensures) ∙ c .before .before .before .before .before .before .before .before .count .given .1) in
-    record-room b (now (a .jrn)) (a .len) (a .used) (a .usage) (a .number) bytes (c .before .before .before .before .before .before .before .before .count .given .0 .0) (c .before .before .before .before .before .before .before .before .count .given .0 .1 .0) r (c .before .before .before .before .before .kept-number .result) (c .before .before .before .before .before .kept-number .ensures)
+    let r = ready (a .profile) b (a .len) (length (now (a .jrn))) (a .used) (a .usage) (a .number) bytes (c .before .before .before .before .before .before .before .before .count .given .0 .0) (c .before .before .before .before .before .before .before .before .count .given .0 .1 .0) (sym (c .before .before .before .before .before .before .before .before .before .before .remove-plan .ensures) ∙ c .before .before .before .before .before .before .before .before .count .given .1) in
+    record-room (a .profile) b (now (a .jrn)) (a .len) (a .used) (a .usage) (a .number) bytes (c .before .before .before .before .before .before .before .before .count .given .0 .0) (c .before .before .before .before .before .before .before .before .count .given .0 .1 .0) r (c .before .before .before .before .before .kept-number .result) (c .before .before .before .before .before .kept-number .ensures)
 
 -- src/lib.rt:208:65
 cast-remove-bytes : tie.Need-cast-remove-bytes
@@ -112,8 +112,8 @@ remove-bytes-requires c κs =
     let a = c .before .before .before .before .before .before .before .before .before .before .before .before .before .before .before .before .before .before .args in
     let b = now (a .buf) in
     let bytes : All Byte (take (a .len) b) = all-take Byte (a .len) b (bytes-all b (λ i. omega (arith, c .before .before .before .before .before .before .before .before .before .before .before .before .before .before .before .before .before .slice-known .given i))) in
-    let r = ready b (a .len) (length (now (a .jrn))) (a .used) (a .usage) (a .number) bytes (c .before .before .before .before .before .before .before .before .before .before .before .before .count .given .0 .0) (c .before .before .before .before .before .before .before .before .before .before .before .before .count .given .0 .1 .0) (sym (c .before .before .before .before .before .before .before .before .before .before .before .before .before .before .remove-plan .ensures) ∙ c .before .before .before .before .before .before .before .before .before .before .before .before .count .given .1) in
-    removable b (a .len) (length (now (a .jrn))) (a .used) (a .usage) (a .number) bytes (c .before .before .before .before .before .before .before .before .before .before .before .before .count .given .0 .0) (c .before .before .before .before .before .before .before .before .before .before .before .before .count .given .0 .1 .0) r (c .before .before .before .before .before .before .before .before .before .before .gone-size .result) (c .before .before .before .before .before .before .before .before .before .before .gone-size .ensures)
+    let r = ready (a .profile) b (a .len) (length (now (a .jrn))) (a .used) (a .usage) (a .number) bytes (c .before .before .before .before .before .before .before .before .before .before .before .before .count .given .0 .0) (c .before .before .before .before .before .before .before .before .before .before .before .before .count .given .0 .1 .0) (sym (c .before .before .before .before .before .before .before .before .before .before .before .before .before .before .remove-plan .ensures) ∙ c .before .before .before .before .before .before .before .before .before .before .before .before .count .given .1) in
+    removable (a .profile) b (a .len) (length (now (a .jrn))) (a .used) (a .usage) (a .number) bytes (c .before .before .before .before .before .before .before .before .before .before .before .before .count .given .0 .0) (c .before .before .before .before .before .before .before .before .before .before .before .before .count .given .0 .1 .0) r (c .before .before .before .before .before .before .before .before .before .before .gone-size .result) (c .before .before .before .before .before .before .before .before .before .before .gone-size .ensures)
 
 -- src/lib.rt:209:33
 add-done : tie.Need-add-done
@@ -125,8 +125,8 @@ sub-done c =
     let a = c .before .before .before .before .before .before .before .before .before .before .before .before .before .before .before .before .before .before .before .before .before .args in
     let b = now (a .buf) in
     let bytes : All Byte (take (a .len) b) = all-take Byte (a .len) b (bytes-all b (λ i. omega (arith, c .before .before .before .before .before .before .before .before .before .before .before .before .before .before .before .before .before .before .before .before .slice-known .given i))) in
-    let r = ready b (a .len) (length (now (a .jrn))) (a .used) (a .usage) (a .number) bytes (c .before .before .before .before .before .before .before .before .before .before .before .before .before .before .before .count .given .0 .0) (c .before .before .before .before .before .before .before .before .before .before .before .before .before .before .before .count .given .0 .1 .0) (sym (c .before .before .before .before .before .before .before .before .before .before .before .before .before .before .before .before .before .remove-plan .ensures) ∙ c .before .before .before .before .before .before .before .before .before .before .before .before .before .before .before .count .given .1) in
-    shrinks b (a .len) (length (now (a .jrn))) (a .used) (a .usage) (a .number) bytes (c .before .before .before .before .before .before .before .before .before .before .before .before .before .before .before .count .given .0 .1 .0) (r .found) (r .piece-is) (c .before .before .before .before .before .before .before .before .before .before .before .before .before .gone-size .result) (c .before .before .before .before .before .before .before .before .before .before .before .before .before .gone-size .ensures)
+    let r = ready (a .profile) b (a .len) (length (now (a .jrn))) (a .used) (a .usage) (a .number) bytes (c .before .before .before .before .before .before .before .before .before .before .before .before .before .before .before .count .given .0 .0) (c .before .before .before .before .before .before .before .before .before .before .before .before .before .before .before .count .given .0 .1 .0) (sym (c .before .before .before .before .before .before .before .before .before .before .before .before .before .before .before .before .before .remove-plan .ensures) ∙ c .before .before .before .before .before .before .before .before .before .before .before .before .before .before .before .count .given .1) in
+    shrinks (a .profile) b (a .len) (length (now (a .jrn))) (a .used) (a .usage) (a .number) bytes (c .before .before .before .before .before .before .before .before .before .before .before .before .before .before .before .count .given .0 .1 .0) (r .found) (r .piece-is) (c .before .before .before .before .before .before .before .before .before .before .before .before .before .gone-size .result) (c .before .before .before .before .before .before .before .before .before .before .before .before .before .gone-size .ensures)
 
 -- src/lib.rt:209:53
 add-done-2 : tie.Need-add-done-2
@@ -138,8 +138,8 @@ add-done-3 c =
     let a = c .before .before .before .before .before .before .before .before .before .before .before .before .before .before .before .before .before .before .before .before .before .args in
     let b = now (a .buf) in
     let bytes : All Byte (take (a .len) b) = all-take Byte (a .len) b (bytes-all b (λ i. omega (arith, c .before .before .before .before .before .before .before .before .before .before .before .before .before .before .before .before .before .before .before .before .slice-known .given i))) in
-    let r = ready b (a .len) (length (now (a .jrn))) (a .used) (a .usage) (a .number) bytes (c .before .before .before .before .before .before .before .before .before .before .before .before .before .before .before .count .given .0 .0) (c .before .before .before .before .before .before .before .before .before .before .before .before .before .before .before .count .given .0 .1 .0) (sym (c .before .before .before .before .before .before .before .before .before .before .before .before .before .before .before .before .before .remove-plan .ensures) ∙ c .before .before .before .before .before .before .before .before .before .before .before .before .before .before .before .count .given .1) in
-    omega (arith, used-room b (now (a .jrn)) (a .len) (a .used) (a .usage) (a .number) bytes (c .before .before .before .before .before .before .before .before .before .before .before .before .before .before .before .count .given .0 .0) (c .before .before .before .before .before .before .before .before .before .before .before .before .before .before .before .count .given .0 .1 .0) r (c .before .before .before .before .before .before .before .before .before .before .before .before .kept-number .result) (c .before .before .before .before .before .before .before .before .before .before .before .before .kept-number .ensures), c .before .before .before .before .before .before .before .before .before .before .before .before .before .before .before .before .before .before .before .before .before .good, c .before .before .before .before .before .before .before .before .before .before .before .before .before .before .before .before .before .before .before .before .before .fits)
+    let r = ready (a .profile) b (a .len) (length (now (a .jrn))) (a .used) (a .usage) (a .number) bytes (c .before .before .before .before .before .before .before .before .before .before .before .before .before .before .before .count .given .0 .0) (c .before .before .before .before .before .before .before .before .before .before .before .before .before .before .before .count .given .0 .1 .0) (sym (c .before .before .before .before .before .before .before .before .before .before .before .before .before .before .before .before .before .remove-plan .ensures) ∙ c .before .before .before .before .before .before .before .before .before .before .before .before .before .before .before .count .given .1) in
+    omega (arith, used-room (a .profile) b (now (a .jrn)) (a .len) (a .used) (a .usage) (a .number) bytes (c .before .before .before .before .before .before .before .before .before .before .before .before .before .before .before .count .given .0 .0) (c .before .before .before .before .before .before .before .before .before .before .before .before .before .before .before .count .given .0 .1 .0) r (c .before .before .before .before .before .before .before .before .before .before .before .before .kept-number .result) (c .before .before .before .before .before .before .before .before .before .before .before .before .kept-number .ensures), c .before .before .before .before .before .before .before .before .before .before .before .before .before .before .before .before .before .before .before .before .before .good, c .before .before .before .before .before .before .before .before .before .before .before .before .before .before .before .before .before .before .before .before .before .fits)
 
 -- src/lib.rt:209:13
 done-requires : tie.Need-done-requires
@@ -154,7 +154,7 @@ returns : tie.Need-returns
 unfolding fault
 returns c =
     let a = c .before .before .before .before .before .before .before .before .args in
-    gave-refused (state (now (a .buf)) (a .len) (now (a .jrn)) (a .used)) (edit (remove (a .usage) (a .number))) (c .refused .result) (c .before .before .k .given .0 .0) (c .before .before .k .given .0 .1 .0) (c .refused .ensures)
+    gave-refused (a .profile) (state (now (a .buf)) (a .len) (now (a .jrn)) (a .used)) (edit (remove (a .usage) (a .number))) (c .refused .result) (c .before .before .k .given .0 .0) (c .before .before .k .given .0 .1 .0) (c .refused .ensures)
     (removal-no _ _ _ _ _ _ (sym (c .before .before .before .before .remove-plan .ensures) ∙ c .before .before .k .given .1))
 
 -- src/lib.rt:188:1
@@ -171,8 +171,8 @@ returns-2 c =
     let a = c .before .before .before .before .before .before .before .before .before .before .before .before .before .before .before .before .before .before .before .before .before .before .args in
     let b = now (a .buf) in
     let bytes : All Byte (take (a .len) b) = all-take Byte (a .len) b (bytes-all b (λ i. omega (arith, c .before .before .before .before .before .before .before .before .before .before .before .before .before .before .before .before .before .before .before .before .before .slice-known .given i))) in
-    let r = ready b (a .len) (length (now (a .jrn))) (a .used) (a .usage) (a .number) bytes (c .before .before .before .before .before .before .before .before .before .before .before .before .before .before .before .before .count .given .0 .0) (c .before .before .before .before .before .before .before .before .before .before .before .before .before .before .before .before .count .given .0 .1 .0) (sym (c .before .before .before .before .before .before .before .before .before .before .before .before .before .before .before .before .before .before .remove-plan .ensures) ∙ c .before .before .before .before .before .before .before .before .before .before .before .before .before .before .before .before .count .given .1) in
-    made b (now (a .jrn)) (a .len) (a .used) (a .usage) (a .number) bytes (c .before .before .before .before .before .before .before .before .before .before .before .before .before .before .before .before .count .given .0 .0) (c .before .before .before .before .before .before .before .before .before .before .before .before .before .before .before .before .count .given .0 .1 .0) r (c .before .before .before .before .before .before .before .before .before .before .before .before .before .kept-number .result) (c .before .before .before .before .before .before .before .before .before .before .before .before .before .kept-number .ensures) (c .before .before .before .before .before .before .before .before .before .before .before .before .before .before .gone-size .result) (c .before .before .before .before .before .before .before .before .before .before .before .removal-kind .result) (c .before .before .before .before .before .before .before .before .before .before .kept-number2 .result) (c .done .result) _ _ (c .before .before .before .before .before .before .before .before .before .before .before .before .before .before .gone-size .ensures) (c .before .before .before .before .before .before .before .before .before .before .before .removal-kind .ensures) (c .before .before .before .before .before .before .before .before .before .before .kept-number2 .ensures) (c .done .ensures)
+    let r = ready (a .profile) b (a .len) (length (now (a .jrn))) (a .used) (a .usage) (a .number) bytes (c .before .before .before .before .before .before .before .before .before .before .before .before .before .before .before .before .count .given .0 .0) (c .before .before .before .before .before .before .before .before .before .before .before .before .before .before .before .before .count .given .0 .1 .0) (sym (c .before .before .before .before .before .before .before .before .before .before .before .before .before .before .before .before .before .before .remove-plan .ensures) ∙ c .before .before .before .before .before .before .before .before .before .before .before .before .before .before .before .before .count .given .1) in
+    made (a .profile) b (now (a .jrn)) (a .len) (a .used) (a .usage) (a .number) bytes (c .before .before .before .before .before .before .before .before .before .before .before .before .before .before .before .before .count .given .0 .0) (c .before .before .before .before .before .before .before .before .before .before .before .before .before .before .before .before .count .given .0 .1 .0) r (c .before .before .before .before .before .before .before .before .before .before .before .before .before .kept-number .result) (c .before .before .before .before .before .before .before .before .before .before .before .before .before .kept-number .ensures) (c .before .before .before .before .before .before .before .before .before .before .before .before .before .before .gone-size .result) (c .before .before .before .before .before .before .before .before .before .before .before .removal-kind .result) (c .before .before .before .before .before .before .before .before .before .before .kept-number2 .result) (c .done .result) _ _ (c .before .before .before .before .before .before .before .before .before .before .before .before .before .before .gone-size .ensures) (c .before .before .before .before .before .before .before .before .before .before .before .removal-kind .ensures) (c .before .before .before .before .before .before .before .before .before .before .kept-number2 .ensures) (c .done .ensures)
     (c .before .before .before .remove-bytes .ensures) (c .before .before .before .before .before .before .before .put-record .ensures)
 
 pub remove-entry-spec : {M : Type 1} → statement M

@@ -38,7 +38,7 @@ returns c =
     let a = c .before .before .before .before .before .before .before .args in
     let b = now (a .buf) in
     let bytes : All Byte (take (a .len) b) = all-take Byte (a .len) b (bytes-all b (λ i. omega (arith, c .before .before .before .before .before .before .shared-slice-known .given i))) in
-    plan-22 b (a .len) (a .room) (a .used) (a .usage) (a .number) bytes 0 (c .before .before .before .facts .given .0 .0) (sym (c .before .before .before .before .before .opened .ensures) ∙ c .before .before .before .facts .given .1) (c .enum-told .given .1)
+    plan-22 (a .profile) b (a .len) (a .room) (a .used) (a .usage) (a .number) bytes 0 (c .before .before .before .facts .given .0 .0) (sym (c .before .before .before .before .before .opened .ensures) ∙ c .before .before .before .facts .given .1) (c .enum-told .given .1)
 
 -- src/lib.rt:175:17
 gone-size-requires : tie.Need-gone-size-requires
@@ -46,8 +46,8 @@ gone-size-requires c κs =
     let a = c .before .before .before .before .before .before .before .before .args in
     let b = now (a .buf) in
     let bytes : All Byte (take (a .len) b) = all-take Byte (a .len) b (bytes-all b (λ i. omega (arith, c .before .before .before .before .before .before .before .shared-slice-known .given i))) in
-    let w = told b (a .len) (a .room) (a .used) (a .usage) (a .number) bytes 0 (c .before .before .before .before .facts .given .0 .0) (sym (c .before .before .before .before .before .before .opened .ensures) ∙ c .before .before .before .before .facts .given .1) (c .before .target .given .0 .0) (c .before .target .given .1) in
-    body-short b (a .len) (a .room) (a .used) (a .usage) (a .number) bytes (c .before .target .given .0 .0) (w .found) (w .piece-is)
+    let w = told (a .profile) b (a .len) (a .room) (a .used) (a .usage) (a .number) bytes 0 (c .before .before .before .before .facts .given .0 .0) (sym (c .before .before .before .before .before .before .opened .ensures) ∙ c .before .before .before .before .facts .given .1) (c .before .target .given .0 .0) (c .before .target .given .1) in
+    body-short (a .profile) b (a .len) (a .room) (a .used) (a .usage) (a .number) bytes (c .before .target .given .0 .0) (w .found) (w .piece-is)
 
 -- src/lib.rt:176:24
 kept-number-requires : tie.Need-kept-number-requires
@@ -63,7 +63,7 @@ slice-aggregate-remove-fault c =
     let a = c .before .before .before .before .before .before .before .before .before .before .before .args in
     let b = now (a .buf) in
     let bytes : All Byte (take (a .len) b) = all-take Byte (a .len) b (bytes-all b (λ i. omega (arith, c .before .before .before .before .before .before .before .before .before .before .shared-slice-known .given i))) in
-    let w = told b (a .len) (a .room) (a .used) (a .usage) (a .number) bytes 0 (c .before .before .before .before .before .before .before .facts .given .0 .0) (sym (c .before .before .before .before .before .before .before .before .before .opened .ensures) ∙ c .before .before .before .before .before .before .before .facts .given .1) (c .before .before .before .before .target .given .0 .0) (c .before .before .before .before .target .given .1) in
+    let w = told (a .profile) b (a .len) (a .room) (a .used) (a .usage) (a .number) bytes 0 (c .before .before .before .before .before .before .before .facts .given .0 .0) (sym (c .before .before .before .before .before .before .before .before .before .opened .ensures) ∙ c .before .before .before .before .before .before .before .facts .given .1) (c .before .before .before .before .target .given .0 .0) (c .before .before .before .before .target .given .1) in
     sym (length-take-le (a .len) b (w .found .stands .inside))
 
 -- src/lib.rt:178:17
@@ -72,8 +72,8 @@ remove-fault-requires c κs =
     let a = c .before .before .before .before .before .before .before .before .before .before .before .args in
     let b = now (a .buf) in
     let bytes : All Byte (take (a .len) b) = all-take Byte (a .len) b (bytes-all b (λ i. omega (arith, c .before .before .before .before .before .before .before .before .before .before .shared-slice-known .given i))) in
-    let w = told b (a .len) (a .room) (a .used) (a .usage) (a .number) bytes 0 (c .before .before .before .before .before .before .before .facts .given .0 .0) (sym (c .before .before .before .before .before .before .before .before .before .opened .ensures) ∙ c .before .before .before .before .before .before .before .facts .given .1) (c .before .before .before .before .target .given .0 .0) (c .before .before .before .before .target .given .1) in
-    listed b (a .len) (a .room) (a .used) (a .usage) (a .number) bytes (c .before .before .before .before .before .before .before .facts .given .0 .0) (c .before .before .before .before .target .given .0 .0) w (c .before .before .gone-size .result) (c .before .before .gone-size .ensures)
+    let w = told (a .profile) b (a .len) (a .room) (a .used) (a .usage) (a .number) bytes 0 (c .before .before .before .before .before .before .before .facts .given .0 .0) (sym (c .before .before .before .before .before .before .before .before .before .opened .ensures) ∙ c .before .before .before .before .before .before .before .facts .given .1) (c .before .before .before .before .target .given .0 .0) (c .before .before .before .before .target .given .1) in
+    listed (a .profile) b (a .len) (a .room) (a .used) (a .usage) (a .number) bytes (c .before .before .before .before .before .before .before .facts .given .0 .0) (c .before .before .before .before .target .given .0 .0) w (c .before .before .gone-size .result) (c .before .before .gone-size .ensures)
 
 -- src/lib.rt:179:49
 cast-with-room : tie.Need-cast-with-room
@@ -89,8 +89,8 @@ sub-with-room c =
     let a = c .before .before .before .before .before .before .before .before .before .before .before .before .args in
     let b = now (a .buf) in
     let bytes : All Byte (take (a .len) b) = all-take Byte (a .len) b (bytes-all b (λ i. omega (arith, c .before .before .before .before .before .before .before .before .before .before .before .shared-slice-known .given i))) in
-    let w = told b (a .len) (a .room) (a .used) (a .usage) (a .number) bytes 0 (c .before .before .before .before .before .before .before .before .facts .given .0 .0) (sym (c .before .before .before .before .before .before .before .before .before .before .opened .ensures) ∙ c .before .before .before .before .before .before .before .before .facts .given .1) (c .before .before .before .before .before .target .given .0 .0) (c .before .before .before .before .before .target .given .1) in
-    shrinks b (a .len) (a .room) (a .used) (a .usage) (a .number) bytes (c .before .before .before .before .before .target .given .0 .0) (w .found) (w .piece-is) (c .before .before .before .gone-size .result) (c .before .before .before .gone-size .ensures)
+    let w = told (a .profile) b (a .len) (a .room) (a .used) (a .usage) (a .number) bytes 0 (c .before .before .before .before .before .before .before .before .facts .given .0 .0) (sym (c .before .before .before .before .before .before .before .before .before .before .opened .ensures) ∙ c .before .before .before .before .before .before .before .before .facts .given .1) (c .before .before .before .before .before .target .given .0 .0) (c .before .before .before .before .before .target .given .1) in
+    shrinks (a .profile) b (a .len) (a .room) (a .used) (a .usage) (a .number) bytes (c .before .before .before .before .before .target .given .0 .0) (w .found) (w .piece-is) (c .before .before .before .gone-size .result) (c .before .before .before .gone-size .ensures)
 
 -- src/lib.rt:179:76
 add-with-room-2 : tie.Need-add-with-room-2
@@ -102,7 +102,7 @@ sub-with-room-2 c =
     let a = c .before .before .before .before .before .before .before .before .before .before .before .before .args in
     let b = now (a .buf) in
     let bytes : All Byte (take (a .len) b) = all-take Byte (a .len) b (bytes-all b (λ i. omega (arith, c .before .before .before .before .before .before .before .before .before .before .before .shared-slice-known .given i))) in
-    let w = told b (a .len) (a .room) (a .used) (a .usage) (a .number) bytes 0 (c .before .before .before .before .before .before .before .before .facts .given .0 .0) (sym (c .before .before .before .before .before .before .before .before .before .before .opened .ensures) ∙ c .before .before .before .before .before .before .before .before .facts .given .1) (c .before .before .before .before .before .target .given .0 .0) (c .before .before .before .before .before .target .given .1) in
+    let w = told (a .profile) b (a .len) (a .room) (a .used) (a .usage) (a .number) bytes 0 (c .before .before .before .before .before .before .before .before .facts .given .0 .0) (sym (c .before .before .before .before .before .before .before .before .before .before .opened .ensures) ∙ c .before .before .before .before .before .before .before .before .facts .given .1) (c .before .before .before .before .before .target .given .0 .0) (c .before .before .before .before .before .target .given .1) in
     w .found .used-in
 
 -- src/lib.rt:179:19
@@ -123,7 +123,7 @@ returns-2 c =
     let a = c .before .before .before .before .before .args in
     let b = now (a .buf) in
     let bytes : All Byte (take (a .len) b) = all-take Byte (a .len) b (bytes-all b (λ i. omega (arith, c .before .before .before .before .shared-slice-known .given i))) in
-    plan-unopened b (a .len) (a .room) (a .used) (a .usage) (a .number) bytes 0 (c .before .k .given .0 .0) (c .before .k .given .0 .1 .0) (sym (c .before .before .before .opened .ensures) ∙ c .before .k .given .1)
+    plan-unopened (a .profile) b (a .len) (a .room) (a .used) (a .usage) (a .number) bytes 0 (c .before .k .given .0 .0) (c .before .k .given .0 .1 .0) (sym (c .before .before .before .opened .ensures) ∙ c .before .k .given .1)
 
 -- src/lib.rt:165:1
 returns-3 : tie.Need-returns-3
@@ -131,8 +131,8 @@ returns-3 c =
     let a = c .before .before .before .before .before .before .before .before .before .before .before .before .before .before .before .before .args in
     let b = now (a .buf) in
     let bytes : All Byte (take (a .len) b) = all-take Byte (a .len) b (bytes-all b (λ i. omega (arith, c .before .before .before .before .before .before .before .before .before .before .before .before .before .before .before .shared-slice-known .given i))) in
-    let w = told b (a .len) (a .room) (a .used) (a .usage) (a .number) bytes 0 (c .before .before .before .before .before .before .before .before .before .before .before .before .facts .given .0 .0) (sym (c .before .before .before .before .before .before .before .before .before .before .before .before .before .before .opened .ensures) ∙ c .before .before .before .before .before .before .before .before .before .before .before .before .facts .given .1) (c .before .before .before .before .before .before .before .before .before .target .given .0 .0) (c .before .before .before .before .before .before .before .before .before .target .given .1) in
-    plan-refused b (a .len) (a .room) (a .used) (a .usage) (a .number) bytes (c .before .before .before .before .before .before .before .before .before .before .before .before .facts .given .0 .0) (c .before .before .before .before .before .before .before .before .before .target .given .0 .0) w (c .before .before .before .before .before .before .before .gone-size .result) (c .before .before .before .before .before .before .before .gone-size .ensures) (c .before .before .before .before .before .before .kept-number .result) (c .before .before .before .before .before .before .kept-number .ensures) (c .before .before .before .before .remove-fault .result) (c .before .before .before .with-room .result) (c .before .before .before .before .remove-fault .ensures) (c .before .before .before .with-room .ensures) (c .before .k2 .given .0 .0) (c .before .k2 .given .0 .1 .0) (c .before .k2 .given .1)
+    let w = told (a .profile) b (a .len) (a .room) (a .used) (a .usage) (a .number) bytes 0 (c .before .before .before .before .before .before .before .before .before .before .before .before .facts .given .0 .0) (sym (c .before .before .before .before .before .before .before .before .before .before .before .before .before .before .opened .ensures) ∙ c .before .before .before .before .before .before .before .before .before .before .before .before .facts .given .1) (c .before .before .before .before .before .before .before .before .before .target .given .0 .0) (c .before .before .before .before .before .before .before .before .before .target .given .1) in
+    plan-refused (a .profile) b (a .len) (a .room) (a .used) (a .usage) (a .number) bytes (c .before .before .before .before .before .before .before .before .before .before .before .before .facts .given .0 .0) (c .before .before .before .before .before .before .before .before .before .target .given .0 .0) w (c .before .before .before .before .before .before .before .gone-size .result) (c .before .before .before .before .before .before .before .gone-size .ensures) (c .before .before .before .before .before .before .kept-number .result) (c .before .before .before .before .before .before .kept-number .ensures) (c .before .before .before .before .remove-fault .result) (c .before .before .before .with-room .result) (c .before .before .before .before .remove-fault .ensures) (c .before .before .before .with-room .ensures) (c .before .k2 .given .0 .0) (c .before .k2 .given .0 .1 .0) (c .before .k2 .given .1)
 
 -- src/lib.rt:165:1
 returns-4 : tie.Need-returns-4
@@ -140,8 +140,8 @@ returns-4 c =
     let a = c .before .before .before .before .before .before .before .before .before .before .before .before .before .before .before .args in
     let b = now (a .buf) in
     let bytes : All Byte (take (a .len) b) = all-take Byte (a .len) b (bytes-all b (λ i. omega (arith, c .before .before .before .before .before .before .before .before .before .before .before .before .before .before .shared-slice-known .given i))) in
-    let w = told b (a .len) (a .room) (a .used) (a .usage) (a .number) bytes 0 (c .before .before .before .before .before .before .before .before .before .before .before .facts .given .0 .0) (sym (c .before .before .before .before .before .before .before .before .before .before .before .before .before .opened .ensures) ∙ c .before .before .before .before .before .before .before .before .before .before .before .facts .given .1) (c .before .before .before .before .before .before .before .before .target .given .0 .0) (c .before .before .before .before .before .before .before .before .target .given .1) in
-    plan-fine b (a .len) (a .room) (a .used) (a .usage) (a .number) bytes (c .before .before .before .before .before .before .before .before .before .before .before .facts .given .0 .0) (c .before .before .before .before .before .before .before .before .target .given .0 .0) w (c .before .before .before .before .before .before .gone-size .result) (c .before .before .before .before .before .before .gone-size .ensures) (c .before .before .before .before .before .kept-number .result) (c .before .before .before .before .before .kept-number .ensures) (c .before .before .before .remove-fault .result) (c .before .before .with-room .result) (c .before .before .before .remove-fault .ensures) (c .before .before .with-room .ensures) (c .enum-told2 .given .1)
+    let w = told (a .profile) b (a .len) (a .room) (a .used) (a .usage) (a .number) bytes 0 (c .before .before .before .before .before .before .before .before .before .before .before .facts .given .0 .0) (sym (c .before .before .before .before .before .before .before .before .before .before .before .before .before .opened .ensures) ∙ c .before .before .before .before .before .before .before .before .before .before .before .facts .given .1) (c .before .before .before .before .before .before .before .before .target .given .0 .0) (c .before .before .before .before .before .before .before .before .target .given .1) in
+    plan-fine (a .profile) b (a .len) (a .room) (a .used) (a .usage) (a .number) bytes (c .before .before .before .before .before .before .before .before .before .before .before .facts .given .0 .0) (c .before .before .before .before .before .before .before .before .target .given .0 .0) w (c .before .before .before .before .before .before .gone-size .result) (c .before .before .before .before .before .before .gone-size .ensures) (c .before .before .before .before .before .kept-number .result) (c .before .before .before .before .before .kept-number .ensures) (c .before .before .before .remove-fault .result) (c .before .before .with-room .result) (c .before .before .before .remove-fault .ensures) (c .before .before .with-room .ensures) (c .enum-told2 .given .1)
 
 pub remove-plan-spec : {M : Type 1} → statement M
 remove-plan-spec =

@@ -30,7 +30,7 @@ same-length-2 c = search needs
 returns : tie.Need-returns
 returns c =
     let a = c .before .before .before .before .before .before .before .before .before .before .before .before .args in
-    called-as _ _ _ _ _ _ (λ i. edit (replace (c .before .before .before .before .before .before .before .before .code-of .ensures i) (a .number) (c .before .before .before .before .before .before .before .code-of2 .ensures i) (now (a .d)))) (c .before .before .before .before .replace-chunk .ensures)
+    called-as _ _ _ _ _ _ _ (λ i. edit (replace (c .before .before .before .before .before .before .before .before .code-of .ensures i) (a .number) (c .before .before .before .before .before .before .before .code-of2 .ensures i) (now (a .d)))) (c .before .before .before .before .replace-chunk .ensures)
 
 pub replace-spec : {M : Type 1} → statement M
 replace-spec =

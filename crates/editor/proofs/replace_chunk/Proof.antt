@@ -38,8 +38,8 @@ gone-size-requires c κs =
     let a = c .before .before .before .before .before .before .before .before .args in
     let b = now (a .buf) in
     let bytes : All Byte (take (a .len) b) = all-take Byte (a .len) b (bytes-all b (λ i. omega (arith, c .before .before .before .before .before .before .before .slice-known .given i))) in
-    let r = ready b (a .len) (length (now (a .jrn))) (a .used) (a .usage) (a .number) (a .kind) (now (a .d)) bytes (c .before .count .given .0 .0) (c .before .count .given .0 .1 .0) (sym (c .before .before .before .replace-plan .ensures) ∙ c .before .count .given .1) in
-    body-short b (a .len) (length (now (a .jrn))) (a .used) (a .usage) (a .number) bytes (c .before .count .given .0 .1 .0) (r .found) (r .piece-is)
+    let r = ready (a .profile) b (a .len) (length (now (a .jrn))) (a .used) (a .usage) (a .number) (a .kind) (now (a .d)) bytes (c .before .count .given .0 .0) (c .before .count .given .0 .1 .0) (sym (c .before .before .before .replace-plan .ensures) ∙ c .before .count .given .1) in
+    body-short (a .profile) b (a .len) (length (now (a .jrn))) (a .used) (a .usage) (a .number) bytes (c .before .count .given .0 .1 .0) (r .found) (r .piece-is)
 
 -- src/lib.rt:255:23
 cast-old : tie.Need-cast-old
@@ -79,8 +79,8 @@ part-put-record-end c =
     let a = c .before .before .before .before .before .before .before .before .before .before .before .before .before .args in
     let b = now (a .buf) in
     let bytes : All Byte (take (a .len) b) = all-take Byte (a .len) b (bytes-all b (λ i. omega (arith, c .before .before .before .before .before .before .before .before .before .before .before .before .slice-known .given i))) in
-    let r = ready b (a .len) (length (now (a .jrn))) (a .used) (a .usage) (a .number) (a .kind) (now (a .d)) bytes (c .before .before .before .before .before .before .count .given .0 .0) (c .before .before .before .before .before .before .count .given .0 .1 .0) (sym (c .before .before .before .before .before .before .before .before .replace-plan .ensures) ∙ c .before .before .before .before .before .before .count .given .1) in
-    part-in b (now (a .jrn)) (a .len) (a .used) (a .usage) (a .number) (a .kind) (now (a .d)) bytes (c .before .before .before .before .before .before .count .given .0 .0) (c .before .before .before .before .before .before .count .given .0 .1 .0) r
+    let r = ready (a .profile) b (a .len) (length (now (a .jrn))) (a .used) (a .usage) (a .number) (a .kind) (now (a .d)) bytes (c .before .before .before .before .before .before .count .given .0 .0) (c .before .before .before .before .before .before .count .given .0 .1 .0) (sym (c .before .before .before .before .before .before .before .before .replace-plan .ensures) ∙ c .before .before .before .before .before .before .count .given .1) in
+    part-in (a .profile) b (now (a .jrn)) (a .len) (a .used) (a .usage) (a .number) (a .kind) (now (a .d)) bytes (c .before .before .before .before .before .before .count .given .0 .0) (c .before .before .before .before .before .before .count .given .0 .1 .0) r
 
 -- src/lib.rt:259:13
 put-record-requires : tie.Need-put-record-requires
@@ -88,8 +88,8 @@ put-record-requires c κs =
     let a = c .before .before .before .before .before .before .before .before .before .before .before .before .before .before .args in
     let b = now (a .buf) in
     let bytes : All Byte (take (a .len) b) = all-take Byte (a .len) b (bytes-all b (λ i. omega (arith, c .before .before .before .before .before .before .before .before .before .before .before .before .before .slice-known .given i))) in
-    let r = ready b (a .len) (length (now (a .jrn))) (a .used) (a .usage) (a .number) (a .kind) (now (a .d)) bytes (c .before .before .before .before .before .before .before .count .given .0 .0) (c .before .before .before .before .before .before .before .count .given .0 .1 .0) (sym (c .before .before .before .before .before .before .before .before .before .replace-plan .ensures) ∙ c .before .before .before .before .before .before .before .count .given .1) in
-    record-room b (now (a .jrn)) (a .len) (a .used) (a .usage) (a .number) (a .kind) (now (a .d)) bytes (c .before .before .before .before .before .before .before .count .given .0 .0) (c .before .before .before .before .before .before .before .count .given .0 .1 .0) r
+    let r = ready (a .profile) b (a .len) (length (now (a .jrn))) (a .used) (a .usage) (a .number) (a .kind) (now (a .d)) bytes (c .before .before .before .before .before .before .before .count .given .0 .0) (c .before .before .before .before .before .before .before .count .given .0 .1 .0) (sym (c .before .before .before .before .before .before .before .before .before .replace-plan .ensures) ∙ c .before .before .before .before .before .before .before .count .given .1) in
+    record-room (a .profile) b (now (a .jrn)) (a .len) (a .used) (a .usage) (a .number) (a .kind) (now (a .d)) bytes (c .before .before .before .before .before .before .before .count .given .0 .0) (c .before .before .before .before .before .before .before .count .given .0 .1 .0) r
 
 -- src/lib.rt:268:66
 cast-replace-bytes : tie.Need-cast-replace-bytes
@@ -101,8 +101,8 @@ replace-bytes-requires c κs =
     let a = c .before .before .before .before .before .before .before .before .before .before .before .before .before .before .before .before .before .before .args in
     let b = now (a .buf) in
     let bytes : All Byte (take (a .len) b) = all-take Byte (a .len) b (bytes-all b (λ i. omega (arith, c .before .before .before .before .before .before .before .before .before .before .before .before .before .before .before .before .before .slice-known .given i))) in
-    let r = ready b (a .len) (length (now (a .jrn))) (a .used) (a .usage) (a .number) (a .kind) (now (a .d)) bytes (c .before .before .before .before .before .before .before .before .before .before .before .count .given .0 .0) (c .before .before .before .before .before .before .before .before .before .before .before .count .given .0 .1 .0) (sym (c .before .before .before .before .before .before .before .before .before .before .before .before .before .replace-plan .ensures) ∙ c .before .before .before .before .before .before .before .before .before .before .before .count .given .1) in
-    replaceable b (a .len) (length (now (a .jrn))) (a .used) (a .usage) (a .number) (a .kind) (now (a .d)) bytes (c .before .before .before .before .before .before .before .before .before .before .before .count .given .0 .0) (c .before .before .before .before .before .before .before .before .before .before .before .count .given .0 .1 .0) r (c .before .before .before .before .before .before .before .before .before .gone-size .result) (c .before .before .before .before .before .before .before .before .before .gone-size .ensures)
+    let r = ready (a .profile) b (a .len) (length (now (a .jrn))) (a .used) (a .usage) (a .number) (a .kind) (now (a .d)) bytes (c .before .before .before .before .before .before .before .before .before .before .before .count .given .0 .0) (c .before .before .before .before .before .before .before .before .before .before .before .count .given .0 .1 .0) (sym (c .before .before .before .before .before .before .before .before .before .before .before .before .before .replace-plan .ensures) ∙ c .before .before .before .before .before .before .before .before .before .before .before .count .given .1) in
+    replaceable (a .profile) b (a .len) (length (now (a .jrn))) (a .used) (a .usage) (a .number) (a .kind) (now (a .d)) bytes (c .before .before .before .before .before .before .before .before .before .before .before .count .given .0 .0) (c .before .before .before .before .before .before .before .before .before .before .before .count .given .0 .1 .0) r (c .before .before .before .before .before .before .before .before .before .gone-size .result) (c .before .before .before .before .before .before .before .before .before .gone-size .ensures)
 
 -- src/lib.rt:269:24
 sub-size : tie.Need-sub-size
@@ -110,8 +110,8 @@ sub-size c =
     let a = c .before .before .before .before .before .before .before .before .before .before .before .before .before .before .before .before .before .before .before .before .before .args in
     let b = now (a .buf) in
     let bytes : All Byte (take (a .len) b) = all-take Byte (a .len) b (bytes-all b (λ i. omega (arith, c .before .before .before .before .before .before .before .before .before .before .before .before .before .before .before .before .before .before .before .before .slice-known .given i))) in
-    let r = ready b (a .len) (length (now (a .jrn))) (a .used) (a .usage) (a .number) (a .kind) (now (a .d)) bytes (c .before .before .before .before .before .before .before .before .before .before .before .before .before .before .count .given .0 .0) (c .before .before .before .before .before .before .before .before .before .before .before .before .before .before .count .given .0 .1 .0) (sym (c .before .before .before .before .before .before .before .before .before .before .before .before .before .before .before .before .replace-plan .ensures) ∙ c .before .before .before .before .before .before .before .before .before .before .before .before .before .before .count .given .1) in
-    inside b (a .len) (length (now (a .jrn))) (a .used) (a .usage) (a .number) (a .kind) (now (a .d)) bytes (c .before .before .before .before .before .before .before .before .before .before .before .before .before .before .count .given .0 .1 .0) (r .found) (r .piece-is) (c .before .before .before .before .before .before .before .before .before .before .before .before .gone-size .result) (c .before .before .before .before .before .before .before .before .before .before .before .before .gone-size .ensures)
+    let r = ready (a .profile) b (a .len) (length (now (a .jrn))) (a .used) (a .usage) (a .number) (a .kind) (now (a .d)) bytes (c .before .before .before .before .before .before .before .before .before .before .before .before .before .before .count .given .0 .0) (c .before .before .before .before .before .before .before .before .before .before .before .before .before .before .count .given .0 .1 .0) (sym (c .before .before .before .before .before .before .before .before .before .before .before .before .before .before .before .before .replace-plan .ensures) ∙ c .before .before .before .before .before .before .before .before .before .before .before .before .before .before .count .given .1) in
+    inside (a .profile) b (a .len) (length (now (a .jrn))) (a .used) (a .usage) (a .number) (a .kind) (now (a .d)) bytes (c .before .before .before .before .before .before .before .before .before .before .before .before .before .before .count .given .0 .1 .0) (r .found) (r .piece-is) (c .before .before .before .before .before .before .before .before .before .before .before .before .gone-size .result) (c .before .before .before .before .before .before .before .before .before .before .before .before .gone-size .ensures)
 
 -- src/lib.rt:269:42
 add-size : tie.Need-add-size
@@ -127,8 +127,8 @@ add-size-3 c =
     let a = c .before .before .before .before .before .before .before .before .before .before .before .before .before .before .before .before .before .before .before .before .before .args in
     let b = now (a .buf) in
     let bytes : All Byte (take (a .len) b) = all-take Byte (a .len) b (bytes-all b (λ i. omega (arith, c .before .before .before .before .before .before .before .before .before .before .before .before .before .before .before .before .before .before .before .before .slice-known .given i))) in
-    let r = ready b (a .len) (length (now (a .jrn))) (a .used) (a .usage) (a .number) (a .kind) (now (a .d)) bytes (c .before .before .before .before .before .before .before .before .before .before .before .before .before .before .count .given .0 .0) (c .before .before .before .before .before .before .before .before .before .before .before .before .before .before .count .given .0 .1 .0) (sym (c .before .before .before .before .before .before .before .before .before .before .before .before .before .before .before .before .replace-plan .ensures) ∙ c .before .before .before .before .before .before .before .before .before .before .before .before .before .before .count .given .1) in
-    omega (arith, length-now b (a .len) (length (now (a .jrn))) (a .used) (a .usage) (a .number) (a .kind) (now (a .d)) bytes (c .before .before .before .before .before .before .before .before .before .before .before .before .before .before .count .given .0 .1 .0) (r .found) (r .piece-is) (c .before .before .before .before .before .before .before .before .before .before .before .before .gone-size .result) (c .before .before .before .before .before .before .before .before .before .before .before .before .gone-size .ensures), r .short)
+    let r = ready (a .profile) b (a .len) (length (now (a .jrn))) (a .used) (a .usage) (a .number) (a .kind) (now (a .d)) bytes (c .before .before .before .before .before .before .before .before .before .before .before .before .before .before .count .given .0 .0) (c .before .before .before .before .before .before .before .before .before .before .before .before .before .before .count .given .0 .1 .0) (sym (c .before .before .before .before .before .before .before .before .before .before .before .before .before .before .before .before .replace-plan .ensures) ∙ c .before .before .before .before .before .before .before .before .before .before .before .before .before .before .count .given .1) in
+    omega (arith, length-now (a .profile) b (a .len) (length (now (a .jrn))) (a .used) (a .usage) (a .number) (a .kind) (now (a .d)) bytes (c .before .before .before .before .before .before .before .before .before .before .before .before .before .before .count .given .0 .1 .0) (r .found) (r .piece-is) (c .before .before .before .before .before .before .before .before .before .before .before .before .gone-size .result) (c .before .before .before .before .before .before .before .before .before .before .before .before .gone-size .ensures), r .short)
 
 -- src/lib.rt:270:45
 cast-done : tie.Need-cast-done
@@ -144,8 +144,8 @@ add-done-2 c =
     let a = c .before .before .before .before .before .before .before .before .before .before .before .before .before .before .before .before .before .before .before .before .before .before .args in
     let b = now (a .buf) in
     let bytes : All Byte (take (a .len) b) = all-take Byte (a .len) b (bytes-all b (λ i. omega (arith, c .before .before .before .before .before .before .before .before .before .before .before .before .before .before .before .before .before .before .before .before .before .slice-known .given i))) in
-    let r = ready b (a .len) (length (now (a .jrn))) (a .used) (a .usage) (a .number) (a .kind) (now (a .d)) bytes (c .before .before .before .before .before .before .before .before .before .before .before .before .before .before .before .count .given .0 .0) (c .before .before .before .before .before .before .before .before .before .before .before .before .before .before .before .count .given .0 .1 .0) (sym (c .before .before .before .before .before .before .before .before .before .before .before .before .before .before .before .before .before .replace-plan .ensures) ∙ c .before .before .before .before .before .before .before .before .before .before .before .before .before .before .before .count .given .1) in
-    omega (arith, used-room b (now (a .jrn)) (a .len) (a .used) (a .usage) (a .number) (a .kind) (now (a .d)) bytes (c .before .before .before .before .before .before .before .before .before .before .before .before .before .before .before .count .given .0 .0) (c .before .before .before .before .before .before .before .before .before .before .before .before .before .before .before .count .given .0 .1 .0) r, c .before .before .before .before .before .before .before .before .before .before .before .before .before .before .before .before .before .before .before .before .before .before .good, c .before .before .before .before .before .before .before .before .before .before .before .before .before .before .before .before .before .before .before .before .before .before .fits)
+    let r = ready (a .profile) b (a .len) (length (now (a .jrn))) (a .used) (a .usage) (a .number) (a .kind) (now (a .d)) bytes (c .before .before .before .before .before .before .before .before .before .before .before .before .before .before .before .count .given .0 .0) (c .before .before .before .before .before .before .before .before .before .before .before .before .before .before .before .count .given .0 .1 .0) (sym (c .before .before .before .before .before .before .before .before .before .before .before .before .before .before .before .before .before .replace-plan .ensures) ∙ c .before .before .before .before .before .before .before .before .before .before .before .before .before .before .before .count .given .1) in
+    omega (arith, used-room (a .profile) b (now (a .jrn)) (a .len) (a .used) (a .usage) (a .number) (a .kind) (now (a .d)) bytes (c .before .before .before .before .before .before .before .before .before .before .before .before .before .before .before .count .given .0 .0) (c .before .before .before .before .before .before .before .before .before .before .before .before .before .before .before .count .given .0 .1 .0) r, c .before .before .before .before .before .before .before .before .before .before .before .before .before .before .before .before .before .before .before .before .before .before .good, c .before .before .before .before .before .before .before .before .before .before .before .before .before .before .before .before .before .before .before .before .before .before .fits)
 
 -- src/lib.rt:270:13
 done-requires : tie.Need-done-requires
@@ -160,7 +160,7 @@ returns : tie.Need-returns
 unfolding fault
 returns c =
     let a = c .before .before .before .before .before .before .before .before .before .args in
-    gave-refused (state (now (a .buf)) (a .len) (now (a .jrn)) (a .used)) (edit (replace (a .usage) (a .number) (a .kind) (now (a .d)))) (c .refused .result) (c .before .before .k .given .0 .0) (c .before .before .k .given .0 .1 .0) (c .refused .ensures)
+    gave-refused (a .profile) (state (now (a .buf)) (a .len) (now (a .jrn)) (a .used)) (edit (replace (a .usage) (a .number) (a .kind) (now (a .d)))) (c .refused .result) (c .before .before .k .given .0 .0) (c .before .before .k .given .0 .1 .0) (c .refused .ensures)
     (change-no _ _ _ _ _ _ (sym (c .before .before .before .before .replace-plan .ensures) ∙ c .before .before .k .given .1))
 
 -- src/lib.rt:248:1
@@ -177,8 +177,8 @@ returns-2 c =
     let a = c .before .before .before .before .before .before .before .before .before .before .before .before .before .before .before .before .before .before .before .before .before .before .before .args in
     let b = now (a .buf) in
     let bytes : All Byte (take (a .len) b) = all-take Byte (a .len) b (bytes-all b (λ i. omega (arith, c .before .before .before .before .before .before .before .before .before .before .before .before .before .before .before .before .before .before .before .before .before .before .slice-known .given i))) in
-    let r = ready b (a .len) (length (now (a .jrn))) (a .used) (a .usage) (a .number) (a .kind) (now (a .d)) bytes (c .before .before .before .before .before .before .before .before .before .before .before .before .before .before .before .before .count .given .0 .0) (c .before .before .before .before .before .before .before .before .before .before .before .before .before .before .before .before .count .given .0 .1 .0) (sym (c .before .before .before .before .before .before .before .before .before .before .before .before .before .before .before .before .before .before .replace-plan .ensures) ∙ c .before .before .before .before .before .before .before .before .before .before .before .before .before .before .before .before .count .given .1) in
-    made b (now (a .jrn)) (a .len) (a .used) (a .usage) (a .number) (a .kind) (now (a .d)) bytes (c .before .before .before .before .before .before .before .before .before .before .before .before .before .before .before .before .count .given .0 .0) (c .before .before .before .before .before .before .before .before .before .before .before .before .before .before .before .before .count .given .0 .1 .0) r (c .before .before .before .before .before .before .before .before .before .before .before .before .before .before .gone-size .result) (c .done .result) _ _ (c .before .before .before .before .before .before .before .before .before .before .before .before .before .before .gone-size .ensures) (c .done .ensures) (c .before .before .before .before .replace-bytes .ensures) (c .before .before .before .before .before .before .before .before .put-record .ensures)
+    let r = ready (a .profile) b (a .len) (length (now (a .jrn))) (a .used) (a .usage) (a .number) (a .kind) (now (a .d)) bytes (c .before .before .before .before .before .before .before .before .before .before .before .before .before .before .before .before .count .given .0 .0) (c .before .before .before .before .before .before .before .before .before .before .before .before .before .before .before .before .count .given .0 .1 .0) (sym (c .before .before .before .before .before .before .before .before .before .before .before .before .before .before .before .before .before .before .replace-plan .ensures) ∙ c .before .before .before .before .before .before .before .before .before .before .before .before .before .before .before .before .count .given .1) in
+    made (a .profile) b (now (a .jrn)) (a .len) (a .used) (a .usage) (a .number) (a .kind) (now (a .d)) bytes (c .before .before .before .before .before .before .before .before .before .before .before .before .before .before .before .before .count .given .0 .0) (c .before .before .before .before .before .before .before .before .before .before .before .before .before .before .before .before .count .given .0 .1 .0) r (c .before .before .before .before .before .before .before .before .before .before .before .before .before .before .gone-size .result) (c .done .result) _ _ (c .before .before .before .before .before .before .before .before .before .before .before .before .before .before .gone-size .ensures) (c .done .ensures) (c .before .before .before .before .replace-bytes .ensures) (c .before .before .before .before .before .before .before .before .put-record .ensures)
 
 pub replace-chunk-spec : {M : Type 1} → statement M
 replace-chunk-spec =

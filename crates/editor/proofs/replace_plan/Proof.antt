@@ -39,7 +39,7 @@ returns c =
     let a = c .before .before .before .before .before .before .before .before .args in
     let b = now (a .buf) in
     let bytes : All Byte (take (a .len) b) = all-take Byte (a .len) b (bytes-all b (λ i. omega (arith, c .before .before .before .before .before .before .before .shared-slice-known .given i))) in
-    plan-22 b (a .len) (a .room) (a .used) (a .usage) (a .number) (a .kind) (now (a .d)) bytes 0 (c .before .before .before .facts .given .0 .0) (sym (c .before .before .before .before .before .opened .ensures) ∙ c .before .before .before .facts .given .1) (c .enum-told .given .1)
+    plan-22 (a .profile) b (a .len) (a .room) (a .used) (a .usage) (a .number) (a .kind) (now (a .d)) bytes 0 (c .before .before .before .facts .given .0 .0) (sym (c .before .before .before .before .before .opened .ensures) ∙ c .before .before .before .facts .given .1) (c .enum-told .given .1)
 
 -- src/lib.rt:231:17
 returns-2 : tie.Need-returns-2
@@ -47,8 +47,8 @@ returns-2 c =
     let a = c .before .before .before .before .before .before .before .before .before .before .args in
     let b = now (a .buf) in
     let bytes : All Byte (take (a .len) b) = all-take Byte (a .len) b (bytes-all b (λ i. omega (arith, c .before .before .before .before .before .before .before .before .before .shared-slice-known .given i))) in
-    let w = told b (a .len) (a .room) (a .used) (a .usage) (a .number) bytes 0 (c .before .before .before .before .before .facts .given .0 .0) (sym (c .before .before .before .before .before .before .before .opened .ensures) ∙ c .before .before .before .before .before .facts .given .1) (c .before .before .target .given .0 .0) (c .before .before .target .given .1) in
-    plan-23 b (a .len) (a .room) (a .used) (a .usage) (a .number) (a .kind) (now (a .d)) bytes (c .before .before .before .before .before .facts .given .0 .0) (c .before .before .target .given .0 .0) w (c .if1 .taken)
+    let w = told (a .profile) b (a .len) (a .room) (a .used) (a .usage) (a .number) bytes 0 (c .before .before .before .before .before .facts .given .0 .0) (sym (c .before .before .before .before .before .before .before .opened .ensures) ∙ c .before .before .before .before .before .facts .given .1) (c .before .before .target .given .0 .0) (c .before .before .target .given .1) in
+    plan-23 (a .profile) b (a .len) (a .room) (a .used) (a .usage) (a .number) (a .kind) (now (a .d)) bytes (c .before .before .before .before .before .facts .given .0 .0) (c .before .before .target .given .0 .0) w (c .if1 .taken)
 
 -- src/lib.rt:233:17
 gone-size-requires : tie.Need-gone-size-requires
@@ -56,8 +56,8 @@ gone-size-requires c κs =
     let a = c .before .before .before .before .before .before .before .before .before .before .args in
     let b = now (a .buf) in
     let bytes : All Byte (take (a .len) b) = all-take Byte (a .len) b (bytes-all b (λ i. omega (arith, c .before .before .before .before .before .before .before .before .before .shared-slice-known .given i))) in
-    let w = told b (a .len) (a .room) (a .used) (a .usage) (a .number) bytes 0 (c .before .before .before .before .before .facts .given .0 .0) (sym (c .before .before .before .before .before .before .before .opened .ensures) ∙ c .before .before .before .before .before .facts .given .1) (c .before .before .target .given .0 .0) (c .before .before .target .given .1) in
-    body-short b (a .len) (a .room) (a .used) (a .usage) (a .number) bytes (c .before .before .target .given .0 .0) (w .found) (w .piece-is)
+    let w = told (a .profile) b (a .len) (a .room) (a .used) (a .usage) (a .number) bytes 0 (c .before .before .before .before .before .facts .given .0 .0) (sym (c .before .before .before .before .before .before .before .opened .ensures) ∙ c .before .before .before .before .before .facts .given .1) (c .before .before .target .given .0 .0) (c .before .before .target .given .1) in
+    body-short (a .profile) b (a .len) (a .room) (a .used) (a .usage) (a .number) bytes (c .before .before .target .given .0 .0) (w .found) (w .piece-is)
 
 -- src/lib.rt:235:47
 slice-aggregate-replace-fault : tie.Need-slice-aggregate-replace-fault
@@ -65,7 +65,7 @@ slice-aggregate-replace-fault c =
     let a = c .before .before .before .before .before .before .before .before .before .before .before .before .args in
     let b = now (a .buf) in
     let bytes : All Byte (take (a .len) b) = all-take Byte (a .len) b (bytes-all b (λ i. omega (arith, c .before .before .before .before .before .before .before .before .before .before .before .shared-slice-known .given i))) in
-    let w = told b (a .len) (a .room) (a .used) (a .usage) (a .number) bytes 0 (c .before .before .before .before .before .before .before .facts .given .0 .0) (sym (c .before .before .before .before .before .before .before .before .before .opened .ensures) ∙ c .before .before .before .before .before .before .before .facts .given .1) (c .before .before .before .before .target .given .0 .0) (c .before .before .before .before .target .given .1) in
+    let w = told (a .profile) b (a .len) (a .room) (a .used) (a .usage) (a .number) bytes 0 (c .before .before .before .before .before .before .before .facts .given .0 .0) (sym (c .before .before .before .before .before .before .before .before .before .opened .ensures) ∙ c .before .before .before .before .before .before .before .facts .given .1) (c .before .before .before .before .target .given .0 .0) (c .before .before .before .before .target .given .1) in
     sym (length-take-le (a .len) b (w .found .stands .inside))
 
 -- src/lib.rt:235:17
@@ -74,8 +74,8 @@ replace-fault-requires c κs =
     let a = c .before .before .before .before .before .before .before .before .before .before .before .before .args in
     let b = now (a .buf) in
     let bytes : All Byte (take (a .len) b) = all-take Byte (a .len) b (bytes-all b (λ i. omega (arith, c .before .before .before .before .before .before .before .before .before .before .before .shared-slice-known .given i))) in
-    let w = told b (a .len) (a .room) (a .used) (a .usage) (a .number) bytes 0 (c .before .before .before .before .before .before .before .facts .given .0 .0) (sym (c .before .before .before .before .before .before .before .before .before .opened .ensures) ∙ c .before .before .before .before .before .before .before .facts .given .1) (c .before .before .before .before .target .given .0 .0) (c .before .before .before .before .target .given .1) in
-    own b (a .len) (a .room) (a .used) (a .usage) (a .number) (a .kind) (now (a .d)) bytes (c .before .before .before .before .before .before .before .facts .given .0 .0) (c .before .before .before .before .target .given .0 .0) w (c .before .before .if1 .left)
+    let w = told (a .profile) b (a .len) (a .room) (a .used) (a .usage) (a .number) bytes 0 (c .before .before .before .before .before .before .before .facts .given .0 .0) (sym (c .before .before .before .before .before .before .before .before .before .opened .ensures) ∙ c .before .before .before .before .before .before .before .facts .given .1) (c .before .before .before .before .target .given .0 .0) (c .before .before .before .before .target .given .1) in
+    own (a .profile) b (a .len) (a .room) (a .used) (a .usage) (a .number) (a .kind) (now (a .d)) bytes (c .before .before .before .before .before .before .before .facts .given .0 .0) (c .before .before .before .before .target .given .0 .0) w (c .before .before .if1 .left)
 
 -- src/lib.rt:237:30
 cast-size : tie.Need-cast-size
@@ -87,8 +87,8 @@ sub-size c =
     let a = c .before .before .before .before .before .before .before .before .before .before .before .before .before .args in
     let b = now (a .buf) in
     let bytes : All Byte (take (a .len) b) = all-take Byte (a .len) b (bytes-all b (λ i. omega (arith, c .before .before .before .before .before .before .before .before .before .before .before .before .shared-slice-known .given i))) in
-    let w = told b (a .len) (a .room) (a .used) (a .usage) (a .number) bytes 0 (c .before .before .before .before .before .before .before .before .facts .given .0 .0) (sym (c .before .before .before .before .before .before .before .before .before .before .opened .ensures) ∙ c .before .before .before .before .before .before .before .before .facts .given .1) (c .before .before .before .before .before .target .given .0 .0) (c .before .before .before .before .before .target .given .1) in
-    inside b (a .len) (a .room) (a .used) (a .usage) (a .number) (a .kind) (now (a .d)) bytes (c .before .before .before .before .before .target .given .0 .0) (w .found) (w .piece-is) (c .before .before .gone-size .result) (c .before .before .gone-size .ensures)
+    let w = told (a .profile) b (a .len) (a .room) (a .used) (a .usage) (a .number) bytes 0 (c .before .before .before .before .before .before .before .before .facts .given .0 .0) (sym (c .before .before .before .before .before .before .before .before .before .before .opened .ensures) ∙ c .before .before .before .before .before .before .before .before .facts .given .1) (c .before .before .before .before .before .target .given .0 .0) (c .before .before .before .before .before .target .given .1) in
+    inside (a .profile) b (a .len) (a .room) (a .used) (a .usage) (a .number) (a .kind) (now (a .d)) bytes (c .before .before .before .before .before .target .given .0 .0) (w .found) (w .piece-is) (c .before .before .gone-size .result) (c .before .before .gone-size .ensures)
 
 -- src/lib.rt:237:51
 add-size : tie.Need-add-size
@@ -104,7 +104,7 @@ add-size-3 c =
     let a = c .before .before .before .before .before .before .before .before .before .before .before .before .before .args in
     let b = now (a .buf) in
     let bytes : All Byte (take (a .len) b) = all-take Byte (a .len) b (bytes-all b (λ i. omega (arith, c .before .before .before .before .before .before .before .before .before .before .before .before .shared-slice-known .given i))) in
-    let w = told b (a .len) (a .room) (a .used) (a .usage) (a .number) bytes 0 (c .before .before .before .before .before .before .before .before .facts .given .0 .0) (sym (c .before .before .before .before .before .before .before .before .before .before .opened .ensures) ∙ c .before .before .before .before .before .before .before .before .facts .given .1) (c .before .before .before .before .before .target .given .0 .0) (c .before .before .before .before .before .target .given .1) in
+    let w = told (a .profile) b (a .len) (a .room) (a .used) (a .usage) (a .number) bytes 0 (c .before .before .before .before .before .before .before .before .facts .given .0 .0) (sym (c .before .before .before .before .before .before .before .before .before .before .opened .ensures) ∙ c .before .before .before .before .before .before .before .before .facts .given .1) (c .before .before .before .before .before .target .given .0 .0) (c .before .before .before .before .before .target .given .1) in
     omega (arith, w .found .stands .short, c .before .before .before .before .before .before .before .before .before .before .before .before .before .good, c .before .before .before .before .before .before .before .before .before .before .before .before .before .fits)
 
 -- src/lib.rt:238:29
@@ -121,7 +121,7 @@ sub-with-room c =
     let a = c .before .before .before .before .before .before .before .before .before .before .before .before .before .before .args in
     let b = now (a .buf) in
     let bytes : All Byte (take (a .len) b) = all-take Byte (a .len) b (bytes-all b (λ i. omega (arith, c .before .before .before .before .before .before .before .before .before .before .before .before .before .shared-slice-known .given i))) in
-    let w = told b (a .len) (a .room) (a .used) (a .usage) (a .number) bytes 0 (c .before .before .before .before .before .before .before .before .before .facts .given .0 .0) (sym (c .before .before .before .before .before .before .before .before .before .before .before .opened .ensures) ∙ c .before .before .before .before .before .before .before .before .before .facts .given .1) (c .before .before .before .before .before .before .target .given .0 .0) (c .before .before .before .before .before .before .target .given .1) in
+    let w = told (a .profile) b (a .len) (a .room) (a .used) (a .usage) (a .number) bytes 0 (c .before .before .before .before .before .before .before .before .before .facts .given .0 .0) (sym (c .before .before .before .before .before .before .before .before .before .before .before .opened .ensures) ∙ c .before .before .before .before .before .before .before .before .before .facts .given .1) (c .before .before .before .before .before .before .target .given .0 .0) (c .before .before .before .before .before .before .target .given .1) in
     w .found .used-in
 
 -- src/lib.rt:239:19
@@ -142,7 +142,7 @@ returns-3 c =
     let a = c .before .before .before .before .before .before .args in
     let b = now (a .buf) in
     let bytes : All Byte (take (a .len) b) = all-take Byte (a .len) b (bytes-all b (λ i. omega (arith, c .before .before .before .before .before .shared-slice-known .given i))) in
-    plan-unopened b (a .len) (a .room) (a .used) (a .usage) (a .number) (a .kind) (now (a .d)) bytes 0 (c .before .k .given .0 .0) (c .before .k .given .0 .1 .0) (sym (c .before .before .before .opened .ensures) ∙ c .before .k .given .1)
+    plan-unopened (a .profile) b (a .len) (a .room) (a .used) (a .usage) (a .number) (a .kind) (now (a .d)) bytes 0 (c .before .k .given .0 .0) (c .before .k .given .0 .1 .0) (sym (c .before .before .before .opened .ensures) ∙ c .before .k .given .1)
 
 -- src/lib.rt:220:1
 returns-4 : tie.Need-returns-4
@@ -150,8 +150,8 @@ returns-4 c =
     let a = c .before .before .before .before .before .before .before .before .before .before .before .before .before .before .before .before .before .before .args in
     let b = now (a .buf) in
     let bytes : All Byte (take (a .len) b) = all-take Byte (a .len) b (bytes-all b (λ i. omega (arith, c .before .before .before .before .before .before .before .before .before .before .before .before .before .before .before .before .before .shared-slice-known .given i))) in
-    let w = told b (a .len) (a .room) (a .used) (a .usage) (a .number) bytes 0 (c .before .before .before .before .before .before .before .before .before .before .before .before .before .facts .given .0 .0) (sym (c .before .before .before .before .before .before .before .before .before .before .before .before .before .before .before .opened .ensures) ∙ c .before .before .before .before .before .before .before .before .before .before .before .before .before .facts .given .1) (c .before .before .before .before .before .before .before .before .before .before .target .given .0 .0) (c .before .before .before .before .before .before .before .before .before .before .target .given .1) in
-    plan-refused b (a .len) (a .room) (a .used) (a .usage) (a .number) (a .kind) (now (a .d)) bytes (c .before .before .before .before .before .before .before .before .before .before .before .before .before .facts .given .0 .0) (c .before .before .before .before .before .before .before .before .before .before .target .given .0 .0) w (c .before .before .before .before .before .before .before .before .if1 .left) (c .before .before .before .before .before .before .before .gone-size .result) (c .before .before .before .before .before .before .before .gone-size .ensures) (c .before .before .before .before .before .replace-fault .result) (c .before .before .before .with-room .result) (c .before .before .before .before .before .replace-fault .ensures) (c .before .before .before .with-room .ensures) (c .before .k2 .given .0 .0) (c .before .k2 .given .0 .1 .0) (c .before .k2 .given .1)
+    let w = told (a .profile) b (a .len) (a .room) (a .used) (a .usage) (a .number) bytes 0 (c .before .before .before .before .before .before .before .before .before .before .before .before .before .facts .given .0 .0) (sym (c .before .before .before .before .before .before .before .before .before .before .before .before .before .before .before .opened .ensures) ∙ c .before .before .before .before .before .before .before .before .before .before .before .before .before .facts .given .1) (c .before .before .before .before .before .before .before .before .before .before .target .given .0 .0) (c .before .before .before .before .before .before .before .before .before .before .target .given .1) in
+    plan-refused (a .profile) b (a .len) (a .room) (a .used) (a .usage) (a .number) (a .kind) (now (a .d)) bytes (c .before .before .before .before .before .before .before .before .before .before .before .before .before .facts .given .0 .0) (c .before .before .before .before .before .before .before .before .before .before .target .given .0 .0) w (c .before .before .before .before .before .before .before .before .if1 .left) (c .before .before .before .before .before .before .before .gone-size .result) (c .before .before .before .before .before .before .before .gone-size .ensures) (c .before .before .before .before .before .replace-fault .result) (c .before .before .before .with-room .result) (c .before .before .before .before .before .replace-fault .ensures) (c .before .before .before .with-room .ensures) (c .before .k2 .given .0 .0) (c .before .k2 .given .0 .1 .0) (c .before .k2 .given .1)
 
 -- src/lib.rt:220:1
 returns-5 : tie.Need-returns-5
@@ -159,8 +159,8 @@ returns-5 c =
     let a = c .before .before .before .before .before .before .before .before .before .before .before .before .before .before .before .before .before .args in
     let b = now (a .buf) in
     let bytes : All Byte (take (a .len) b) = all-take Byte (a .len) b (bytes-all b (λ i. omega (arith, c .before .before .before .before .before .before .before .before .before .before .before .before .before .before .before .before .shared-slice-known .given i))) in
-    let w = told b (a .len) (a .room) (a .used) (a .usage) (a .number) bytes 0 (c .before .before .before .before .before .before .before .before .before .before .before .before .facts .given .0 .0) (sym (c .before .before .before .before .before .before .before .before .before .before .before .before .before .before .opened .ensures) ∙ c .before .before .before .before .before .before .before .before .before .before .before .before .facts .given .1) (c .before .before .before .before .before .before .before .before .before .target .given .0 .0) (c .before .before .before .before .before .before .before .before .before .target .given .1) in
-    plan-fine b (a .len) (a .room) (a .used) (a .usage) (a .number) (a .kind) (now (a .d)) bytes (c .before .before .before .before .before .before .before .before .before .before .before .before .facts .given .0 .0) (c .before .before .before .before .before .before .before .before .before .target .given .0 .0) w (c .before .before .before .before .before .before .before .if1 .left) (c .before .before .before .before .before .before .gone-size .result) (c .before .before .before .before .before .before .gone-size .ensures) (c .before .before .before .before .replace-fault .result) (c .before .before .with-room .result) (c .before .before .before .before .replace-fault .ensures) (c .before .before .with-room .ensures) (c .enum-told2 .given .1)
+    let w = told (a .profile) b (a .len) (a .room) (a .used) (a .usage) (a .number) bytes 0 (c .before .before .before .before .before .before .before .before .before .before .before .before .facts .given .0 .0) (sym (c .before .before .before .before .before .before .before .before .before .before .before .before .before .before .opened .ensures) ∙ c .before .before .before .before .before .before .before .before .before .before .before .before .facts .given .1) (c .before .before .before .before .before .before .before .before .before .target .given .0 .0) (c .before .before .before .before .before .before .before .before .before .target .given .1) in
+    plan-fine (a .profile) b (a .len) (a .room) (a .used) (a .usage) (a .number) (a .kind) (now (a .d)) bytes (c .before .before .before .before .before .before .before .before .before .before .before .before .facts .given .0 .0) (c .before .before .before .before .before .before .before .before .before .target .given .0 .0) w (c .before .before .before .before .before .before .before .if1 .left) (c .before .before .before .before .before .before .gone-size .result) (c .before .before .before .before .before .before .gone-size .ensures) (c .before .before .before .before .replace-fault .result) (c .before .before .with-room .result) (c .before .before .before .before .replace-fault .ensures) (c .before .before .with-room .ensures) (c .enum-told2 .given .1)
 
 pub replace-plan-spec : {M : Type 1} → statement M
 replace-plan-spec =

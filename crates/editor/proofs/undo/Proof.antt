@@ -36,19 +36,19 @@ write-back-requires c κs =
     let a = c .before .before .before .before .before .before .before .before .before .args in
     let b = now (a .buf) in
     let bytes : All Byte b = bytes-all b (λ i. omega (arith, c .before .before .before .before .before .before .before .before .slice-known .given i)) in
-    undo-plan-to b (a .len) (now (a .jrn)) (a .used) _ _ _ _ _ bytes (sym (c .before .before .before .before .before .undo-plan .ensures) ∙ c .before .before .before .count .given .1)
+    (a .profile, undo-plan-to (a .profile) b (a .len) (now (a .jrn)) (a .used) _ _ _ _ _ bytes (sym (c .before .before .before .before .before .undo-plan .ensures) ∙ c .before .before .before .count .given .1))
 
 -- src/lib.rt:288:31
-add-t22 : tie.Need-add-t22
-add-t22 c = search needs
+add-t23 : tie.Need-add-t23
+add-t23 c = search needs
 
 -- src/lib.rt:288:23
-sub-t23 : tie.Need-sub-t23
-sub-t23 c =
+sub-t24 : tie.Need-sub-t24
+sub-t24 c =
     let a = c .before .before .before .before .before .before .before .before .before .before .before .before .args in
     let b = now (a .buf) in
     let bytes : All Byte b = bytes-all b (λ i. omega (arith, c .before .before .before .before .before .before .before .before .before .before .before .slice-known .given i)) in
-    let w = ready b (a .len) (now (a .jrn)) (a .used) _ _ _ _ _ bytes (sym (c .before .before .before .before .before .before .before .before .undo-plan .ensures) ∙ c .before .before .before .before .before .before .count .given .1) in
+    let w = ready (a .profile) b (a .len) (now (a .jrn)) (a .used) _ _ _ _ _ bytes (sym (c .before .before .before .before .before .before .before .before .undo-plan .ensures) ∙ c .before .before .before .before .before .before .count .given .1) in
     w .ends .room
 
 -- src/lib.rt:273:1
@@ -59,7 +59,7 @@ same-length c = search needs
 returns : tie.Need-returns
 returns c =
     let a = c .before .before .before .before .before .before .before .args in
-    undo-refused (now (a .buf)) (a .len) (now (a .jrn)) (a .used) _ _ (sym (c .before .before .before .undo-plan .ensures) ∙ c .before .k .given .1)
+    undo-refused (a .profile) (now (a .buf)) (a .len) (now (a .jrn)) (a .used) _ _ (sym (c .before .before .before .undo-plan .ensures) ∙ c .before .k .given .1)
 
 -- src/lib.rt:273:1
 same-length-2 : tie.Need-same-length-2
@@ -71,7 +71,7 @@ returns-2 c =
     let a = c .before .before .before .before .before .before .before .before .before .before .before .before .args in
     let b = now (a .buf) in
     let bytes : All Byte b = bytes-all b (λ i. omega (arith, c .before .before .before .before .before .before .before .before .before .before .before .slice-known .given i)) in
-    undo-done b (a .len) (now (a .jrn)) (a .used) _ _ _ _ _ bytes (sym (c .before .before .before .before .before .before .before .before .undo-plan .ensures) ∙ c .before .before .before .before .before .before .count .given .1) _ (c .before .before .write-back .ensures)
+    undo-done (a .profile) b (a .len) (now (a .jrn)) (a .used) _ _ _ _ _ bytes (sym (c .before .before .before .before .before .before .before .before .undo-plan .ensures) ∙ c .before .before .before .before .before .before .count .given .1) _ (c .before .before .write-back .ensures)
 
 pub undo-spec : {M : Type 1} → statement M
 undo-spec =
@@ -82,8 +82,8 @@ undo-spec =
     enum-known-count
     cast-m
     write-back-requires
-    add-t22
-    sub-t23
+    add-t23
+    sub-t24
     same-length
     returns
     same-length-2

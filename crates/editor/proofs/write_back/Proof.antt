@@ -28,8 +28,8 @@ remove-bytes-requires c κs =
     let a = c .before .before .before .before .before .args in
     let b = now (a .buf) in
     let bb : All Byte b = bytes-all b (λ i. omega (arith, c .before .before .before .before .slice-known .given i)) in
-    let w = ready b (a .len) (now (a .jrn)) (a .used) (a .count) (a .at) (a .size) _ (a .r) bb (c .before .before .before .before .before .pre) in
-    back-added b (a .len) (now (a .jrn)) (a .used) (a .count) (a .at) (a .size) _ (a .r) bb w (c .before .if1 .taken)
+    let w = ready _ b (a .len) (now (a .jrn)) (a .used) (a .count) (a .at) (a .size) _ (a .r) bb (c .before .before .before .before .before .pre .1) in
+    back-added _ b (a .len) (now (a .jrn)) (a .used) (a .count) (a .at) (a .size) _ (a .r) bb w (c .before .if1 .taken)
 
 -- src/undoing.rt:313:9
 same-length : tie.Need-same-length
@@ -41,8 +41,8 @@ returns c =
     let a = c .before .before .before .before .before .before .before .before .args in
     let b = now (a .buf) in
     let bb : All Byte b = bytes-all b (λ i. omega (arith, c .before .before .before .before .before .before .before .slice-known .given i)) in
-    let w = ready b (a .len) (now (a .jrn)) (a .used) (a .count) (a .at) (a .size) _ (a .r) bb (c .before .before .before .before .before .before .before .before .pre) in
-    c .before .before .remove-bytes .ensures ∙ ap (λ (z : List ℕ). written b (a .len) z) (written-added b (a .len) (now (a .jrn)) (a .used) (a .count) (a .at) (a .size) _ (a .r) bb w (c .before .before .before .before .if1 .taken))
+    let w = ready _ b (a .len) (now (a .jrn)) (a .used) (a .count) (a .at) (a .size) _ (a .r) bb (c .before .before .before .before .before .before .before .before .pre .1) in
+    c .before .before .remove-bytes .ensures ∙ ap (λ (z : List ℕ). written b (a .len) z) (written-added _ b (a .len) (now (a .jrn)) (a .used) (a .count) (a .at) (a .size) _ (a .r) bb w (c .before .before .before .before .if1 .taken))
 
 -- src/undoing.rt:316:9
 insert-entry-requires : tie.Need-insert-entry-requires
@@ -51,8 +51,8 @@ insert-entry-requires c κs =
     let b = now (a .buf) in
     let bb : All Byte b = bytes-all b (λ i. omega (arith, c .before .before .before .before .before .slice-known .given i)) in
     let bj : All Byte (now (a .jrn)) = bytes-all (now (a .jrn)) (λ i. omega (arith, c .before .before .before .before .shared-slice-known .given i)) in
-    let w = ready b (a .len) (now (a .jrn)) (a .used) (a .count) (a .at) (a .size) _ (a .r) bb (c .before .before .before .before .before .before .pre) in
-    back-unlisted b (a .len) (now (a .jrn)) (a .used) (a .count) (a .at) (a .size) _ (a .r) bb w (c .before .if2 .taken) bj
+    let w = ready _ b (a .len) (now (a .jrn)) (a .used) (a .count) (a .at) (a .size) _ (a .r) bb (c .before .before .before .before .before .before .pre .1) in
+    back-unlisted _ b (a .len) (now (a .jrn)) (a .used) (a .count) (a .at) (a .size) _ (a .r) bb w (c .before .if2 .taken) bj
 
 -- src/undoing.rt:317:9
 same-length-2 : tie.Need-same-length-2
@@ -64,8 +64,8 @@ returns-2 c =
     let a = c .before .before .before .before .before .before .before .before .before .args in
     let b = now (a .buf) in
     let bb : All Byte b = bytes-all b (λ i. omega (arith, c .before .before .before .before .before .before .before .before .slice-known .given i)) in
-    let w = ready b (a .len) (now (a .jrn)) (a .used) (a .count) (a .at) (a .size) _ (a .r) bb (c .before .before .before .before .before .before .before .before .before .pre) in
-    c .before .before .insert-entry .ensures ∙ ap (λ (z : List ℕ). written b (a .len) z) (written-unlisted b (a .len) (now (a .jrn)) (a .used) (a .count) (a .at) (a .size) _ (a .r) bb w (c .before .before .before .before .if2 .taken))
+    let w = ready _ b (a .len) (now (a .jrn)) (a .used) (a .count) (a .at) (a .size) _ (a .r) bb (c .before .before .before .before .before .before .before .before .before .pre .1) in
+    c .before .before .insert-entry .ensures ∙ ap (λ (z : List ℕ). written b (a .len) z) (written-unlisted _ b (a .len) (now (a .jrn)) (a .used) (a .count) (a .at) (a .size) _ (a .r) bb w (c .before .before .before .before .if2 .taken))
 
 -- src/undoing.rt:319:15
 sub-end : tie.Need-sub-end
@@ -73,7 +73,7 @@ sub-end c =
     let a = c .before .before .before .before .before .args in
     let b = now (a .buf) in
     let bb : All Byte b = bytes-all b (λ i. omega (arith, c .before .before .before .before .slice-known .given i)) in
-    let w = ready b (a .len) (now (a .jrn)) (a .used) (a .count) (a .at) (a .size) _ (a .r) bb (c .before .before .before .before .before .pre) in
+    let w = ready _ b (a .len) (now (a .jrn)) (a .used) (a .count) (a .at) (a .size) _ (a .r) bb (c .before .before .before .before .before .pre .1) in
     omega (arith, w .ends .room)
 
 -- src/undoing.rt:320:22
@@ -86,7 +86,7 @@ sub-from c =
     let a = c .before .before .before .before .before .before .args in
     let b = now (a .buf) in
     let bb : All Byte b = bytes-all b (λ i. omega (arith, c .before .before .before .before .before .slice-known .given i)) in
-    let w = ready b (a .len) (now (a .jrn)) (a .used) (a .count) (a .at) (a .size) _ (a .r) bb (c .before .before .before .before .before .before .pre) in
+    let w = ready _ b (a .len) (now (a .jrn)) (a .used) (a .count) (a .at) (a .size) _ (a .r) bb (c .before .before .before .before .before .before .pre .1) in
     omega (arith, w .ends .room)
 
 -- src/undoing.rt:321:13
@@ -103,7 +103,7 @@ part-d-end c =
     let a = c .before .before .before .before .before .before .args in
     let b = now (a .buf) in
     let bb : All Byte b = bytes-all b (λ i. omega (arith, c .before .before .before .before .before .slice-known .given i)) in
-    let w = ready b (a .len) (now (a .jrn)) (a .used) (a .count) (a .at) (a .size) _ (a .r) bb (c .before .before .before .before .before .before .pre) in
+    let w = ready _ b (a .len) (now (a .jrn)) (a .used) (a .count) (a .at) (a .size) _ (a .r) bb (c .before .before .before .before .before .before .pre .1) in
     omega (arith, w .within)
 
 -- src/undoing.rt:323:9
@@ -113,8 +113,8 @@ replace-bytes-requires c κs =
     let b = now (a .buf) in
     let bb : All Byte b = bytes-all b (λ i. omega (arith, c .before .before .before .before .before .before .before .before .slice-known .given i)) in
     let bj : All Byte (now (a .jrn)) = bytes-all (now (a .jrn)) (λ i. omega (arith, c .before .before .before .before .before .before .before .shared-slice-known .given i)) in
-    let w = ready b (a .len) (now (a .jrn)) (a .used) (a .count) (a .at) (a .size) _ (a .r) bb (c .before .before .before .before .before .before .before .before .before .pre) in
-    back-replaced b (a .len) (now (a .jrn)) (a .used) (a .count) (a .at) (a .size) _ (a .r) bb w bj (c .before .if3 .taken)
+    let w = ready _ b (a .len) (now (a .jrn)) (a .used) (a .count) (a .at) (a .size) _ (a .r) bb (c .before .before .before .before .before .before .before .before .before .pre .1) in
+    back-replaced _ b (a .len) (now (a .jrn)) (a .used) (a .count) (a .at) (a .size) _ (a .r) bb w bj (c .before .if3 .taken)
 
 -- src/undoing.rt:324:9
 same-length-3 : tie.Need-same-length-3
@@ -126,8 +126,8 @@ returns-3 c =
     let a = c .before .before .before .before .before .before .before .before .before .before .before .before .args in
     let b = now (a .buf) in
     let bb : All Byte b = bytes-all b (λ i. omega (arith, c .before .before .before .before .before .before .before .before .before .before .before .slice-known .given i)) in
-    let w = ready b (a .len) (now (a .jrn)) (a .used) (a .count) (a .at) (a .size) _ (a .r) bb (c .before .before .before .before .before .before .before .before .before .before .before .before .pre) in
-    c .before .before .replace-bytes .ensures ∙ ap (λ (z : List ℕ). written b (a .len) z) (written-replaced b (a .len) (now (a .jrn)) (a .used) (a .count) (a .at) (a .size) _ (a .r) bb w (c .before .before .before .before .if3 .taken))
+    let w = ready _ b (a .len) (now (a .jrn)) (a .used) (a .count) (a .at) (a .size) _ (a .r) bb (c .before .before .before .before .before .before .before .before .before .before .before .before .pre .1) in
+    c .before .before .replace-bytes .ensures ∙ ap (λ (z : List ℕ). written b (a .len) z) (written-replaced _ b (a .len) (now (a .jrn)) (a .used) (a .count) (a .at) (a .size) _ (a .r) bb w (c .before .before .before .before .if3 .taken))
 
 -- src/undoing.rt:326:5
 insert-bytes-requires : tie.Need-insert-bytes-requires
@@ -136,8 +136,8 @@ insert-bytes-requires c κs =
     let b = now (a .buf) in
     let bb : All Byte b = bytes-all b (λ i. omega (arith, c .before .before .before .before .before .before .before .before .slice-known .given i)) in
     let bj : All Byte (now (a .jrn)) = bytes-all (now (a .jrn)) (λ i. omega (arith, c .before .before .before .before .before .before .before .shared-slice-known .given i)) in
-    let w = ready b (a .len) (now (a .jrn)) (a .used) (a .count) (a .at) (a .size) _ (a .r) bb (c .before .before .before .before .before .before .before .before .before .pre) in
-    back-removed b (a .len) (now (a .jrn)) (a .used) (a .count) (a .at) (a .size) _ (a .r) bb w (kind-3-left b (a .len) (now (a .jrn)) (a .used) (a .count) (a .at) (a .size) _ (a .r) bb w (c .before .before .before .before .before .if1 .left) (c .before .before .before .before .if2 .left) (c .before .if3 .left)) bj
+    let w = ready _ b (a .len) (now (a .jrn)) (a .used) (a .count) (a .at) (a .size) _ (a .r) bb (c .before .before .before .before .before .before .before .before .before .pre .1) in
+    back-removed _ b (a .len) (now (a .jrn)) (a .used) (a .count) (a .at) (a .size) _ (a .r) bb w (kind-3-left _ b (a .len) (now (a .jrn)) (a .used) (a .count) (a .at) (a .size) _ (a .r) bb w (c .before .before .before .before .before .if1 .left) (c .before .before .before .before .if2 .left) (c .before .if3 .left)) bj
 
 -- src/undoing.rt:305:1
 same-length-4 : tie.Need-same-length-4
@@ -149,8 +149,8 @@ returns-4 c =
     let a = c .before .before .before .before .before .before .before .before .before .before .before .before .args in
     let b = now (a .buf) in
     let bb : All Byte b = bytes-all b (λ i. omega (arith, c .before .before .before .before .before .before .before .before .before .before .before .slice-known .given i)) in
-    let w = ready b (a .len) (now (a .jrn)) (a .used) (a .count) (a .at) (a .size) _ (a .r) bb (c .before .before .before .before .before .before .before .before .before .before .before .before .pre) in
-    c .before .before .insert-bytes .ensures ∙ ap (λ (z : List ℕ). written b (a .len) z) (written-removed b (a .len) (now (a .jrn)) (a .used) (a .count) (a .at) (a .size) _ (a .r) bb w (kind-3-left b (a .len) (now (a .jrn)) (a .used) (a .count) (a .at) (a .size) _ (a .r) bb w (c .before .before .before .before .before .before .before .before .if1 .left) (c .before .before .before .before .before .before .before .if2 .left) (c .before .before .before .before .if3 .left)))
+    let w = ready _ b (a .len) (now (a .jrn)) (a .used) (a .count) (a .at) (a .size) _ (a .r) bb (c .before .before .before .before .before .before .before .before .before .before .before .before .pre .1) in
+    c .before .before .insert-bytes .ensures ∙ ap (λ (z : List ℕ). written b (a .len) z) (written-removed _ b (a .len) (now (a .jrn)) (a .used) (a .count) (a .at) (a .size) _ (a .r) bb w (kind-3-left _ b (a .len) (now (a .jrn)) (a .used) (a .count) (a .at) (a .size) _ (a .r) bb w (c .before .before .before .before .before .before .before .before .if1 .left) (c .before .before .before .before .before .before .before .if2 .left) (c .before .before .before .before .if3 .left)))
 
 pub write-back-spec : {M : Type 1} → statement M
 write-back-spec =

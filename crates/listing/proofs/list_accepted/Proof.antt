@@ -17,11 +17,11 @@ use Rattle.listing.proofs.put_head.Reads as put-head-reads
 
 -- src/lib.rt:129:25
 mul-if1 : tie.Need-mul-if1
-mul-if1 c = omega (arith, accepted-is (now (c .before .before .args .file)) _ _ (c .before .before .pre) .4)
+mul-if1 c = omega (arith, accepted-is 0 (now (c .before .before .args .file)) _ _ (c .before .before .pre) .4)
 
 -- src/lib.rt:129:20
 add-if1 : tie.Need-add-if1
-add-if1 c = omega (arith, accepted-is (now (c .before .before .args .file)) _ _ (c .before .before .pre) .4)
+add-if1 c = omega (arith, accepted-is 0 (now (c .before .before .args .file)) _ _ (c .before .before .pre) .4)
 
 -- src/lib.rt:130:9
 returns : tie.Need-returns

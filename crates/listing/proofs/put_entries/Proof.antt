@@ -27,16 +27,16 @@ loop-holds c = let a = c .before .before .args in (omega arith, refl, omega arit
 
 -- src/lib.rt:108:44
 mul-put-entry : tie.Need-mul-put-entry Inv-loop μ-loop
-mul-put-entry c = omega (arith, accepted-is (now (c .before .before .before .before .before .args .file)) _ _ (c .before .before .before .before .before .pre .0) .4)
+mul-put-entry c = omega (arith, accepted-is 0 (now (c .before .before .before .before .before .args .file)) _ _ (c .before .before .before .before .before .pre .0) .4)
 
 -- src/lib.rt:108:39
 add-put-entry : tie.Need-add-put-entry Inv-loop μ-loop
-add-put-entry c = omega (arith, accepted-is (now (c .before .before .before .before .before .args .file)) _ _ (c .before .before .before .before .before .pre .0) .4)
+add-put-entry c = omega (arith, accepted-is 0 (now (c .before .before .before .before .before .args .file)) _ _ (c .before .before .before .before .before .pre .0) .4)
 
 -- src/lib.rt:108:9
 put-entry-requires : tie.Need-put-entry-requires Inv-loop μ-loop
 put-entry-requires c κs = let f = now (c .before .before .before .before .before .args .file) in
-    let e = entry-at f _ _ (c .before .before .loop .i) (c .before .before .before .before .before .pre .0) (c .before .loop-test .taken) in
+    let e = entry-at 0 f _ _ (c .before .before .loop .i) (c .before .before .before .before .before .pre .0) (c .before .loop-test .taken) in
     (e .inside, e .chunk, omega (arith, c .before .before .before .before .before .pre .1))
 
 -- src/lib.rt:109:9

@@ -11,10 +11,10 @@ use Rattle.reader.proofs.data.Lts as lts
 use Rattle.reader.proofs.lookup.Reads as lookup-reads
 
 add-end : tie.Need-add-end
-add-end c = omega (arith, part-in _ _ _ _ _ _ (sym (c .before .before .before .lookup .ensures) ∙ c .before .start .given .1))
+add-end c = omega (arith, part-in _ _ _ _ _ _ _ (sym (c .before .before .before .lookup .ensures) ∙ c .before .start .given .1))
 
 part-result-end : tie.Need-part-result-end
-part-result-end c = omega (arith, part-in _ _ _ _ _ _ (sym (c .before .before .before .lookup .ensures) ∙ c .before .start .given .1))
+part-result-end c = omega (arith, part-in _ _ _ _ _ _ _ (sym (c .before .before .before .lookup .ensures) ∙ c .before .start .given .1))
 
 returns : tie.Need-returns
 returns c =

@@ -31,7 +31,7 @@ enum-known-number c = search needs
 
 -- src/lib.rt:87:9
 returns : tie.Need-returns
-returns c = read-1 _ _ _ (sym (c .before .before .before .head .ensures) ∙ ap verdictOf (c .before .number .given .1))
+returns c = read-1 _ _ _ _ (sym (c .before .before .before .head .ensures) ∙ ap verdictOf (c .before .number .given .1))
 
 enum-told : tie.Need-enum-told
 enum-told c = search needs
@@ -46,7 +46,7 @@ enum-known-fault c = search needs
 
 -- src/lib.rt:92:9
 returns-2 : tie.Need-returns-2
-returns-2 c = read-2 _ (sym (c .before .before .before .before .before .before .head .ensures) ∙ ap verdictOf (c .before .before .before .before .enum-told .given .1)) _ _ (sym (c .before .before .before .walk .ensures .0) ∙ ap verdictOf (c .before .fault .given .1))
+returns-2 c = read-2 _ _ (sym (c .before .before .before .before .before .before .head .ensures) ∙ ap verdictOf (c .before .before .before .before .enum-told .given .1)) _ _ (sym (c .before .before .before .walk .ensures .0) ∙ ap verdictOf (c .before .fault .given .1))
 
 enum-told-2 : tie.Need-enum-told-2
 enum-told-2 c = search needs
@@ -61,7 +61,7 @@ enum-known-number-2 c = search needs
 
 -- src/lib.rt:95:9
 returns-3 : tie.Need-returns-3
-returns-3 c = read-3 _ (sym (c .before .before .before .before .before .before .before .before .before .head .ensures) ∙ ap verdictOf (c .before .before .before .before .before .before .before .enum-told .given .1)) (sym (c .before .before .before .before .before .before .walk .ensures .0) ∙ ap verdictOf (c .before .before .before .before .enum-told2 .given .1)) _ _ (sym (c .before .before .before .first .ensures) ∙ ap verdictOf (c .before .number2 .given .1))
+returns-3 c = read-3 _ _ (sym (c .before .before .before .before .before .before .before .before .before .head .ensures) ∙ ap verdictOf (c .before .before .before .before .before .before .before .enum-told .given .1)) (sym (c .before .before .before .before .before .before .walk .ensures .0) ∙ ap verdictOf (c .before .before .before .before .enum-told2 .given .1)) _ _ (sym (c .before .before .before .first .ensures) ∙ ap verdictOf (c .before .number2 .given .1))
 
 enum-told-3 : tie.Need-enum-told-3
 enum-told-3 c = search needs
@@ -80,7 +80,7 @@ enum-known-number-3 c = search needs
 
 -- src/lib.rt:102:9
 returns-4 : tie.Need-returns-4
-returns-4 c = read-4 _ (sym (c .before .before .before .before .before .before .before .before .before .before .before .before .before .head .ensures) ∙ ap verdictOf (c .before .before .before .before .before .before .before .before .before .before .before .enum-told .given .1)) (sym (c .before .before .before .before .before .before .before .before .before .before .walk .ensures .0) ∙ ap verdictOf (c .before .before .before .before .before .before .before .before .enum-told2 .given .1)) (sym (c .before .before .before .before .before .before .before .first .ensures) ∙ ap verdictOf (c .before .before .before .before .before .enum-told3 .given .1)) _ (c .before .before .before .before .skip .ensures) _ _ (sym (c .before .before .before .second-if .ensures) ∙ ap verdictOf (c .before .number3 .given .1))
+returns-4 c = read-4 _ _ (sym (c .before .before .before .before .before .before .before .before .before .before .before .before .before .head .ensures) ∙ ap verdictOf (c .before .before .before .before .before .before .before .before .before .before .before .enum-told .given .1)) (sym (c .before .before .before .before .before .before .before .before .before .before .walk .ensures .0) ∙ ap verdictOf (c .before .before .before .before .before .before .before .before .enum-told2 .given .1)) (sym (c .before .before .before .before .before .before .before .first .ensures) ∙ ap verdictOf (c .before .before .before .before .before .enum-told3 .given .1)) _ (c .before .before .before .before .skip .ensures) _ _ (sym (c .before .before .before .second-if .ensures) ∙ ap verdictOf (c .before .number3 .given .1))
 
 enum-told-4 : tie.Need-enum-told-4
 enum-told-4 c = search needs
@@ -95,7 +95,7 @@ enum-known-number-4 c = search needs
 
 -- src/lib.rt:105:9
 returns-5 : tie.Need-returns-5
-returns-5 c = read-5 _ (sym (c .before .before .before .before .before .before .before .before .before .before .before .before .before .before .before .before .head .ensures) ∙ ap verdictOf (c .before .before .before .before .before .before .before .before .before .before .before .before .before .before .enum-told .given .1)) (sym (c .before .before .before .before .before .before .before .before .before .before .before .before .before .walk .ensures .0) ∙ ap verdictOf (c .before .before .before .before .before .before .before .before .before .before .before .enum-told2 .given .1)) (sym (c .before .before .before .before .before .before .before .before .before .before .first .ensures) ∙ ap verdictOf (c .before .before .before .before .before .before .before .before .enum-told3 .given .1)) _ (c .before .before .before .before .before .before .before .skip .ensures) (sym (c .before .before .before .before .before .before .second-if .ensures) ∙ ap verdictOf (c .before .before .before .before .enum-told4 .given .1)) _ _ (sym (c .before .before .before .shape .ensures) ∙ ap verdictOf (c .before .number4 .given .1))
+returns-5 c = read-5 _ _ (sym (c .before .before .before .before .before .before .before .before .before .before .before .before .before .before .before .before .head .ensures) ∙ ap verdictOf (c .before .before .before .before .before .before .before .before .before .before .before .before .before .before .enum-told .given .1)) (sym (c .before .before .before .before .before .before .before .before .before .before .before .before .before .walk .ensures .0) ∙ ap verdictOf (c .before .before .before .before .before .before .before .before .before .before .before .enum-told2 .given .1)) (sym (c .before .before .before .before .before .before .before .before .before .before .first .ensures) ∙ ap verdictOf (c .before .before .before .before .before .before .before .before .enum-told3 .given .1)) _ (c .before .before .before .before .before .before .before .skip .ensures) (sym (c .before .before .before .before .before .before .second-if .ensures) ∙ ap verdictOf (c .before .before .before .before .enum-told4 .given .1)) _ _ (sym (c .before .before .before .shape .ensures) ∙ ap verdictOf (c .before .number4 .given .1))
 
 enum-told-5 : tie.Need-enum-told-5
 enum-told-5 c = search needs
@@ -106,7 +106,7 @@ be32-at-requires c κs = omega (arith, shaped _ (first-long _ (sym (c .before .b
 
 -- src/lib.rt:108:47
 entries-requires : tie.Need-entries-requires
-entries-requires c κs = let s = is-shaped _ (sym (c .before .before .before .before .before .before .before .before .before .before .before .before .before .before .before .before .head .ensures) ∙ ap verdictOf (c .before .before .before .before .before .before .before .before .before .before .before .before .before .before .enum-told .given .1)) (sym (c .before .before .before .before .before .before .before .before .before .before .before .before .before .walk .ensures .0) ∙ ap verdictOf (c .before .before .before .before .before .before .before .before .before .before .before .enum-told2 .given .1)) (sym (c .before .before .before .before .before .before .before .before .before .before .first .ensures) ∙ ap verdictOf (c .before .before .before .before .before .before .before .before .enum-told3 .given .1)) _ (c .before .before .before .before .before .before .before .skip .ensures) (sym (c .before .before .before .before .before .before .second-if .ensures) ∙ ap verdictOf (c .before .before .before .before .enum-told4 .given .1)) (sym (c .before .before .before .shape .ensures) ∙ ap verdictOf (c .before .enum-told5 .given .1)) _ (c .be32-at .ensures .0) in (s .few, s .room, s .walks)
+entries-requires c κs = let s = is-shaped _ (sym (c .before .before .before .before .before .before .before .before .before .before .before .before .before .walk .ensures .0) ∙ ap verdictOf (c .before .before .before .before .before .before .before .before .before .before .before .enum-told2 .given .1)) (sym (c .before .before .before .before .before .before .before .before .before .before .first .ensures) ∙ ap verdictOf (c .before .before .before .before .before .before .before .before .enum-told3 .given .1)) (sym (c .before .before .before .shape .ensures) ∙ ap verdictOf (c .before .enum-told5 .given .1)) _ (c .be32-at .ensures .0) in (s .few, s .room, s .walks)
 
 -- src/lib.rt:108:29
 enum-known-number-5 : tie.Need-enum-known-number-5
@@ -114,14 +114,14 @@ enum-known-number-5 c = search needs
 
 -- src/lib.rt:109:9
 returns-6 : tie.Need-returns-6
-returns-6 c = read-6 _ (sym (c .before .before .before .before .before .before .before .before .before .before .before .before .before .before .before .before .before .before .before .before .head .ensures) ∙ ap verdictOf (c .before .before .before .before .before .before .before .before .before .before .before .before .before .before .before .before .before .before .enum-told .given .1)) (sym (c .before .before .before .before .before .before .before .before .before .before .before .before .before .before .before .before .before .walk .ensures .0) ∙ ap verdictOf (c .before .before .before .before .before .before .before .before .before .before .before .before .before .before .before .enum-told2 .given .1)) (sym (c .before .before .before .before .before .before .before .before .before .before .before .before .before .before .first .ensures) ∙ ap verdictOf (c .before .before .before .before .before .before .before .before .before .before .before .before .enum-told3 .given .1)) _ (c .before .before .before .before .before .before .before .before .before .before .before .skip .ensures) (sym (c .before .before .before .before .before .before .before .before .before .before .second-if .ensures) ∙ ap verdictOf (c .before .before .before .before .before .before .before .before .enum-told4 .given .1)) (sym (c .before .before .before .before .before .before .before .shape .ensures) ∙ ap verdictOf (c .before .before .before .before .before .enum-told5 .given .1)) _ (c .before .before .before .before .be32-at .ensures .0) _ _ (sym (c .before .before .before .entries .ensures) ∙ ap verdictOf (c .before .number5 .given .1))
+returns-6 c = read-6 _ _ (sym (c .before .before .before .before .before .before .before .before .before .before .before .before .before .before .before .before .before .before .before .before .head .ensures) ∙ ap verdictOf (c .before .before .before .before .before .before .before .before .before .before .before .before .before .before .before .before .before .before .enum-told .given .1)) (sym (c .before .before .before .before .before .before .before .before .before .before .before .before .before .before .before .before .before .walk .ensures .0) ∙ ap verdictOf (c .before .before .before .before .before .before .before .before .before .before .before .before .before .before .before .enum-told2 .given .1)) (sym (c .before .before .before .before .before .before .before .before .before .before .before .before .before .before .first .ensures) ∙ ap verdictOf (c .before .before .before .before .before .before .before .before .before .before .before .before .enum-told3 .given .1)) _ (c .before .before .before .before .before .before .before .before .before .before .before .skip .ensures) (sym (c .before .before .before .before .before .before .before .before .before .before .second-if .ensures) ∙ ap verdictOf (c .before .before .before .before .before .before .before .before .enum-told4 .given .1)) (sym (c .before .before .before .before .before .before .before .shape .ensures) ∙ ap verdictOf (c .before .before .before .before .before .enum-told5 .given .1)) _ (c .before .before .before .before .be32-at .ensures .0) _ _ (sym (c .before .before .before .entries .ensures) ∙ ap verdictOf (c .before .number5 .given .1))
 
 enum-told-6 : tie.Need-enum-told-6
 enum-told-6 c = search needs
 
 -- src/lib.rt:83:1
 returns-7 : tie.Need-returns-7
-returns-7 c = (is-judged _ (sym (c .before .before .before .before .before .before .before .before .before .before .before .before .before .before .before .before .before .before .before .head .ensures) ∙ ap verdictOf (c .before .before .before .before .before .before .before .before .before .before .before .before .before .before .before .before .before .enum-told .given .1)) (sym (c .before .before .before .before .before .before .before .before .before .before .before .before .before .before .before .before .walk .ensures .0) ∙ ap verdictOf (c .before .before .before .before .before .before .before .before .before .before .before .before .before .before .enum-told2 .given .1)) (sym (c .before .before .before .before .before .before .before .before .before .before .before .before .before .first .ensures) ∙ ap verdictOf (c .before .before .before .before .before .before .before .before .before .before .before .enum-told3 .given .1)) _ (c .before .before .before .before .before .before .before .before .before .before .skip .ensures) (sym (c .before .before .before .before .before .before .before .before .before .second-if .ensures) ∙ ap verdictOf (c .before .before .before .before .before .before .before .enum-told4 .given .1)) (sym (c .before .before .before .before .before .before .shape .ensures) ∙ ap verdictOf (c .before .before .before .before .enum-told5 .given .1)) _ (c .before .before .before .be32-at .ensures .0) (sym (c .before .before .entries .ensures) ∙ ap verdictOf (c .enum-told6 .given .1)), read-rest _ (sym (c .before .before .before .before .before .before .before .before .before .before .before .before .before .before .before .before .before .before .before .head .ensures) ∙ ap verdictOf (c .before .before .before .before .before .before .before .before .before .before .before .before .before .before .before .before .before .enum-told .given .1)) (sym (c .before .before .before .before .before .before .before .before .before .before .before .before .before .before .before .before .walk .ensures .0) ∙ ap verdictOf (c .before .before .before .before .before .before .before .before .before .before .before .before .before .before .enum-told2 .given .1)) (sym (c .before .before .before .before .before .before .before .before .before .before .before .before .before .first .ensures) ∙ ap verdictOf (c .before .before .before .before .before .before .before .before .before .before .before .enum-told3 .given .1)) _ (c .before .before .before .before .before .before .before .before .before .before .skip .ensures) (sym (c .before .before .before .before .before .before .before .before .before .second-if .ensures) ∙ ap verdictOf (c .before .before .before .before .before .before .before .enum-told4 .given .1)) (sym (c .before .before .before .before .before .before .shape .ensures) ∙ ap verdictOf (c .before .before .before .before .enum-told5 .given .1)) _ (c .before .before .before .be32-at .ensures .0) (sym (c .before .before .entries .ensures) ∙ ap verdictOf (c .enum-told6 .given .1)), ordinary-behind _ (sym (c .before .before .before .before .before .before .before .before .before .before .before .before .before .before .before .before .before .before .before .head .ensures) ∙ ap verdictOf (c .before .before .before .before .before .before .before .before .before .before .before .before .before .before .before .before .before .enum-told .given .1)) (sym (c .before .before .before .before .before .before .before .before .before .before .before .before .before .before .before .before .walk .ensures .0) ∙ ap verdictOf (c .before .before .before .before .before .before .before .before .before .before .before .before .before .before .enum-told2 .given .1)) (sym (c .before .before .before .before .before .before .before .before .before .before .before .before .before .first .ensures) ∙ ap verdictOf (c .before .before .before .before .before .before .before .before .before .before .before .enum-told3 .given .1)) _ (c .before .before .before .before .before .before .before .before .before .before .skip .ensures) (sym (c .before .before .before .before .before .before .before .before .before .second-if .ensures) ∙ ap verdictOf (c .before .before .before .before .before .before .before .enum-told4 .given .1)) (sym (c .before .before .before .before .before .before .shape .ensures) ∙ ap verdictOf (c .before .before .before .before .enum-told5 .given .1)) _ (c .before .before .before .be32-at .ensures .0) _ (c .before .before .before .before .before .before .before .before .before .before .before .before .before .before .before .before .walk .ensures .1))
+returns-7 c = (is-judged _ _ (sym (c .before .before .before .before .before .before .before .before .before .before .before .before .before .before .before .before .before .before .before .head .ensures) ∙ ap verdictOf (c .before .before .before .before .before .before .before .before .before .before .before .before .before .before .before .before .before .enum-told .given .1)) (sym (c .before .before .before .before .before .before .before .before .before .before .before .before .before .before .before .before .walk .ensures .0) ∙ ap verdictOf (c .before .before .before .before .before .before .before .before .before .before .before .before .before .before .enum-told2 .given .1)) (sym (c .before .before .before .before .before .before .before .before .before .before .before .before .before .first .ensures) ∙ ap verdictOf (c .before .before .before .before .before .before .before .before .before .before .before .enum-told3 .given .1)) _ (c .before .before .before .before .before .before .before .before .before .before .skip .ensures) (sym (c .before .before .before .before .before .before .before .before .before .second-if .ensures) ∙ ap verdictOf (c .before .before .before .before .before .before .before .enum-told4 .given .1)) (sym (c .before .before .before .before .before .before .shape .ensures) ∙ ap verdictOf (c .before .before .before .before .enum-told5 .given .1)) _ (c .before .before .before .be32-at .ensures .0) (sym (c .before .before .entries .ensures) ∙ ap verdictOf (c .enum-told6 .given .1)), read-rest _ _ (sym (c .before .before .before .before .before .before .before .before .before .before .before .before .before .before .before .before .before .before .before .head .ensures) ∙ ap verdictOf (c .before .before .before .before .before .before .before .before .before .before .before .before .before .before .before .before .before .enum-told .given .1)) (sym (c .before .before .before .before .before .before .before .before .before .before .before .before .before .before .before .before .walk .ensures .0) ∙ ap verdictOf (c .before .before .before .before .before .before .before .before .before .before .before .before .before .before .enum-told2 .given .1)) (sym (c .before .before .before .before .before .before .before .before .before .before .before .before .before .first .ensures) ∙ ap verdictOf (c .before .before .before .before .before .before .before .before .before .before .before .enum-told3 .given .1)) _ (c .before .before .before .before .before .before .before .before .before .before .skip .ensures) (sym (c .before .before .before .before .before .before .before .before .before .second-if .ensures) ∙ ap verdictOf (c .before .before .before .before .before .before .before .enum-told4 .given .1)) (sym (c .before .before .before .before .before .before .shape .ensures) ∙ ap verdictOf (c .before .before .before .before .enum-told5 .given .1)) _ (c .before .before .before .be32-at .ensures .0) (sym (c .before .before .entries .ensures) ∙ ap verdictOf (c .enum-told6 .given .1)), ordinary-behind _ (sym (c .before .before .before .before .before .before .before .before .before .before .before .before .before .before .before .before .walk .ensures .0) ∙ ap verdictOf (c .before .before .before .before .before .before .before .before .before .before .before .before .before .before .enum-told2 .given .1)) (sym (c .before .before .before .before .before .before .before .before .before .before .before .before .before .first .ensures) ∙ ap verdictOf (c .before .before .before .before .before .before .before .before .before .before .before .enum-told3 .given .1)) (sym (c .before .before .before .before .before .before .shape .ensures) ∙ ap verdictOf (c .before .before .before .before .enum-told5 .given .1)) _ (c .before .before .before .be32-at .ensures .0) _ (c .before .before .before .before .before .before .before .before .before .before .before .before .before .before .before .before .walk .ensures .1))
 
 pub judge-in-turn-spec : {M : Type 1} → statement M
 judge-in-turn-spec =

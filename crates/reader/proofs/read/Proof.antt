@@ -21,11 +21,11 @@ enum-known-count c = search needs
 
 -- src/lib.rt:121:1
 returns : tie.Need-returns
-returns c = sym (judged-no _ _ _ _ (c .before .before .before .judge-file .ensures) (c .before .number .given .1))
+returns c = sym (judged-no _ _ _ _ _ (c .before .before .before .judge-file .ensures) (c .before .number .given .1))
 
 -- src/lib.rt:121:1
 returns-2 : tie.Need-returns-2
-returns-2 c = sym (judged-good _ _ _ _ (c .before .before .before .judge-file .ensures) (c .before .count .given .1) .0)
+returns-2 c = sym (judged-good _ _ _ _ _ (c .before .before .before .judge-file .ensures) (c .before .count .given .1) .0)
 
 pub read-spec : {M : Type 1} → statement M
 read-spec =

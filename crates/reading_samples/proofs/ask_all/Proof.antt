@@ -5,10 +5,10 @@ use Rattle.reading_samples.proofs.ask_all.Statement.{statement}
 use Rattle.reading_samples.proofs.ask_all.Tie as tie
 
 abbrev Inv-loop : tie.InvT-loop
-Inv-loop file rows pair k₀ k-end k = Unit {0}
+Inv-loop file profile rows pair k₀ k-end k = Unit {0}
 
 abbrev μ-loop : tie.MeasureT-loop
-μ-loop file rows pair k₀ k-end k = k-end - k
+μ-loop file profile rows pair k₀ k-end k = k-end - k
 
 loop-holds : tie.Need-loop-holds Inv-loop μ-loop
 loop-holds c = search needs

@@ -34,7 +34,7 @@ returns c =
     let a = c .before .before .before .before .args in
     let f = now (a .s) in
     let bytes : All Byte f = bytes-all f (λ i. omega (arith, c .before .before .before .shared-slice-known .given i)) in
-    ap verdictOf (c .refused .ensures) ∙ out-101 f (a .count) (a .target) (a .usage) (a .number) (a .kind) (now (a .d)) bytes (c .before .before .before .before .pre) (omega arith) (omega arith) (omega arith) (c .before .if1 .taken)
+    ap verdictOf (c .refused .ensures) ∙ out-101 (a .profile) f (a .count) (a .target) (a .usage) (a .number) (a .kind) (now (a .d)) bytes (c .before .before .before .before .pre) (omega arith) (omega arith) (omega arith) (c .before .if1 .taken)
 
 -- src/judge.rt:49:29
 add-refused : tie.Need-add-refused
@@ -50,7 +50,7 @@ returns-2 c =
     let a = c .before .before .before .before .before .args in
     let f = now (a .s) in
     let bytes : All Byte f = bytes-all f (λ i. omega (arith, c .before .before .before .before .shared-slice-known .given i)) in
-    ap verdictOf (c .refused2 .ensures) ∙ out-109 f (a .count) (a .target) (a .usage) (a .number) (a .kind) (now (a .d)) bytes (c .before .before .before .before .before .pre) (omega arith) (omega arith) (omega arith) (c .before .before .if1 .left) (c .before .if2 .taken)
+    ap verdictOf (c .refused2 .ensures) ∙ out-109 (a .profile) f (a .count) (a .target) (a .usage) (a .number) (a .kind) (now (a .d)) bytes (c .before .before .before .before .before .pre) (omega arith) (omega arith) (omega arith) (c .before .before .if1 .left) (c .before .if2 .taken)
 
 -- src/judge.rt:51:15
 add-if3 : tie.Need-add-if3
@@ -66,7 +66,7 @@ returns-3 c =
     let a = c .before .before .before .before .before .before .args in
     let f = now (a .s) in
     let bytes : All Byte f = bytes-all f (λ i. omega (arith, c .before .before .before .before .before .shared-slice-known .given i)) in
-    ap verdictOf (c .refused3 .ensures) ∙ out-111 f (a .count) (a .target) (a .usage) (a .number) (a .kind) (now (a .d)) bytes (c .before .before .before .before .before .before .pre) (omega arith) (omega arith) (omega arith) (c .before .before .before .if1 .left) (c .before .before .if2 .left) (c .before .if3 .taken)
+    ap verdictOf (c .refused3 .ensures) ∙ out-111 (a .profile) f (a .count) (a .target) (a .usage) (a .number) (a .kind) (now (a .d)) bytes (c .before .before .before .before .before .before .pre) (omega arith) (omega arith) (omega arith) (c .before .before .before .if1 .left) (c .before .before .if2 .left) (c .before .if3 .taken)
 
 -- src/judge.rt:54:19
 mul-at : tie.Need-mul-at
@@ -94,7 +94,7 @@ returns-4 c =
     let a = c .before .before .before .before .before .before .before .before .before .args in
     let f = now (a .s) in
     let bytes : All Byte f = bytes-all f (λ i. omega (arith, c .before .before .before .before .before .before .before .before .shared-slice-known .given i)) in
-    ap verdictOf (c .refused4 .ensures) ∙ out-112 f (a .count) (a .target) (a .usage) (a .number) (a .kind) (now (a .d)) bytes (c .before .before .before .before .before .before .before .before .before .pre) (omega arith) (omega arith) (omega arith) (c .before .before .before .before .before .before .if1 .left) (c .before .before .before .before .before .if2 .left) (c .before .before .before .before .if3 .left) (known-not _ (sym (c .before .before .before .of-code .ensures) ∙ c .before .enum-told .given .1))
+    ap verdictOf (c .refused4 .ensures) ∙ out-112 (a .profile) f (a .count) (a .target) (a .usage) (a .number) (a .kind) (now (a .d)) bytes (c .before .before .before .before .before .before .before .before .before .pre) (omega arith) (omega arith) (omega arith) (c .before .before .before .before .before .before .if1 .left) (c .before .before .before .before .before .if2 .left) (c .before .before .before .before .if3 .left) (known-not _ (sym (c .before .before .before .of-code .ensures) ∙ c .before .enum-told .given .1))
 
 enum-told-2 : tie.Need-enum-told-2
 enum-told-2 c = search needs
@@ -113,7 +113,7 @@ returns-5 c =
     let a = c .before .before .before .before .before .before .before .before .before .before .before .args in
     let f = now (a .s) in
     let bytes : All Byte f = bytes-all f (λ i. omega (arith, c .before .before .before .before .before .before .before .before .before .before .shared-slice-known .given i)) in
-    ap verdictOf (c .refused5 .ensures) ∙ out-114 f (a .count) (a .target) (a .usage) (a .number) (a .kind) (now (a .d)) bytes (c .before .before .before .before .before .before .before .before .before .before .before .pre) (omega arith) (omega arith) (omega arith) (c .before .before .before .before .before .before .before .before .if1 .left) (c .before .before .before .before .before .before .before .if2 .left) (c .before .before .before .before .before .before .if3 .left) (known-is _ _ (sym (c .before .before .before .before .before .of-code .ensures) ∙ c .before .before .before .enum-told2 .given .1) .0) (sym (c .before .before .type-allowed .ensures) ∙ not-true _ (c .before .if4 .taken))
+    ap verdictOf (c .refused5 .ensures) ∙ out-114 (a .profile) f (a .count) (a .target) (a .usage) (a .number) (a .kind) (now (a .d)) bytes (c .before .before .before .before .before .before .before .before .before .before .before .pre) (omega arith) (omega arith) (omega arith) (c .before .before .before .before .before .before .before .before .if1 .left) (c .before .before .before .before .before .before .before .if2 .left) (c .before .before .before .before .before .before .if3 .left) (known-is _ _ (sym (c .before .before .before .before .before .of-code .ensures) ∙ c .before .before .before .enum-told2 .given .1) .0) (sym (c .before .before .type-allowed .ensures) ∙ not-true _ (c .before .if4 .taken))
 
 -- src/judge.rt:61:9
 number-fits-requires : tie.Need-number-fits-requires
@@ -133,7 +133,7 @@ returns-6 c =
     let a = c .before .before .before .before .before .before .before .before .before .before .before .before .before .args in
     let f = now (a .s) in
     let bytes : All Byte f = bytes-all f (λ i. omega (arith, c .before .before .before .before .before .before .before .before .before .before .before .before .shared-slice-known .given i)) in
-    ap verdictOf (c .refused6 .ensures) ∙ out-115 f (a .count) (a .target) (a .usage) (a .number) (a .kind) (now (a .d)) bytes (c .before .before .before .before .before .before .before .before .before .before .before .before .before .pre) (omega arith) (omega arith) (omega arith) (c .before .before .before .before .before .before .before .before .before .before .if1 .left) (c .before .before .before .before .before .before .before .before .before .if2 .left) (c .before .before .before .before .before .before .before .before .if3 .left) (known-is _ _ (sym (c .before .before .before .before .before .before .before .of-code .ensures) ∙ c .before .before .before .before .before .enum-told2 .given .1) .0) (sym (c .before .before .before .before .type-allowed .ensures) ∙ not-false _ (c .before .before .before .if4 .left)) (sym (c .before .before .number-fits .ensures) ∙ not-true _ (c .before .if5 .taken))
+    ap verdictOf (c .refused6 .ensures) ∙ out-115 (a .profile) f (a .count) (a .target) (a .usage) (a .number) (a .kind) (now (a .d)) bytes (c .before .before .before .before .before .before .before .before .before .before .before .before .before .pre) (omega arith) (omega arith) (omega arith) (c .before .before .before .before .before .before .before .before .before .before .if1 .left) (c .before .before .before .before .before .before .before .before .before .if2 .left) (c .before .before .before .before .before .before .before .before .if3 .left) (known-is _ _ (sym (c .before .before .before .before .before .before .before .of-code .ensures) ∙ c .before .before .before .before .before .enum-told2 .given .1) .0) (sym (c .before .before .before .before .type-allowed .ensures) ∙ not-false _ (c .before .before .before .if4 .left)) (sym (c .before .before .number-fits .ensures) ∙ not-true _ (c .before .if5 .taken))
 
 -- src/judge.rt:65:26
 enum-told-3 : tie.Need-enum-told-3
@@ -153,7 +153,7 @@ returns-7 c =
     let a = c .before .before .before .before .before .before .before .before .before .before .before .before .before .before .before .args in
     let f = now (a .s) in
     let bytes : All Byte f = bytes-all f (λ i. omega (arith, c .before .before .before .before .before .before .before .before .before .before .before .before .before .before .shared-slice-known .given i)) in
-    ap verdictOf (c .refused7 .ensures) ∙ out-116 f (a .count) (a .target) (a .usage) (a .number) (a .kind) (now (a .d)) bytes (c .before .before .before .before .before .before .before .before .before .before .before .before .before .before .before .pre) (omega arith) (omega arith) (omega arith) (c .before .before .before .before .before .before .before .before .before .before .before .before .if1 .left) (c .before .before .before .before .before .before .before .before .before .before .before .if2 .left) (c .before .before .before .before .before .before .before .before .before .before .if3 .left) (known-is _ _ (sym (c .before .before .before .before .before .before .before .before .before .of-code .ensures) ∙ c .before .before .before .before .before .before .before .enum-told2 .given .1) .0) (sym (c .before .before .before .before .before .before .type-allowed .ensures) ∙ not-false _ (c .before .before .before .before .before .if4 .left)) (sym (c .before .before .before .before .number-fits .ensures) ∙ not-false _ (c .before .before .before .if5 .left)) (c .before .enum-told3 .given .0 .0) (c .before .enum-told3 .given .1)
+    ap verdictOf (c .refused7 .ensures) ∙ out-116 (a .profile) f (a .count) (a .target) (a .usage) (a .number) (a .kind) (now (a .d)) bytes (c .before .before .before .before .before .before .before .before .before .before .before .before .before .before .before .pre) (omega arith) (omega arith) (omega arith) (c .before .before .before .before .before .before .before .before .before .before .before .before .if1 .left) (c .before .before .before .before .before .before .before .before .before .before .before .if2 .left) (c .before .before .before .before .before .before .before .before .before .before .if3 .left) (known-is _ _ (sym (c .before .before .before .before .before .before .before .before .before .of-code .ensures) ∙ c .before .before .before .before .before .before .before .enum-told2 .given .1) .0) (sym (c .before .before .before .before .before .before .type-allowed .ensures) ∙ not-false _ (c .before .before .before .before .before .if4 .left)) (sym (c .before .before .before .before .number-fits .ensures) ∙ not-false _ (c .before .before .before .if5 .left)) (c .before .enum-told3 .given .0 .0) (c .before .enum-told3 .given .1)
 
 -- src/judge.rt:39:1
 returns-8 : tie.Need-returns-8
@@ -161,7 +161,7 @@ returns-8 c =
     let a = c .before .before .before .before .before .before .before .before .before .before .before .before .before .before .args in
     let f = now (a .s) in
     let bytes : All Byte f = bytes-all f (λ i. omega (arith, c .before .before .before .before .before .before .before .before .before .before .before .before .before .shared-slice-known .given i)) in
-    out-done f (a .count) (a .target) (a .usage) (a .number) (a .kind) (now (a .d)) bytes (c .before .before .before .before .before .before .before .before .before .before .before .before .before .before .pre) (omega arith) (omega arith) (omega arith) (c .before .before .before .before .before .before .before .before .before .before .before .if1 .left) (c .before .before .before .before .before .before .before .before .before .before .if2 .left) (c .before .before .before .before .before .before .before .before .before .if3 .left) (known-is _ _ (sym (c .before .before .before .before .before .before .before .before .of-code .ensures) ∙ c .before .before .before .before .before .before .enum-told2 .given .1) .0) (sym (c .before .before .before .before .before .type-allowed .ensures) ∙ not-false _ (c .before .before .before .before .if4 .left)) (sym (c .before .before .before .number-fits .ensures) ∙ not-false _ (c .before .before .if5 .left)) (c .enum-told4 .given .1)
+    out-done (a .profile) f (a .count) (a .target) (a .usage) (a .number) (a .kind) (now (a .d)) bytes (c .before .before .before .before .before .before .before .before .before .before .before .before .before .before .pre) (omega arith) (omega arith) (omega arith) (c .before .before .before .before .before .before .before .before .before .before .before .if1 .left) (c .before .before .before .before .before .before .before .before .before .before .if2 .left) (c .before .before .before .before .before .before .before .before .before .if3 .left) (known-is _ _ (sym (c .before .before .before .before .before .before .before .before .of-code .ensures) ∙ c .before .before .before .before .before .before .enum-told2 .given .1) .0) (sym (c .before .before .before .before .before .type-allowed .ensures) ∙ not-false _ (c .before .before .before .before .if4 .left)) (sym (c .before .before .before .number-fits .ensures) ∙ not-false _ (c .before .before .if5 .left)) (c .enum-told4 .given .1)
 
 pub add-fault-spec : {M : Type 1} → statement M
 add-fault-spec =

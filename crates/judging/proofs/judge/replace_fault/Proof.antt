@@ -51,7 +51,7 @@ returns c =
     let a = c .before .before .before .before .before .before .args in
     let f = now (a .s) in
     let bytes : All Byte f = bytes-all f (λ i. omega (arith, c .before .before .before .before .before .shared-slice-known .given i)) in
-    ap verdictOf (c .refused .ensures) ∙ out-101 f (a .front) (a .piece) (a .usage) (a .number) (a .kind) (now (a .d)) bytes (c .before .before .before .before .before .before .pre) (omega arith) (omega arith) (omega arith) (c .before .if1 .taken)
+    ap verdictOf (c .refused .ensures) ∙ out-101 (a .profile) f (a .front) (a .piece) (a .usage) (a .number) (a .kind) (now (a .d)) bytes (c .before .before .before .before .before .before .pre) (omega arith) (omega arith) (omega arith) (c .before .if1 .taken)
 
 -- src/judge.rt:152:29
 cast-refused : tie.Need-cast-refused
@@ -67,7 +67,7 @@ returns-2 c =
     let a = c .before .before .before .before .before .before .before .before .args in
     let f = now (a .s) in
     let bytes : All Byte f = bytes-all f (λ i. omega (arith, c .before .before .before .before .before .before .before .shared-slice-known .given i)) in
-    ap verdictOf (c .refused2 .ensures) ∙ out-109 f (a .front) (a .piece) (a .usage) (a .number) (a .kind) (now (a .d)) bytes (c .before .before .before .before .before .before .before .before .pre) (omega arith) (omega arith) (omega arith) (c .before .before .before .if1 .left) (c .before .before .if2 .taken)
+    ap verdictOf (c .refused2 .ensures) ∙ out-109 (a .profile) f (a .front) (a .piece) (a .usage) (a .number) (a .kind) (now (a .d)) bytes (c .before .before .before .before .before .before .before .before .pre) (omega arith) (omega arith) (omega arith) (c .before .before .before .if1 .left) (c .before .before .if2 .taken)
 
 -- src/judge.rt:154:9
 type-allowed-requires : tie.Need-type-allowed-requires
@@ -91,7 +91,7 @@ returns-3 c =
     let a = c .before .before .before .before .before .before .before .before .before .before .args in
     let f = now (a .s) in
     let bytes : All Byte f = bytes-all f (λ i. omega (arith, c .before .before .before .before .before .before .before .before .before .shared-slice-known .given i)) in
-    ap verdictOf (c .refused3 .ensures) ∙ out-114 f (a .front) (a .piece) (a .usage) (a .number) (a .kind) (now (a .d)) bytes (c .before .before .before .before .before .before .before .before .before .before .pre) (omega arith) (omega arith) (omega arith) (c .before .before .before .before .before .if1 .left) (c .before .before .before .before .if2 .left) (sym (c .before .before .before .type-allowed .ensures) ∙ not-true _ (c .before .before .if3 .taken))
+    ap verdictOf (c .refused3 .ensures) ∙ out-114 (a .profile) f (a .front) (a .piece) (a .usage) (a .number) (a .kind) (now (a .d)) bytes (c .before .before .before .before .before .before .before .before .before .before .pre) (omega arith) (omega arith) (omega arith) (c .before .before .before .before .before .if1 .left) (c .before .before .before .before .if2 .left) (sym (c .before .before .before .type-allowed .ensures) ∙ not-true _ (c .before .before .if3 .taken))
 
 -- src/judge.rt:158:27
 enum-told : tie.Need-enum-told
@@ -127,7 +127,7 @@ returns-4 c =
     let a = c .before .before .before .before .before .before .before .before .before .before .before .before .before .before .before .args in
     let f = now (a .s) in
     let bytes : All Byte f = bytes-all f (λ i. omega (arith, c .before .before .before .before .before .before .before .before .before .before .before .before .before .before .shared-slice-known .given i)) in
-    ap verdictOf (c .refused4 .ensures) ∙ ap (λ (z : ℕ). refuse 119 (z + 8)) (c .before .behind-start .ensures .0) ∙ out-119 f (a .front) (a .piece) (a .usage) (a .number) (a .kind) (now (a .d)) bytes (c .before .before .before .before .before .before .before .before .before .before .before .before .before .before .before .pre) (omega arith) (omega arith) (omega arith) (c .before .before .before .before .before .before .before .before .before .before .if1 .left) (c .before .before .before .before .before .before .before .before .before .if2 .left) (sym (c .before .before .before .before .before .before .before .before .type-allowed .ensures) ∙ not-false _ (c .before .before .before .before .before .before .before .if3 .left)) (c .before .before .before .before .before .front .given .0 .0) (c .before .before .before .before .before .front .given .0 .1 .0) (c .before .before .before .before .before .front .given .1) (sym (c .before .before .before .makes-rect .ensures) ∙ c .before .before .if4 .taken)
+    ap verdictOf (c .refused4 .ensures) ∙ ap (λ (z : ℕ). refuse 119 (z + 8)) (c .before .behind-start .ensures .0) ∙ out-119 (a .profile) f (a .front) (a .piece) (a .usage) (a .number) (a .kind) (now (a .d)) bytes (c .before .before .before .before .before .before .before .before .before .before .before .before .before .before .before .pre) (omega arith) (omega arith) (omega arith) (c .before .before .before .before .before .before .before .before .before .before .if1 .left) (c .before .before .before .before .before .before .before .before .before .if2 .left) (sym (c .before .before .before .before .before .before .before .before .type-allowed .ensures) ∙ not-false _ (c .before .before .before .before .before .before .before .if3 .left)) (c .before .before .before .before .before .front .given .0 .0) (c .before .before .before .before .before .front .given .0 .1 .0) (c .before .before .before .before .before .front .given .1) (sym (c .before .before .before .makes-rect .ensures) ∙ c .before .before .if4 .taken)
 
 -- src/judge.rt:140:1
 returns-5 : tie.Need-returns-5
@@ -135,7 +135,7 @@ returns-5 c =
     let a = c .before .before .before .before .before .before .before .before .before .before .args in
     let f = now (a .s) in
     let bytes : All Byte f = bytes-all f (λ i. omega (arith, c .before .before .before .before .before .before .before .before .before .shared-slice-known .given i)) in
-    out-nothing f (a .front) (a .piece) (a .usage) (a .number) (a .kind) (now (a .d)) bytes (c .before .before .before .before .before .before .before .before .before .before .pre) (omega arith) (omega arith) (omega arith) (c .before .before .before .before .before .if1 .left) (c .before .before .before .before .if2 .left) (sym (c .before .before .before .type-allowed .ensures) ∙ not-false _ (c .before .before .if3 .left)) (c .enum-told .given .1)
+    out-nothing (a .profile) f (a .front) (a .piece) (a .usage) (a .number) (a .kind) (now (a .d)) bytes (c .before .before .before .before .before .before .before .before .before .before .pre) (omega arith) (omega arith) (omega arith) (c .before .before .before .before .before .if1 .left) (c .before .before .before .before .if2 .left) (sym (c .before .before .before .type-allowed .ensures) ∙ not-false _ (c .before .before .if3 .left)) (c .enum-told .given .1)
 
 -- src/judge.rt:140:1
 returns-6 : tie.Need-returns-6
@@ -143,7 +143,7 @@ returns-6 c =
     let a = c .before .before .before .before .before .before .before .before .before .before .before .before .before .args in
     let f = now (a .s) in
     let bytes : All Byte f = bytes-all f (λ i. omega (arith, c .before .before .before .before .before .before .before .before .before .before .before .before .shared-slice-known .given i)) in
-    out-kept f (a .front) (a .piece) (a .usage) (a .number) (a .kind) (now (a .d)) bytes (c .before .before .before .before .before .before .before .before .before .before .before .before .before .pre) (omega arith) (omega arith) (omega arith) (c .before .before .before .before .before .before .before .before .if1 .left) (c .before .before .before .before .before .before .before .if2 .left) (sym (c .before .before .before .before .before .before .type-allowed .ensures) ∙ not-false _ (c .before .before .before .before .before .if3 .left)) (c .before .before .before .front .given .0 .0) (c .before .before .before .front .given .0 .1 .0) (c .before .before .before .front .given .1) (sym (c .before .makes-rect .ensures) ∙ c .if4 .left)
+    out-kept (a .profile) f (a .front) (a .piece) (a .usage) (a .number) (a .kind) (now (a .d)) bytes (c .before .before .before .before .before .before .before .before .before .before .before .before .before .pre) (omega arith) (omega arith) (omega arith) (c .before .before .before .before .before .before .before .before .if1 .left) (c .before .before .before .before .before .before .before .if2 .left) (sym (c .before .before .before .before .before .before .type-allowed .ensures) ∙ not-false _ (c .before .before .before .before .before .if3 .left)) (c .before .before .before .front .given .0 .0) (c .before .before .before .front .given .0 .1 .0) (c .before .before .before .front .given .1) (sym (c .before .makes-rect .ensures) ∙ c .if4 .left)
 
 pub replace-fault-spec : {M : Type 1} → statement M
 replace-fault-spec =

@@ -1,7 +1,7 @@
 use mathlib.Core.Path.{ap, _∙_}
 use denote.Ref.{now}
 use Rattle.blorb.specs.Format.{Chunk}
-use Rattle.blorb.specs.Rules.{plainAllows}
+use Rattle.blorb.specs.Rules.{allows}
 use Rattle.judging.proofs.UndoTests.{chunk-read}
 use borrow.Author.Needs.{needs}
 use Rattle.judging.proofs.undoing.chunk_allowed.Statement.{statement}
@@ -51,7 +51,7 @@ type-allowed-requires c κs = search needs
 returns : tie.Need-returns
 returns c =
     let a = c .before .before .before .before .before .args in
-    c .type-allowed .ensures ∙ ap (λ (z : Chunk). plainAllows (a .usage) z) (chunk-read (now (a .s)) (a .at) _ _ (c .before .before .before .be32-at .ensures .0) (c .before .before .be32-at2 .ensures .0))
+    c .type-allowed .ensures ∙ ap (λ (z : Chunk). allows (a .profile) (a .usage) z) (chunk-read (now (a .s)) (a .at) _ _ (c .before .before .before .be32-at .ensures .0) (c .before .before .be32-at2 .ensures .0))
 
 pub chunk-allowed-spec : {M : Type 1} → statement M
 chunk-allowed-spec =

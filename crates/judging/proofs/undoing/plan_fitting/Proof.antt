@@ -17,27 +17,27 @@ plan-added-requires c κs = search needs
 returns : tie.Need-returns
 returns c =
     let a = c .before .before .before .before .args in
-    asked-added (now (a .buf)) (a .len) (now (a .jrn)) (a .used) (a .r) (a .facts) (c .before .before .before .before .pre) _ (c .before .if1 .taken) (c .plan-added .ensures)
+    asked-added (a .profile) (now (a .buf)) (a .len) (now (a .jrn)) (a .used) (a .r) (a .facts) (c .before .before .before .before .pre) _ (c .before .if1 .taken) (c .plan-added .ensures)
 
 slice-aggregate-plan-unlisted : tie.Need-slice-aggregate-plan-unlisted
 slice-aggregate-plan-unlisted c =
     let a = c .before .before .before .before .before .args in
-    file-is (now (a .buf)) (a .len) (now (a .jrn)) (a .used) (a .r) (a .facts) (c .before .before .before .before .before .pre)
+    file-is (a .profile) (now (a .buf)) (a .len) (now (a .jrn)) (a .used) (a .r) (a .facts) (c .before .before .before .before .before .pre)
 
 plan-unlisted-requires : tie.Need-plan-unlisted-requires
 plan-unlisted-requires c κs =
     let a = c .before .before .before .before .before .args in
-    asked-begins (now (a .buf)) (a .len) (now (a .jrn)) (a .used) (a .r) (a .facts) (c .before .before .before .before .before .pre) (c .before .if2 .taken)
+    asked-begins (a .profile) (now (a .buf)) (a .len) (now (a .jrn)) (a .used) (a .r) (a .facts) (c .before .before .before .before .before .pre) (c .before .if2 .taken)
 
 returns-2 : tie.Need-returns-2
 returns-2 c =
     let a = c .before .before .before .before .before .before .args in
-    asked-unlisted (now (a .buf)) (a .len) (now (a .jrn)) (a .used) (a .r) (a .facts) (c .before .before .before .before .before .before .pre) _ (c .before .before .if2 .taken) (c .plan-unlisted .ensures)
+    asked-unlisted (a .profile) (now (a .buf)) (a .len) (now (a .jrn)) (a .used) (a .r) (a .facts) (c .before .before .before .before .before .before .pre) _ (c .before .before .if2 .taken) (c .plan-unlisted .ensures)
 
 sub-end : tie.Need-sub-end
 sub-end c =
     let a = c .before .before .before .before .args in
-    omega (arith, record-room (now (a .buf)) (a .len) (now (a .jrn)) (a .used) (a .r) (a .facts) (c .before .before .before .before .pre))
+    omega (arith, record-room (a .profile) (now (a .buf)) (a .len) (now (a .jrn)) (a .used) (a .r) (a .facts) (c .before .before .before .before .pre))
 
 cast-from : tie.Need-cast-from
 cast-from c = search needs
@@ -45,7 +45,7 @@ cast-from c = search needs
 sub-from : tie.Need-sub-from
 sub-from c =
     let a = c .before .before .before .before .before .args in
-    omega (arith, record-room (now (a .buf)) (a .len) (now (a .jrn)) (a .used) (a .r) (a .facts) (c .before .before .before .before .before .pre))
+    omega (arith, record-room (a .profile) (now (a .buf)) (a .len) (now (a .jrn)) (a .used) (a .r) (a .facts) (c .before .before .before .before .before .pre))
 
 sub-d : tie.Need-sub-d
 sub-d c = search needs
@@ -62,22 +62,22 @@ plan-replaced-requires c κs = search needs
 returns-3 : tie.Need-returns-3
 returns-3 c =
     let a = c .before .before .before .before .before .before .before .before .args in
-    asked-replaced (now (a .buf)) (a .len) (now (a .jrn)) (a .used) (a .r) (a .facts) (c .before .before .before .before .before .before .before .before .pre) _ (c .before .if3 .taken) (c .plan-replaced .ensures)
+    asked-replaced (a .profile) (now (a .buf)) (a .len) (now (a .jrn)) (a .used) (a .r) (a .facts) (c .before .before .before .before .before .before .before .before .pre) _ (c .before .if3 .taken) (c .plan-replaced .ensures)
 
 slice-aggregate-plan-removed : tie.Need-slice-aggregate-plan-removed
 slice-aggregate-plan-removed c =
     let a = c .before .before .before .before .before .before .before .before .args in
-    file-is (now (a .buf)) (a .len) (now (a .jrn)) (a .used) (a .r) (a .facts) (c .before .before .before .before .before .before .before .before .pre)
+    file-is (a .profile) (now (a .buf)) (a .len) (now (a .jrn)) (a .used) (a .r) (a .facts) (c .before .before .before .before .before .before .before .before .pre)
 
 plan-removed-requires : tie.Need-plan-removed-requires
 plan-removed-requires c κs =
     let a = c .before .before .before .before .before .before .before .before .args in
-    index-inside (now (a .buf)) (a .len) (now (a .jrn)) (a .used) (a .r) (a .facts) (c .before .before .before .before .before .before .before .before .pre)
+    index-inside (a .profile) (now (a .buf)) (a .len) (now (a .jrn)) (a .used) (a .r) (a .facts) (c .before .before .before .before .before .before .before .before .pre)
 
 returns-4 : tie.Need-returns-4
 returns-4 c =
     let a = c .before .before .before .before .before .before .before .before .before .args in
-    asked-removed (now (a .buf)) (a .len) (now (a .jrn)) (a .used) (a .r) (a .facts)
+    asked-removed (a .profile) (now (a .buf)) (a .len) (now (a .jrn)) (a .used) (a .r) (a .facts)
     (c .before .before .before .before .before .before .before .before .before .pre) _ (c .before .before .before .before .before .before .if1 .left)
     (c .before .before .before .before .before .if2 .left) (c .before .before .if3 .left) (c .plan-removed .ensures)
 

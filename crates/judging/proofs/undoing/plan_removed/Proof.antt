@@ -54,7 +54,7 @@ fits-removed-requires c κs = search needs
 returns : tie.Need-returns
 returns c =
     let a = c .before .before .before .before .before .before .before .before .before .before .before .before .before .before .args in
-    removed-not (a .facts) (now (a .s)) (a .r) (now (a .d)) _ _ _ _ _ _ (c .before .fits-removed .ensures)
+    removed-not (a .profile) (a .facts) (now (a .s)) (a .r) (now (a .d)) _ _ _ _ _ _ (c .before .fits-removed .ensures)
     (c .before .before .before .before .before .before .before .before .before .less .ensures)
     (c .before .before .before .before .before .before .before .in-order .ensures)
     (c .before .before .before .before .type-allowed .ensures) (c .before .before .entry-fine .ensures)
@@ -63,7 +63,7 @@ returns c =
 returns-2 : tie.Need-returns-2
 returns-2 c =
     let a = c .before .before .before .before .before .before .before .before .before .before .before .before .before .before .args in
-    removed-fits (a .facts) (now (a .s)) (a .r) (now (a .d)) _ _ _ _ _ _ (c .before .fits-removed .ensures)
+    removed-fits (a .profile) (a .facts) (now (a .s)) (a .r) (now (a .d)) _ _ _ _ _ _ (c .before .fits-removed .ensures)
     (c .before .before .before .before .before .before .before .before .before .less .ensures)
     (c .before .before .before .before .before .before .before .in-order .ensures)
     (c .before .before .before .before .type-allowed .ensures) (c .before .before .entry-fine .ensures)

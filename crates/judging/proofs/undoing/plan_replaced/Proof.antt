@@ -1,5 +1,5 @@
 use denote.Ref.{now}
-use Rattle.judging.proofs.UndoTests.{replaced-not, replaced-fits}
+use Rattle.judging.proofs.UndoTests.{replaced-none, replaced-not, replaced-fits}
 use borrow.Author.Needs.{needs}
 use Rattle.judging.proofs.undoing.plan_replaced.Statement.{statement}
 use Rattle.judging.proofs.undoing.plan_replaced.Tie as tie
@@ -20,7 +20,9 @@ enum-told c = search needs
 
 -- src/undoing.rt:107:9
 returns : tie.Need-returns
-returns c = search needs
+returns c =
+    let a = c .before .before .before .args in
+    replaced-none (a .profile) (a .facts) (a .len) (a .r) (now (a .d)) (c .enum-told .given .1)
 
 -- src/undoing.rt:111:9
 chunk-size-requires : tie.Need-chunk-size-requires
@@ -50,18 +52,18 @@ old-fine-requires c κs = search needs
 returns-2 : tie.Need-returns-2
 returns-2 c =
     let a = c .before .before .before .before .before .before .before .before .before .before .args in
-    replaced-not (a .facts) (a .len) (a .r) (now (a .d)) _ _ _ _ _ _ (c .before .before .before .before .before .before .before .target .given .1) (c .before .before .fits-replaced .ensures) (c .before .old-fine .ensures)
+    replaced-not (a .profile) (a .facts) (a .len) (a .r) (now (a .d)) _ _ _ _ _ _ (c .before .before .before .before .before .before .before .target .given .1) (c .before .before .fits-replaced .ensures) (c .before .old-fine .ensures)
     (c .before .before .before .before .before .chunk-size .ensures) (c .before .before .before .chunk-size2 .ensures) (c .before .before .before .before .less .ensures) (c .if1 .taken)
 
 -- src/undoing.rt:118:13
-cast-t11 : tie.Need-cast-t11
-cast-t11 c = search needs
+cast-t12 : tie.Need-cast-t12
+cast-t12 c = search needs
 
 -- src/undoing.rt:101:1
 returns-3 : tie.Need-returns-3
 returns-3 c =
     let a = c .before .before .before .before .before .before .before .before .before .before .before .args in
-    replaced-fits (a .facts) (a .len) (a .r) (now (a .d)) _ _ _ _ _ _ (c .before .before .before .before .before .before .before .before .target .given .1) (c .before .before .before .fits-replaced .ensures) (c .before .before .old-fine .ensures)
+    replaced-fits (a .profile) (a .facts) (a .len) (a .r) (now (a .d)) _ _ _ _ _ _ (c .before .before .before .before .before .before .before .before .target .given .1) (c .before .before .before .fits-replaced .ensures) (c .before .before .old-fine .ensures)
     (c .before .before .before .before .before .before .chunk-size .ensures) (c .before .before .before .before .chunk-size2 .ensures) (c .before .before .before .before .before .less .ensures) (c .before .if1 .left)
 
 pub plan-replaced-spec : {M : Type 1} → statement M
@@ -78,5 +80,5 @@ plan-replaced-spec =
     fits-replaced-requires
     old-fine-requires
     returns-2
-    cast-t11
+    cast-t12
     returns-3)

@@ -11,7 +11,7 @@ use Rattle.judging.proofs.undoing.in_order.Reads as in-order-reads
 use Rattle.judging.proofs.undoing.less.Reads as less-reads
 
 returns : tie.Need-returns
-returns c = unlisted-none (c .before .before .args .facts) (now (c .before .before .args .s)) (c .before .before .args .r) (c .if1 .taken)
+returns c = unlisted-none (c .before .before .args .profile) (c .before .before .args .facts) (now (c .before .before .args .s)) (c .before .before .args .r) (c .if1 .taken)
 
 add-to : tie.Need-add-to
 add-to c = search needs
@@ -46,7 +46,7 @@ cast-if2 c = search needs
 returns-2 : tie.Need-returns-2
 returns-2 c =
     let a = c .before .before .before .before .before .before .before .before .before .before .args in
-    unlisted-not (a .facts) (now (a .s)) (a .r) _ _ _ _ (c .before .before .before .before .before .before .before .before .if1 .left)
+    unlisted-not (a .profile) (a .facts) (now (a .s)) (a .r) _ _ _ _ (c .before .before .before .before .before .before .before .before .if1 .left)
     (c .before .before .before .before .before .before .less .ensures) (c .before .before .before .before .in-order .ensures)
     (c .before .before .before .chunk-allowed .ensures)
     (c .before .before .entry-fine .ensures) (c .if2 .taken)
@@ -54,7 +54,7 @@ returns-2 c =
 returns-3 : tie.Need-returns-3
 returns-3 c =
     let a = c .before .before .before .before .before .before .before .before .before .before .args in
-    unlisted-fits (a .facts) (now (a .s)) (a .r) _ _ _ _ (c .before .before .before .before .before .before .before .before .if1 .left)
+    unlisted-fits (a .profile) (a .facts) (now (a .s)) (a .r) _ _ _ _ (c .before .before .before .before .before .before .before .before .if1 .left)
     (c .before .before .before .before .before .before .less .ensures) (c .before .before .before .before .in-order .ensures)
     (c .before .before .before .chunk-allowed .ensures)
     (c .before .before .entry-fine .ensures) (c .if2 .left)

@@ -8,7 +8,7 @@ use Rattle.blorb.proofs.Accept.{bytes-all}
 use Rattle.blorb.specs.All.{All}
 use Rattle.judging.specs.declared.undoing.Undoing.{Undoing}
 use Rattle.judging.specs.UndoPlan.{roomy}
-use Rattle.judging.proofs.UndoAsked.{short-buffer, short-journal, unread, nothing-used, unformed, formed, asked}
+use Rattle.judging.proofs.UndoAsked.{unknown-profile, short-buffer, short-journal, unread, nothing-used, unformed, formed, asked}
 use borrow.Author.Needs.{needs}
 use Rattle.judging.proofs.undoing.undo_plan.Statement.{statement}
 use Rattle.judging.proofs.undoing.undo_plan.Tie as tie
@@ -20,17 +20,22 @@ use Rattle.judging.proofs.undoing.last_numbers.Reads as last-numbers-re
 use Rattle.judging.proofs.undoing.plan_fitting.Reads as plan-fitting-reads
 use Rattle.judging.proofs.undoing.with_room.Reads as with-room-reads
 
--- src/undoing.rt:284:9
 returns : tie.Need-returns
 returns c =
     let a = c .before .before .before .args in
-    short-buffer (now (a .buf)) (a .len) (now (a .jrn)) (a .used) (c .if1 .taken)
+    unknown-profile (a .profile) (now (a .buf)) (a .len) (now (a .jrn)) (a .used) (c .if1 .taken)
 
--- src/undoing.rt:287:9
+-- src/undoing.rt:284:9
 returns-2 : tie.Need-returns-2
 returns-2 c =
     let a = c .before .before .before .before .args in
-    short-journal (now (a .buf)) (a .len) (now (a .jrn)) (a .used) (c .if2 .taken)
+    short-buffer (a .profile) (now (a .buf)) (a .len) (now (a .jrn)) (a .used) (c .before .if1 .left) (c .if2 .taken)
+
+-- src/undoing.rt:287:9
+returns-3 : tie.Need-returns-3
+returns-3 c =
+    let a = c .before .before .before .before .before .args in
+    short-journal (a .profile) (now (a .buf)) (a .len) (now (a .jrn)) (a .used) (c .before .before .if1 .left) (c .if3 .taken)
 
 -- src/undoing.rt:289:9
 last-numbers-requires : tie.Need-last-numbers-requires
@@ -38,7 +43,7 @@ last-numbers-requires c κs = search needs
 
 -- src/undoing.rt:290:30
 slice-aggregate-inspect : tie.Need-slice-aggregate-inspect
-slice-aggregate-inspect c = sym (length-take-le _ _ (c .before .before .before .if1 .left))
+slice-aggregate-inspect c = sym (length-take-le _ _ (c .before .before .before .if2 .left))
 
 -- src/undoing.rt:290:62
 asked-offset-requires : tie.Need-asked-offset-requires
@@ -57,30 +62,30 @@ enum-known-facts : tie.Need-enum-known-facts
 enum-known-facts c = search needs
 
 -- src/undoing.rt:294:17
-returns-3 : tie.Need-returns-3
-returns-3 c =
-    let a = c .before .before .before .before .before .before .before .before .before .before .before .before .args in
-    let r = c .before .before .before .before .before .before .before .last-numbers .result in
-    nothing-used (now (a .buf)) (a .len) (now (a .jrn)) (a .used) (c .before .before .before .before .before .before .before .before .before .if1 .left) (c .before .before .before .before .before .before .before .before .if2 .left) (r .usage) (r .number) (c .before .before .before .before .before .asked-offset .result)
-    (c .before .before .facts .given .0 .0) (sym (c .before .before .before .before .inspect .ensures) ∙ c .before .before .facts .given .1) (c .if3 .taken)
-
--- src/undoing.rt:297:17
 returns-4 : tie.Need-returns-4
 returns-4 c =
-    let a = c .before .before .before .before .before .before .before .before .before .before .before .before .before .before .args in
+    let a = c .before .before .before .before .before .before .before .before .before .before .before .before .before .args in
+    let r = c .before .before .before .before .before .before .before .last-numbers .result in
+    nothing-used (a .profile) (now (a .buf)) (a .len) (now (a .jrn)) (a .used) (c .before .before .before .before .before .before .before .before .before .before .if1 .left) (c .before .before .before .before .before .before .before .before .before .if2 .left) (c .before .before .before .before .before .before .before .before .if3 .left) (r .usage) (r .number) (c .before .before .before .before .before .asked-offset .result)
+    (c .before .before .facts .given .0 .0) (sym (c .before .before .before .before .inspect .ensures) ∙ c .before .before .facts .given .1) (c .if4 .taken)
+
+-- src/undoing.rt:297:17
+returns-5 : tie.Need-returns-5
+returns-5 c =
+    let a = c .before .before .before .before .before .before .before .before .before .before .before .before .before .before .before .args in
     let r = c .before .before .before .before .before .before .before .before .before .last-numbers .result in
-    unformed (now (a .buf)) (a .len) (now (a .jrn)) (a .used) (c .before .before .before .before .before .before .before .before .before .before .before .if1 .left) (c .before .before .before .before .before .before .before .before .before .before .if2 .left) (r .usage) (r .number) (c .before .before .before .before .before .before .before .asked-offset .result)
-    (c .before .before .before .before .facts .given .0 .0) (sym (c .before .before .before .before .before .before .inspect .ensures) ∙ c .before .before .before .before .facts .given .1) (c .before .before .if3 .left) r (c .before .before .before .before .before .before .before .before .before .last-numbers .ensures) (c .if4 .taken)
+    unformed (a .profile) (now (a .buf)) (a .len) (now (a .jrn)) (a .used) (c .before .before .before .before .before .before .before .before .before .before .before .before .if1 .left) (c .before .before .before .before .before .before .before .before .before .before .before .if2 .left) (c .before .before .before .before .before .before .before .before .before .before .if3 .left) (r .usage) (r .number) (c .before .before .before .before .before .before .before .asked-offset .result)
+    (c .before .before .before .before .facts .given .0 .0) (sym (c .before .before .before .before .before .before .inspect .ensures) ∙ c .before .before .before .before .facts .given .1) (c .before .before .if4 .left) r (c .before .before .before .before .before .before .before .before .before .last-numbers .ensures) (c .if5 .taken)
 
 -- src/undoing.rt:299:23
 plan-fitting-requires : tie.Need-plan-fitting-requires
 plan-fitting-requires c κs =
-    let a = c .before .before .before .before .before .before .before .before .before .before .before .before .before .before .args in
+    let a = c .before .before .before .before .before .before .before .before .before .before .before .before .before .before .before .args in
     let r = c .before .before .before .before .before .before .before .before .before .last-numbers .result in
-    let bb : All Byte (now (a .buf)) = bytes-all (now (a .buf)) (λ i. omega (arith, c .before .before .before .before .before .before .before .before .before .before .before .before .before .shared-slice-known .given i)) in
-    let bj : All Byte (now (a .jrn)) = bytes-all (now (a .jrn)) (λ i. omega (arith, c .before .before .before .before .before .before .before .before .before .before .before .before .shared-slice-known2 .given i)) in
-    asked (now (a .buf)) (a .len) (now (a .jrn)) (a .used) (c .before .before .before .before .before .before .before .before .before .before .before .if1 .left) (c .before .before .before .before .before .before .before .before .before .before .if2 .left) (r .usage) (r .number) (c .before .before .before .before .before .before .before .asked-offset .result)
-    (c .before .before .before .before .facts .given .0 .0) (sym (c .before .before .before .before .before .before .inspect .ensures) ∙ c .before .before .before .before .facts .given .1) (c .before .before .if3 .left) r (c .before .before .before .before .before .before .before .before .before .last-numbers .ensures) (c .if4 .left)
+    let bb : All Byte (now (a .buf)) = bytes-all (now (a .buf)) (λ i. omega (arith, c .before .before .before .before .before .before .before .before .before .before .before .before .before .before .shared-slice-known .given i)) in
+    let bj : All Byte (now (a .jrn)) = bytes-all (now (a .jrn)) (λ i. omega (arith, c .before .before .before .before .before .before .before .before .before .before .before .before .before .shared-slice-known2 .given i)) in
+    asked (a .profile) (now (a .buf)) (a .len) (now (a .jrn)) (a .used) (c .before .before .before .before .before .before .before .before .before .before .before .before .if1 .left) (c .before .before .before .before .before .before .before .before .before .before .before .if2 .left) (c .before .before .before .before .before .before .before .before .before .before .if3 .left) (r .usage) (r .number) (c .before .before .before .before .before .before .before .asked-offset .result)
+    (c .before .before .before .before .facts .given .0 .0) (sym (c .before .before .before .before .before .before .inspect .ensures) ∙ c .before .before .before .before .facts .given .1) (c .before .before .if4 .left) r (c .before .before .before .before .before .before .before .before .before .last-numbers .ensures) (c .if5 .left)
     bb bj refl refl (c .before .before .before .before .before .before .before .asked-offset .ensures)
 
 -- src/undoing.rt:299:13
@@ -88,20 +93,20 @@ with-room-requires : tie.Need-with-room-requires
 with-room-requires c κs = search needs
 
 -- src/undoing.rt:280:1
-returns-5 : tie.Need-returns-5
-returns-5 c =
-    let a = c .before .before .before .before .before .before .before .before .before .before .before .args in
+returns-6 : tie.Need-returns-6
+returns-6 c =
+    let a = c .before .before .before .before .before .before .before .before .before .before .before .before .args in
     let r = c .before .before .before .before .before .before .last-numbers .result in
-    unread (now (a .buf)) (a .len) (now (a .jrn)) (a .used) (c .before .before .before .before .before .before .before .before .if1 .left) (c .before .before .before .before .before .before .before .if2 .left) (r .usage) (r .number) (c .before .before .before .before .asked-offset .result)
+    unread (a .profile) (now (a .buf)) (a .len) (now (a .jrn)) (a .used) (c .before .before .before .before .before .before .before .before .before .if1 .left) (c .before .before .before .before .before .before .before .before .if2 .left) (c .before .before .before .before .before .before .before .if3 .left) (r .usage) (r .number) (c .before .before .before .before .asked-offset .result)
     (c .before .number .given .0 .0) (c .before .number .given .0 .1 .0) (sym (c .before .before .before .inspect .ensures) ∙ c .before .number .given .1)
 
 -- src/undoing.rt:280:1
-returns-6 : tie.Need-returns-6
-returns-6 c =
-    let a = c .before .before .before .before .before .before .before .before .before .before .before .before .before .before .before .before .args in
+returns-7 : tie.Need-returns-7
+returns-7 c =
+    let a = c .before .before .before .before .before .before .before .before .before .before .before .before .before .before .before .before .before .args in
     let r = c .before .before .before .before .before .before .before .before .before .before .before .last-numbers .result in
-    formed (now (a .buf)) (a .len) (now (a .jrn)) (a .used) (c .before .before .before .before .before .before .before .before .before .before .before .before .before .if1 .left) (c .before .before .before .before .before .before .before .before .before .before .before .before .if2 .left) (r .usage) (r .number) (c .before .before .before .before .before .before .before .before .before .asked-offset .result)
-    (c .before .before .before .before .before .before .facts .given .0 .0) (sym (c .before .before .before .before .before .before .before .before .inspect .ensures) ∙ c .before .before .before .before .before .before .facts .given .1) (c .before .before .before .before .if3 .left) r (c .before .before .before .before .before .before .before .before .before .before .before .last-numbers .ensures) (c .before .before .if4 .left)
+    formed (a .profile) (now (a .buf)) (a .len) (now (a .jrn)) (a .used) (c .before .before .before .before .before .before .before .before .before .before .before .before .before .before .if1 .left) (c .before .before .before .before .before .before .before .before .before .before .before .before .before .if2 .left) (c .before .before .before .before .before .before .before .before .before .before .before .before .if3 .left) (r .usage) (r .number) (c .before .before .before .before .before .before .before .before .before .asked-offset .result)
+    (c .before .before .before .before .before .before .facts .given .0 .0) (sym (c .before .before .before .before .before .before .before .before .inspect .ensures) ∙ c .before .before .before .before .before .before .facts .given .1) (c .before .before .before .before .if4 .left) r (c .before .before .before .before .before .before .before .before .before .before .before .last-numbers .ensures) (c .before .before .if5 .left)
     (c .with-room .result) (c .with-room .ensures ∙ ap (λ (z : Undoing). roomy (length (now (a .buf))) z) (c .before .plan-fitting .ensures))
 
 pub undo-plan-spec : {M : Type 1} → statement M
@@ -110,15 +115,16 @@ undo-plan-spec =
     (tie.spec
     returns
     returns-2
+    returns-3
     last-numbers-requires
     slice-aggregate-inspect
     asked-offset-requires
     inspect-requires
     enum-known-number
     enum-known-facts
-    returns-3
     returns-4
+    returns-5
     plan-fitting-requires
     with-room-requires
-    returns-5
-    returns-6)
+    returns-6
+    returns-7)

@@ -21,16 +21,16 @@ use Rattle.reader.proofs.entries.same_pair.Reads as same-pair-reads
 use Rattle.reader.proofs.entries.slot.Reads as slot-reads
 
 abbrev Inv-loop : tie.InvT-loop
-Inv-loop s count base answer₀ tops found j p before k number i₀ answer i = (i ≤ j) × (answer ≡ Good) × (pairIn (usageAt s (place j)) (numberAt s (place j)) (earlier s base i) ≡ false)
+Inv-loop s profile count base answer₀ tops found j p before k number i₀ answer i = (i ≤ j) × (answer ≡ Good) × (pairIn (usageAt s (place j)) (numberAt s (place j)) (earlier s base i) ≡ false)
 
 abbrev μ-loop : tie.MeasureT-loop
-μ-loop s count base answer₀ tops found j p before k number i₀ answer i = j - i
+μ-loop s profile count base answer₀ tops found j p before k number i₀ answer i = j - i
 
 abbrev Inv-entries : tie.InvT-entries
-Inv-entries s count base answer₀ tops₀ found₀ j₀ answer tops found j = (j ≤ count) × (answer ≡ Good) × (length tops ≡ 8) × (walkFrom s found ≡ accept) × Reached s base found × (entriesFrom s base j (count - j) ≡ entriesFrom s base 0 count) × Below s tops j × Before s base j found
+Inv-entries s profile count base answer₀ tops₀ found₀ j₀ answer tops found j = (j ≤ count) × (answer ≡ Good) × (length tops ≡ 8) × (walkFrom s found ≡ accept) × Reached s base found × (entriesFrom profile s base j (count - j) ≡ entriesFrom profile s base 0 count) × Below s tops j × Before s base j found
 
 abbrev μ-entries : tie.MeasureT-entries
-μ-entries s count base answer₀ tops₀ found₀ j₀ answer tops found j = count - j
+μ-entries s profile count base answer₀ tops₀ found₀ j₀ answer tops found j = count - j
 
 -- src/entries.rt:175:21
 mul-base : tie.Need-mul-base Inv-loop μ-loop Inv-entries μ-entries
@@ -45,7 +45,7 @@ entries-holds : tie.Need-entries-holds Inv-loop μ-loop Inv-entries μ-entries
 entries-holds c =
     let a = c .before .args in
     let z : a .count - 0 ≡ a .count = omega arith in
-    (search needs, refl, refl, c .before .pre .2, (λ x l. refl), ap (λ (n : ℕ). entriesFrom (now (a .s)) (place (a .count)) 0 n) z, (λ i h. absurd (omega arith)), before-none (now (a .s)) (place (a .count)))
+    (search needs, refl, refl, c .before .pre .2, (λ x l. refl), ap (λ (n : ℕ). entriesFrom (a .profile) (now (a .s)) (place (a .count)) 0 n) z, (λ i h. absurd (omega arith)), before-none (now (a .s)) (place (a .count)))
 
 -- src/entries.rt:181:22
 mul-p : tie.Need-mul-p Inv-loop μ-loop Inv-entries μ-entries
@@ -65,7 +65,7 @@ enum-known-number c = search needs
 
 -- src/entries.rt:184:17
 returns : tie.Need-returns Inv-loop μ-loop Inv-entries μ-entries
-returns c = entry-stop _ _ _ _ (c .before .before .before .before .before .before .before .pre .2) (c .before .before .before .before .entries-test .taken) _ _ (judged-fault _ _ _ _ (sym (c .before .before .before .judge .ensures) ∙ c .before .number .given .1)) ∙ c .before .before .before .before .before .entries .inv .5
+returns c = entry-stop _ _ _ _ _ (c .before .before .before .before .before .before .before .pre .2) (c .before .before .before .before .entries-test .taken) _ _ (judged-fault _ _ _ _ (sym (c .before .before .before .judge .ensures) ∙ c .before .number .given .1)) ∙ c .before .before .before .before .before .entries .inv .5
 
 -- src/entries.rt:186:24
 enum-known-start : tie.Need-enum-known-start Inv-loop μ-loop Inv-entries μ-entries
@@ -108,15 +108,15 @@ returns-2 c =
     let p : ℕ = place (o .j) in
     let base : ℕ = place (a .count) in
     let w = c .before .before .before .before .before .before .before .before .before .before .before .before .before .pre .2 in
-    let g = judged-at (entryFault s base p) (startAt s p) _ (sym (c .before .before .before .before .before .before .before .before .before .judge .ensures) ∙ c .before .before .before .before .before .before .before .start .given .1) in
-    let b = entry-start s base p (g .0) in
+    let g = judged-at (entryFault (a .profile) s base p) (startAt s p) _ (sym (c .before .before .before .before .before .before .before .before .before .judge .ensures) ∙ c .before .before .before .before .before .before .before .start .given .1) in
+    let b = entry-start _ s base p (g .0) in
     let k = c .before .before .before .before .slot .result in
     let q : k ≡ slotOf (usageAt s p) = c .before .before .before .before .slot .ensures .0 ∙ ap slotOf (c .before .before .before .before .before .be32-at .ensures .0) in
     let m : c .before .before .before .be32-at2 .result ≡ numberAt s p = c .before .before .before .be32-at2 .ensures .0 in
     let top : ℕ = getD (o .tops) k 0 in
     let h : top ≤ c .before .before .before .be32-at2 .result = c .before .before .if1 .taken in
     let x : pairIn (usageAt s p) (numberAt s p) (earlier s base (o .j)) ≡ false = fresh s base (o .j) top (topped s (o .tops) (o .j) k (o .inv .6) q) (omega arith) (o .j) (omega arith) in
-    c .unordered .ensures ∙ order-stop s base (a .count) (o .j) w (omega arith) (g .0) x (o .found) _ (o .inv .7) (g .1) (c .before .if2 .taken) ∙ o .inv .5
+    c .unordered .ensures ∙ order-stop _ s base (a .count) (o .j) w (omega arith) (g .0) x (o .found) _ (o .inv .7) (g .1) (c .before .if2 .taken) ∙ o .inv .5
 
 -- src/entries.rt:193:23
 add-tops : tie.Need-add-tops Inv-loop μ-loop Inv-entries μ-entries
@@ -147,8 +147,8 @@ entries-again c =
     let p : ℕ = place (o .j) in
     let base : ℕ = place (a .count) in
     let w = c .before .before .before .before .before .before .before .before .before .before .before .before .pre .2 in
-    let g = judged-at (entryFault s base p) (startAt s p) _ (sym (c .before .before .before .before .before .before .before .before .judge .ensures) ∙ c .before .before .before .before .before .before .start .given .1) in
-    let b = entry-start s base p (g .0) in
+    let g = judged-at (entryFault (a .profile) s base p) (startAt s p) _ (sym (c .before .before .before .before .before .before .before .before .judge .ensures) ∙ c .before .before .before .before .before .before .start .given .1) in
+    let b = entry-start _ s base p (g .0) in
     let k = c .before .before .before .slot .result in
     let q : k ≡ slotOf (usageAt s p) = c .before .before .before .slot .ensures .0 ∙ ap slotOf (c .before .before .before .before .be32-at .ensures .0) in
     let m : c .before .before .be32-at2 .result ≡ numberAt s p = c .before .before .be32-at2 .ensures .0 in
@@ -162,9 +162,9 @@ entries-again c =
       simp length-set t,
       rw (← (g .1)) (begun s (startAt s p) base w b .walks),
       rw (← (g .1)) (resume s (startAt s p) base w b),
-      entries-next s base (a .count) (o .j) w (omega arith) (g .0) x (o .found) _ (o .inv .7) (g .1) (c .if2 .left) ∙ o .inv .5,
+      entries-next _ s base (a .count) (o .j) w (omega arith) (g .0) x (o .found) _ (o .inv .7) (g .1) (c .if2 .left) ∙ o .inv .5,
       below-next s (o .tops) (o .j) k (c .before .before .be32-at2 .result + 1) (o .inv .6) q (omega arith) (omega arith) (omega arith),
-      before-next s base (a .count) (o .j) w (omega arith) (g .0) _ (g .1),
+      before-next _ s base (a .count) (o .j) w (omega arith) (g .0) _ (g .1),
     )
 
 -- src/entries.rt:198:9
@@ -202,15 +202,15 @@ returns-3 c =
     let p : ℕ = place (o .j) in
     let base : ℕ = place (a .count) in
     let w = c .before .before .before .before .before .before .before .before .before .before .before .before .before .before .before .pre .2 in
-    let g = judged-at (entryFault s base p) (startAt s p) _ (sym (c .before .before .before .before .before .before .before .before .before .before .before .judge .ensures) ∙ c .before .before .before .before .before .before .before .before .before .start .given .1) in
-    let b = entry-start s base p (g .0) in
+    let g = judged-at (entryFault (a .profile) s base p) (startAt s p) _ (sym (c .before .before .before .before .before .before .before .before .before .before .before .judge .ensures) ∙ c .before .before .before .before .before .before .before .before .before .start .given .1) in
+    let b = entry-start _ s base p (g .0) in
     let k = c .before .before .before .before .before .before .slot .result in
     let q : k ≡ slotOf (usageAt s p) = c .before .before .before .before .before .before .slot .ensures .0 ∙ ap slotOf (c .before .before .before .before .before .before .before .be32-at .ensures .0) in
     let m : c .before .before .before .before .before .be32-at2 .result ≡ numberAt s p = c .before .before .before .before .before .be32-at2 .ensures .0 in
     let l = c .before .before .before .loop in
     let i : l .i ≡ o .j = omega (arith, l .inv .0, c .before .before .loop-test .left) in
     let x : pairIn (usageAt s p) (numberAt s p) (earlier s base (o .j)) ≡ false = ap (λ (z : ℕ). pairIn (usageAt s p) (numberAt s p) (earlier s base z)) (sym i) ∙ l .inv .2 in
-    c .unordered2 .ensures ∙ order-stop s base (a .count) (o .j) w (omega arith) (g .0) x (o .found) _ (o .inv .7) (g .1) (c .before .if4 .taken) ∙ o .inv .5
+    c .unordered2 .ensures ∙ order-stop _ s base (a .count) (o .j) w (omega arith) (g .0) x (o .found) _ (o .inv .7) (g .1) (c .before .if4 .taken) ∙ o .inv .5
 
 -- src/entries.rt:208:9
 add-j-2 : tie.Need-add-j-2 Inv-loop μ-loop Inv-entries μ-entries
@@ -229,8 +229,8 @@ entries-again-2 c =
     let p : ℕ = place (o .j) in
     let base : ℕ = place (a .count) in
     let w = c .before .before .before .before .before .before .before .before .before .before .before .before .before .before .pre .2 in
-    let g = judged-at (entryFault s base p) (startAt s p) _ (sym (c .before .before .before .before .before .before .before .before .before .before .judge .ensures) ∙ c .before .before .before .before .before .before .before .before .start .given .1) in
-    let b = entry-start s base p (g .0) in
+    let g = judged-at (entryFault (a .profile) s base p) (startAt s p) _ (sym (c .before .before .before .before .before .before .before .before .before .before .judge .ensures) ∙ c .before .before .before .before .before .before .before .before .start .given .1) in
+    let b = entry-start _ s base p (g .0) in
     let k = c .before .before .before .before .before .slot .result in
     let q : k ≡ slotOf (usageAt s p) = c .before .before .before .before .before .slot .ensures .0 ∙ ap slotOf (c .before .before .before .before .before .before .be32-at .ensures .0) in
     let m : c .before .before .before .before .be32-at2 .result ≡ numberAt s p = c .before .before .before .before .be32-at2 .ensures .0 in
@@ -243,9 +243,9 @@ entries-again-2 c =
       o .inv .2,
       rw (← (g .1)) (begun s (startAt s p) base w b .walks),
       rw (← (g .1)) (resume s (startAt s p) base w b),
-      entries-next s base (a .count) (o .j) w (omega arith) (g .0) x (o .found) _ (o .inv .7) (g .1) (c .if4 .left) ∙ o .inv .5,
+      entries-next _ s base (a .count) (o .j) w (omega arith) (g .0) x (o .found) _ (o .inv .7) (g .1) (c .if4 .left) ∙ o .inv .5,
       below-same s (o .tops) (o .j) k (o .inv .6) q (omega arith),
-      before-next s base (a .count) (o .j) w (omega arith) (g .0) _ (g .1),
+      before-next _ s base (a .count) (o .j) w (omega arith) (g .0) _ (g .1),
     )
 
 -- src/entries.rt:171:1
@@ -254,7 +254,7 @@ returns-4 c =
     let a = c .before .before .before .args in
     let o = c .before .entries in
     let z : a .count - o .j ≡ 0 = omega arith in
-    rw (o .inv .1) (sym (ap (λ (n : ℕ). entriesFrom (now (a .s)) (place (a .count)) (o .j) n) z ∙ entries-end (now (a .s)) (place (a .count)) (c .before .before .before .pre .2) (o .j)) ∙ o .inv .5)
+    rw (o .inv .1) (sym (ap (λ (n : ℕ). entriesFrom (a .profile) (now (a .s)) (place (a .count)) (o .j) n) z ∙ entries-end _ (now (a .s)) (place (a .count)) (c .before .before .before .pre .2) (o .j)) ∙ o .inv .5)
 
 -- src/entries.rt:171:1
 returns-5 : tie.Need-returns-5 Inv-loop μ-loop Inv-entries μ-entries
@@ -265,8 +265,8 @@ returns-5 c =
     let l = c .before .before .before .loop in
     let p : ℕ = place (o .j) in
     let base : ℕ = place (a .count) in
-    let g = judged-at (entryFault s base p) (startAt s p) _ (sym (c .before .before .before .before .before .before .before .before .before .before .before .judge .ensures) ∙ c .before .before .before .before .before .before .before .before .before .start .given .1) in
-    pair-stop s base (a .count) (o .j) (c .before .before .before .before .before .before .before .before .before .before .before .before .before .before .before .pre .2) (omega arith) (g .0) (pair-hit s base (l .i) (o .j) (o .j) (c .before .before .loop-test .taken) (sym (c .before .same-pair .ensures) ∙ c .if3 .taken)) ∙ o .inv .5
+    let g = judged-at (entryFault (a .profile) s base p) (startAt s p) _ (sym (c .before .before .before .before .before .before .before .before .before .before .before .judge .ensures) ∙ c .before .before .before .before .before .before .before .before .before .start .given .1) in
+    pair-stop _ s base (a .count) (o .j) (c .before .before .before .before .before .before .before .before .before .before .before .before .before .before .before .pre .2) (omega arith) (g .0) (pair-hit s base (l .i) (o .j) (o .j) (c .before .before .loop-test .taken) (sym (c .before .same-pair .ensures) ∙ c .if3 .taken)) ∙ o .inv .5
 
 pub entries-spec : {M : Type 1} → statement M
 entries-spec =

@@ -13,7 +13,7 @@ use Rattle.chunks.proofs.head.Reads as head-reads
 use Rattle.reader.proofs.straight.side_by_side.Reads as side-by-side-reads
 
 returns-7 : tie.Need-returns-7
-returns-7 c = straight-told _ _ _ (sym (c .before .before .before .before .before .before .before .before .before .before .before .head .ensures)
+returns-7 c = straight-told _ _ _ _ (sym (c .before .before .before .before .before .before .before .before .before .before .before .head .ensures)
     ∙ ap verdictOf (c .before .before .before .before .before .before .before .before .before .enum-told2 .given .1))
     (c .before .before .before .before .before .before .before .before .if1 .left)
     (sym (c .before .before .before .before .before .before .before .be32-at .ensures .0) ∙ c .before .before .before .before .before .before .if2 .left)

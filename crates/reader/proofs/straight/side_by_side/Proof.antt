@@ -26,12 +26,12 @@ use Rattle.reader.proofs.straight.step_to.Reads as step-to-reads
 use Rattle.reader.proofs.straight.suits.Reads as suits-reads
 
 abbrev Inv-loop : tie.InvT-loop
-Inv-loop s count tops₀ found₀ at₀ ordinary₀ j₀ tops found at ordinary j = (j ≤ count) × (length tops ≡ 8) × Stands s (place count) found at ordinary
+Inv-loop s profile count tops₀ found₀ at₀ ordinary₀ j₀ tops found at ordinary j = (j ≤ count) × (length tops ≡ 8) × Stands s (place count) found at ordinary
     × Below s tops j
-    × (walkFrom s (place count) ≡ accept → SoFar s (place count) count j found at)
+    × (walkFrom s (place count) ≡ accept → SoFar profile s (place count) count j found at)
 
 abbrev μ-loop : tie.MeasureT-loop
-μ-loop s count tops₀ found₀ at₀ ordinary₀ j₀ tops found at ordinary j = count - j
+μ-loop s profile count tops₀ found₀ at₀ ordinary₀ j₀ tops found at ordinary j = count - j
 
 mul-at : tie.Need-mul-at Inv-loop μ-loop
 mul-at c = search needs
@@ -46,7 +46,7 @@ loop-holds c = (
   record { came = came-none _ _; chunk = λ l. absurd (omega arith) },
   (λ i h. absurd
       (omega arith)),
-  λ w. sofar-none _ _ _ _ (λ l. omega arith),
+  λ w. sofar-none _ _ _ _ _ (λ l. omega arith),
 )
 
 mul-p : tie.Need-mul-p Inv-loop μ-loop
@@ -167,7 +167,7 @@ loop-again c =
       st .0,
       below-next s (l .tops) (l .j) _ _ (l .inv .3) q (omega (arith, c .before .before .before .before .slot .ensures .1, l .inv .1)) (omega
           (arith, c .before .be32-at3 .ensures .0, c .above .ensures .0)) (c .above .ensures .1),
-      λ w. sofar-next s base (a .count) (l .j) _ _ (b .result) _ w
+      λ w. sofar-next _ s base (a .count) (l .j) _ _ (b .result) _ w
           (c .before .before .before .before .before .before .before .before .before .before .before .before .before .loop-test .taken) good fresh (sym
           (b .ensures .0)) (b .ensures .1) (st .1) (t .1) (l .inv .4 w),
     )
@@ -183,7 +183,7 @@ returns-5 c =
     let a = c .before .before .before .before .before .before .before .args in
     let l = c .before .before .before .before .before .loop in
     let e = came-end _ _ _ _ (c .before .if3 .left) (came-then _ _ _ _ _ _ (l .inv .2 .came) (c .before .before .before .pass-over .ensures)) in
-    (refl, e .0, e .1, e .2, sofar-end (now (a .s)) (place (a .count)) (a .count) (l .j) _ _ (e .0) (omega (arith, l .inv .0)) (l .inv .4 (e .0)))
+    (refl, e .0, e .1, e .2, sofar-end _ (now (a .s)) (place (a .count)) (a .count) (l .j) _ _ (e .0) (omega (arith, l .inv .0)) (l .inv .4 (e .0)))
 
 pub side-by-side-spec : {M : Type 1} → statement M
 side-by-side-spec =

@@ -1,44 +1,13 @@
--- 12, 14 and 15 are tested one by one on the chunk that the walk has come to.
-use native.Mathlib.Omega.{arith}
-use mathlib.Core.Path.{sym, _∙_}
-use borrow.Author.Tests.{not-false}
-use Rattle.reader.proofs.StraightLaws.{suits-not, suits-good}
+-- What suits by its plain type suits under every profile.
 use borrow.Author.Needs.{needs}
 use Rattle.reader.proofs.straight.suits.Statement.{statement}
 use Rattle.reader.proofs.straight.suits.Tie as tie
-use Rattle.reader.proofs.straight.suits.Reads as reads
-use Rattle.reader.proofs.straight.suits.Lts as lts
-use Rattle.blorb.proofs.Usage.of_code.Reads as of-code-reads
-use Rattle.blorb.proofs.be32_at.Reads as be32-at-reads
-use Rattle.reader.proofs.entries.numbered.Reads as numbered-reads
-use Rattle.reader.proofs.entries.typed.Reads as typed-reads
 
 returns : tie.Need-returns
-returns c = suits-not _ _
+returns c = λ e. c .before .suits-plainly .ensures _ (c .if1 .taken)
 
 returns-2 : tie.Need-returns-2
-returns-2 c = suits-not _ _
-
-returns-3 : tie.Need-returns-3
-returns-3 c = λ e.
-    suits-good _ _ _ _ _ _ (c .before .before .before .before .before .before .before .before .be32-at .ensures .0) (sym
-    (c .before .before .before .before .before .before .before .of-code .ensures) ∙ c .before .before .before .before .before .usage .given .1) (sym
-    (c .before .before .before .before .before .before .before .before .before .before .pre .3))
-    (sym (c .before .before .before .typed .ensures) ∙ not-false (c .before .before .before .typed .result) (c .before .before .if1 .left))
-    (c .before .be32-at2 .ensures .0) (sym (c .numbered .ensures) ∙ e)
+returns-2 c = c .suits-also .ensures
 
 pub suits-spec : {M : Type 1} → statement M
-suits-spec =
-    tie.close
-    (tie.spec
-    (λ c κs. search needs)
-    (λ c κs. search needs)
-    (λ c. search needs)
-    (λ c. search needs)
-    returns
-    (λ c κs. search needs)
-    returns-2
-    (λ c. search needs)
-    (λ c κs. search needs)
-    (λ c κs. search needs)
-    returns-3)
+suits-spec = tie.close (tie.spec (λ c κs. search needs) returns (λ c κs. search needs) returns-2)
