@@ -15,9 +15,10 @@ use Rattle.blorb.specs.Rules.{rulesOf, profileVerdict, picture, single, chunkRu
 use Rattle.edits.specs.Edit.{Edit, add, replace, remove}
 use Rattle.edits.specs.Run.{State, Call, edit, undo, hundred, targetFault, editedFile, editFault, undoFault, fault}
 use Rattle.blorb.specs.Model.{Model}
-use Rattle.reader.specs.Reading.{indexOf, noEntry, readBy, readOf, entryBy, askedBy, askedOf, hitIn, foundBy, lookedBy, lookupOf}
-use Rattle.reader.specs.declared.entries.Hit.{Hit}
-use Rattle.reader.specs.declared.entries.Hit.the-variants.{At, Nothing}
+use Rattle.reader.specs.Reading.{indexOf, noEntry, readBy, readOf, entryBy, askedBy, askedOf, foundBy, lookedBy, lookupOf}
+use Rattle.index.specs.Hits.{hitIn}
+use Rattle.index.specs.declared.entries.Hit.{Hit}
+use Rattle.index.specs.declared.entries.Hit.the-variants.{At, Nothing}
 use Rattle.capi.specs.Numbers.{refusalNumber, readNumbers, entryNumbers, lookupNumbers, editNumbers}
 use Rattle.editor.specs.Called.{blankAnswer}
 use Rattle.capi.specs.Numbered.{Numbered}

@@ -45,7 +45,7 @@ use Rattle.judging.specs.Told.{Listed}
 use Rattle.editor.specs.Post.{doneWith, editRefusal, removalOf}
 use Rattle.blorb.proofs.Parts.{file-length}
 use Rattle.judging.proofs.RemoveFault.{removed-length}
-use Rattle.judging.proofs.ChunkAt.{body-at}
+use Rattle.undoing.proofs.ChunkAt.{body-at}
 use Rattle.editor.proofs.CallLaws.{open-stands, opened-fine, stands-as, edit-unopened, edit-off-target, edit-told, gave-done, part-size, part-length}
 
 -- the size that goes, by what the reader tells

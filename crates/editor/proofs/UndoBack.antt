@@ -30,15 +30,15 @@ use Rattle.edits.proofs.JudgedLaws.{chunk-in}
 use Rattle.edits.proofs.UndoJudged.{AcceptedFile, accepted-facts, fits1-facts, fits2-facts, undo1-removed, kind-1, kind-2, kind-3, kind-4}
 use Rattle.edits.proofs.FitFacts.{size-is}
 use Rattle.edits.proofs.UndoTold.{after-2, after-3, after-4}
-use Rattle.judging.specs.declared.journal.Record.{Record}
-use Rattle.judging.specs.declared.journal.Last.the-variants.{Good}
-use Rattle.judging.specs.declared.undoing.Undoing.the-variants.{Go, Not}
+use Rattle.undoing.specs.declared.journal.Record.{Record}
+use Rattle.undoing.specs.declared.journal.Last.the-variants.{Good}
+use Rattle.undoing.specs.declared.Undoing.the-variants.{Go, Not}
 use Rattle.rewrite.specs.Rewriting.{Stands, Removable, Replaceable, Insertable}
-use Rattle.judging.specs.LastRecord.{numbersOf, lastOf}
-use Rattle.judging.specs.UndoPlan.{chunkStart, chunkSize, goOf, undoingOf, undoPlan}
-use Rattle.judging.proofs.LastRead.{Ends, good-ends}
+use Rattle.undoing.specs.LastRecord.{numbersOf, lastOf}
+use Rattle.undoing.specs.UndoPlan.{chunkStart, chunkSize, goOf, undoingOf, undoPlan}
+use Rattle.undoing.proofs.LastRead.{Ends, good-ends}
 use Rattle.rewrite.proofs.InsertBytes.{insertable3, insertable4}
-use Rattle.judging.proofs.UndoFits.{chunk-ends, at-1, at-2, at-3, at-4}
+use Rattle.undoing.proofs.UndoFits.{chunk-ends, at-1, at-2, at-3, at-4}
 
 -- the undo goes on with these numbers
 pub record Ready (profile : ℕ) (b : List ℕ) (l : ℕ) (j : List ℕ) (u k a s t : ℕ) (r : Record) : Type 0 where

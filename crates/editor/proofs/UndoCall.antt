@@ -7,12 +7,12 @@ use Rattle.blorb.specs.Rules.{rulesOf}
 use Rattle.blorb.specs.All.{All}
 use Rattle.blorb.specs.Bytes.{Byte}
 use Rattle.edits.specs.Run.{undo, fault, after, afterUndo, undoneFile, written}
-use Rattle.judging.specs.declared.journal.Record.{Record}
-use Rattle.judging.specs.declared.undoing.Undoing.the-variants.{Go, Not}
+use Rattle.undoing.specs.declared.journal.Record.{Record}
+use Rattle.undoing.specs.declared.Undoing.the-variants.{Go, Not}
 use Rattle.editor.specs.declared.Outcome.the-variants.{Done, Refused}
 use Rattle.edits.specs.Run.{state}
 use Rattle.editor.specs.Called.{Called}
-use Rattle.judging.specs.UndoPlan.{undoPlan}
+use Rattle.undoing.specs.UndoPlan.{undoPlan}
 use Rattle.editor.proofs.CallLaws.{called-refused, called-done}
 use Rattle.editor.proofs.UndoBack.{ready, plan-not}
 

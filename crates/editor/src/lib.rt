@@ -11,20 +11,19 @@ ghost use Rattle.blorb.specs.Model.{model};
 ghost use Rattle.edits.specs.Edit.{add, replace, remove};
 ghost use Rattle.edits.specs.Run.{edit, undo};
 ghost use Rattle.edits.specs.Run.{written, undoneFile};
-ghost use Rattle.judging.specs.declared.undoing.Undoing.the-variants.{Go};
-ghost use Rattle.judging.specs.UndoPlan.{undoPlan};
+ghost use Rattle.undoing.specs.declared.Undoing.the-variants.{Go};
+ghost use Rattle.undoing.specs.UndoPlan.{undoPlan};
 ghost use Rattle.edits.specs.Blank.{blanked};
 ghost use Rattle.reader.specs.Inspecting.{inspectionOf};
 ghost use Rattle.judging.specs.Outcomes.{verdictOf};
 ghost use Rattle.edits.specs.Run.{state};
 ghost use Rattle.editor.specs.Called.{Called, blankAnswer};
 ghost use Rattle.editor.specs.Post.{refusedWith, doneWith, editRefusal, planOf, removalOf, changeOf};
-use judging::journal::Record;
 use judging::judge;
-use judging::undoing;
 use reader::Inspection;
 use reader::Piece;
 use reader::Target;
+use undoing::journal::Record;
 
 pub enum Outcome {
     Done,

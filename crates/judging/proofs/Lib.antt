@@ -1,9 +1,4 @@
 pub mod OpenLaws
 pub mod AddFault
-pub mod ChunkAt
 pub mod RemoveFault
 pub mod ReplaceFault
-pub mod LastRead
-pub mod UndoTests
-pub mod UndoFits
-pub mod UndoAsked

@@ -1,4 +1,2 @@
 pub mod Outcomes
 pub mod Told
-pub mod LastRecord
-pub mod UndoPlan

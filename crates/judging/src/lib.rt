@@ -1,7 +1,5 @@
 // What is refused, told from the present file without making the new one.
-pub mod journal;
 pub mod judge;
-pub mod undoing;
 
 pub enum Outcome {
     Done,

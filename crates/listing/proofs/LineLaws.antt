@@ -8,7 +8,7 @@ use Rattle.blorb.specs.Bytes.{be32, rd32, Byte}
 use Rattle.blorb.specs.All.{All}
 use Rattle.blorb.proofs.AllLaws.{all-drop}
 use Rattle.blorb.proofs.Accept.{again}
-use Rattle.reader.specs.Entries.{usageAt, numberAt, startAt}
+use Rattle.index.specs.Entries.{usageAt, numberAt, startAt}
 use Rattle.listing.specs.Text.{text, decimal}
 use Rattle.listing.specs.Listing.{headLine, refusedLine, entryLine}
 use Rattle.listing.specs.InPlace.{Wrote, fieldsAt, chunkText, lineAt}

@@ -9,7 +9,7 @@ use lib.ListN.{length, getD, take, drop}
 use lib.Seq.{take-suc, take-all}
 use borrow.Author.Tests.{le-leb, lt-leb, lt-ltb, le-ltb}
 use Rattle.blorb.specs.Format.{Entry}
-use Rattle.reader.specs.Entries.{place}
+use Rattle.index.specs.Entries.{place}
 use Rattle.reader.specs.Reading.{indexOf, readOf, noEntry, lookupOf}
 use Rattle.reader.specs.declared.Reading.{Reading}
 use Rattle.reader.specs.declared.Reading.the-variants.{Accepted, Refused}

@@ -8,7 +8,8 @@ use Rattle.blorb.specs.Format.{refOf, Chunk, size, sized, total, chunkBytes, ch
 use Rattle.blorb.specs.Tags.{tag, Pict, Data, Rect}
 use Rattle.blorb.specs.Verdict.{headFault, _then_, check, verdict, reading, chunkFault, walkFault, secondIndex, indexFault, refFault, entriesFault, restFault, layoutFault, pairIn, lastPlace}
 use Rattle.blorb.specs.Rules.{plainAllows, allows, adriftAllows, optional, profileVerdict, oneOf, picture, typeIn, single, chunkRule, chunkRules}
-use Rattle.reader.specs.Reading.{readOf, indexOf, lookupOf, hitIn}
+use Rattle.reader.specs.Reading.{readOf, indexOf, lookupOf}
+use Rattle.index.specs.Hits.{hitIn}
 use Rattle.listing.specs.Text.{text, decimal}
 use Rattle.listing.specs.Listing.{headLine, refusedLine, entryLine, linesOf, listingOf}
 

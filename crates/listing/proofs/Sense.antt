@@ -14,7 +14,7 @@ use Rattle.blorb.specs.All.{All}
 use Rattle.blorb.proofs.AllLaws.{all-drop}
 use Rattle.blorb.proofs.ByteLaws.{length-be32}
 use Rattle.blorb.proofs.Accept.{rd32-small}
-use Rattle.reader.specs.Entries.{startAt, place}
+use Rattle.index.specs.Entries.{startAt, place}
 use Rattle.reader.specs.Reading.{indexOf, readOf}
 use Rattle.reader.specs.declared.Reading.{Reading}
 use Rattle.reader.specs.declared.Reading.the-variants.{Accepted, Refused}

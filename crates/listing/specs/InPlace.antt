@@ -5,7 +5,7 @@ use mathlib.Core.List.{List, _++_}
 use lib.ListN.{length, drop}
 use lib.Seq.{sets}
 use Rattle.blorb.specs.Bytes.{be32, rd32}
-use Rattle.reader.specs.Entries.{usageAt, numberAt, startAt}
+use Rattle.index.specs.Entries.{usageAt, numberAt, startAt}
 use Rattle.listing.specs.Text.{text, decimal}
 
 -- the buffer `out` with t written into it from `from` on is `after`, and t ends at `to`

@@ -6,7 +6,7 @@ ghost use mathlib.Core.List.{_++_};
 ghost use lib.ListN.{length, drop};
 ghost use Rattle.blorb.specs.Bytes.{be32, rd32};
 ghost use Rattle.reader.specs.Reading.{indexOf, readOf};
-ghost use Rattle.reader.specs.Entries.{startAt};
+ghost use Rattle.index.specs.Entries.{startAt};
 ghost use Rattle.reader.specs.declared.Reading.the-variants.{Accepted};
 ghost use Rattle.listing.specs.Text.{decimal};
 ghost use Rattle.listing.specs.Listing.{headLine, refusedLine, linesOf, listingBy, listingOf, inputListing, roomBy, roomFor, inputRoom, listedIn, outBy};

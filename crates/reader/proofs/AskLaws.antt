@@ -16,24 +16,25 @@ use Rattle.chunks.specs.Walk.{chunkFrom, skipAt, chunksFrom}
 use Rattle.blorb.proofs.Checks.{then-accept, check-accept}
 use Rattle.chunks.proofs.ChunkLaws.{fine}
 use Rattle.blorb.proofs.UsageLaws.{known-not}
-use Rattle.reader.specs.Entries.{usageAt, numberAt, startAt, place, earlier}
+use Rattle.index.specs.Entries.{usageAt, numberAt, startAt, place, earlier}
 use Rattle.blorb.specs.Usages.{usageOf}
 use Rattle.blorb.specs.declared.Usage.{Usage}
 use Rattle.blorb.specs.declared.Known.{Known}
 use Rattle.blorb.specs.declared.Known.the-variants.{Is, Unknown}
 use Rattle.reader.specs.declared.Reading.the-variants.{Accepted, Refused}
 use Rattle.reader.specs.declared.Asked.the-variants.{Given, Refused as Withheld}
-use Rattle.reader.specs.declared.entries.Hit.{Hit}
-use Rattle.reader.specs.declared.entries.Hit.the-variants.{At, Nothing}
+use Rattle.index.specs.declared.entries.Hit.{Hit}
+use Rattle.index.specs.declared.entries.Hit.the-variants.{At, Nothing}
 use Rattle.reader.specs.declared.Looked.the-variants.{Found, Refused as Missing}
-use Rattle.reader.specs.Reading.{indexOf, readBy, readOf, givenBy, noEntry, askedOf, hitIn, foundBy, lookedBy, lookupOf}
-use Rattle.reader.specs.Optional.{EntriesPassed}
+use Rattle.reader.specs.Reading.{indexOf, readBy, readOf, givenBy, noEntry, askedOf, foundBy, lookedBy, lookupOf}
+use Rattle.index.specs.Hits.{hitIn}
+use Rattle.index.specs.Optional.{EntriesPassed}
 use Rattle.reader.specs.Passed.{Passed, modelAt}
 use Rattle.blorb.specs.Model.{model}
 use Rattle.blorb.proofs.Profiles.{profile-accept}
 use Rattle.blorb.proofs.Accept.{accept-short}
-use Rattle.reader.proofs.IndexLaws.{length-entriesIn, entry-getD, hit-begun}
-use Rattle.reader.proofs.OptionalLaws.{optional-is}
+use Rattle.index.proofs.IndexLaws.{length-entriesIn, entry-getD, hit-begun}
+use Rattle.index.proofs.OptionalLaws.{optional-is}
 use Rattle.reader.proofs.ReadLaws.{whole, layout, is-judged, index-of, model-of, v3, v5}
 
 -- a file that the reader accepts, with count entries

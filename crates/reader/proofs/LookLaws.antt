@@ -18,14 +18,15 @@ use Rattle.blorb.specs.Queries.{find, noRef, refAt, start}
 use Rattle.blorb.specs.Lookup.{missing, here, lookIn, lookup}
 use Rattle.blorb.proofs.Places.{startOf-placeOf}
 use Rattle.chunks.specs.Walk.{chunkFrom, chunksFrom, walkFrom}
-use Rattle.reader.specs.Entries.{startAt, place, pairPlace}
-use Rattle.reader.specs.Reading.{hitIn, foundBy, lookupOf, partOf}
-use Rattle.reader.specs.declared.entries.Hit.the-variants.{At}
+use Rattle.index.specs.Entries.{startAt, place, pairPlace}
+use Rattle.reader.specs.Reading.{foundBy, lookupOf, partOf}
+use Rattle.index.specs.Hits.{hitIn}
+use Rattle.index.specs.declared.entries.Hit.the-variants.{At}
 use Rattle.reader.specs.declared.Looked.{Looked}
 use Rattle.reader.specs.declared.Looked.the-variants.{Found, Refused as Missing}
 use Rattle.chunks.proofs.ChunkLaws.{fine, neither}
-use Rattle.reader.proofs.EntryLaws.{pair-snoc}
-use Rattle.reader.proofs.IndexLaws.{find-at, find-none, first-entry}
+use Rattle.index.proofs.EntryLaws.{pair-snoc}
+use Rattle.index.proofs.IndexLaws.{find-at, find-none, first-entry}
 use Rattle.reader.proofs.AskLaws.{good, look-on}
 use Rattle.reader.proofs.PartLaws.{refs-count, entry-begun, begins-there, chunk-of, find-pair}
 

@@ -25,8 +25,8 @@ use Rattle.blorb.proofs.Profiles.{profile-known}
 use Rattle.blorb.proofs.Checks.{then-accept, check-accept, and-both, stop}
 use Rattle.chunks.specs.Walk.{chunkFrom, skipAt, chunksFrom, walkFrom}
 use Rattle.chunks.specs.Ordinary.{ordinaryType, allOrdinary}
-use Rattle.reader.specs.Entries.{startAt, place, pairPlace, startAgain}
-use Rattle.reader.specs.Optional.{oneRule, rulesFrom, optionalFault}
+use Rattle.index.specs.Entries.{startAt, place, pairPlace, startAgain}
+use Rattle.index.specs.Optional.{oneRule, rulesFrom, optionalFault}
 use Rattle.reader.specs.Passed.{readKnown, Judges, JudgesEntries, Passed, modelAt, Fronts, pickFront, frontFrom}
 use Rattle.reader.specs.Inspecting.{pieceOf, targetBy, targetOf, frontBy, frontOf, factsOf, inspectionOf}
 use Rattle.reader.specs.declared.Piece.{Piece}
@@ -43,7 +43,7 @@ use Rattle.reader.specs.Reading.{readBy, readOf}
 use Rattle.reader.proofs.AskLaws.{Good}
 use Rattle.chunks.proofs.ChunkLaws.{fine, chunks-end, ordinary-not}
 use Rattle.chunks.proofs.StartLaws.{begun, Begun}
-use Rattle.reader.proofs.IndexLaws.{length-entriesIn, entry-getD, body-word}
+use Rattle.index.proofs.IndexLaws.{length-entriesIn, entry-getD, body-word}
 
 -- an element of a list and of its image
 getD-map-in : {A B : Type 0} (g : A → B) (l : List A) (i : ℕ) (d : A) (z : B) → i < length l → getD (map g l) i z ≡ g (getD l i d)

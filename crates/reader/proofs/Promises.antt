@@ -24,20 +24,21 @@ use Rattle.blorb.proofs.Exactly.{under-exactly}
 use Rattle.blorb.proofs.Profiles.{profile-accept, profile-known, plain-adrift}
 use Rattle.blorb.proofs.ModelLaws.{entries}
 use Rattle.chunks.specs.Walk.{chunkFrom, chunksFrom}
-use Rattle.reader.specs.Entries.{usageAt, numberAt, startAt, place}
-use Rattle.reader.specs.Optional.{EntriesPassed}
+use Rattle.index.specs.Entries.{usageAt, numberAt, startAt, place}
+use Rattle.index.specs.Optional.{EntriesPassed}
 use Rattle.reader.specs.Passed.{modelAt}
-use Rattle.reader.specs.Reading.{indexOf, readOf, noEntry, askedOf, hitIn, lookupOf, partOf}
+use Rattle.reader.specs.Reading.{indexOf, readOf, noEntry, askedOf, lookupOf, partOf}
+use Rattle.index.specs.Hits.{hitIn}
 use Rattle.reader.specs.Inspecting.{inspectionOf}
 use Rattle.reader.specs.declared.Inspection.the-variants as inspection
 use Rattle.reader.specs.declared.Reading.the-variants.{Accepted, Refused}
 use Rattle.reader.specs.declared.Asked.the-variants.{Given, Refused as Withheld}
-use Rattle.reader.specs.declared.entries.Hit.the-variants.{At}
+use Rattle.index.specs.declared.entries.Hit.the-variants.{At}
 use Rattle.reader.specs.declared.Looked.{Looked}
 use Rattle.reader.specs.declared.Looked.the-variants.{Found, Refused as Missing}
 use Rattle.chunks.proofs.ChunkLaws.{fine}
 use Rattle.chunks.proofs.StartLaws.{begun}
-use Rattle.reader.proofs.IndexLaws.{entry-getD, hit-start, hit-begun}
+use Rattle.index.proofs.IndexLaws.{entry-getD, hit-start, hit-begun}
 use Rattle.reader.proofs.AskLaws.{good, accepted, look-found, read-go, refused, refused-as, known-at, not-unknown, given-as}
 use Rattle.reader.proofs.PartLaws.{refs-count, starts, unknown-profile}
 use Rattle.reader.proofs.LookLaws.{body-at, either, only-hit}

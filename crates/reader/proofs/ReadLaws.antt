@@ -13,15 +13,15 @@ use Rattle.blorb.specs.Rules.{rulesOf, optional}
 use Rattle.chunks.specs.Walk.{chunkFrom, nextAt, skipAt, chunksFrom, walkFrom, firstFault}
 use Rattle.blorb.proofs.Checks.{accepts, refuses, check-accept, and-both, then-assoc}
 use Rattle.chunks.proofs.ChunkLaws.{fine, chunks-end, first-none}
-use Rattle.reader.specs.Entries.{place, entriesFrom, earlier}
+use Rattle.index.specs.Entries.{place, entriesFrom, earlier}
 use Rattle.reader.specs.declared.Reading.the-variants.{Accepted, Refused}
 use Rattle.reader.specs.Reading.{indexOf, readBy}
 use Rattle.blorb.specs.Model.{base, model, modelOf}
 use Rattle.chunks.specs.Ordinary.{allOrdinary}
-use Rattle.reader.specs.Optional.{optionalFault, EntriesPassed}
+use Rattle.index.specs.Optional.{optionalFault, EntriesPassed}
 use Rattle.reader.specs.Passed.{readKnown, modelAt}
-use Rattle.reader.proofs.IndexLaws.{Shaped, shaped, length-entriesIn}
-use Rattle.reader.proofs.OptionalLaws.{optional-is}
+use Rattle.index.proofs.IndexLaws.{Shaped, shaped, length-entriesIn}
+use Rattle.index.proofs.OptionalLaws.{optional-is}
 
 module _ (f : List ℕ) where
   pub first-long : firstFault f ≡ accept → 12 < length f

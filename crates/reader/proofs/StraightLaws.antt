@@ -23,12 +23,12 @@ use Rattle.reader.specs.declared.straight.Straight.{Straight}
 use Rattle.reader.specs.declared.straight.Straight.the-variants.{Good, Unsure}
 use Rattle.chunks.specs.Walk.{chunksFrom, walkFrom, skipAt, Reached}
 use Rattle.chunks.specs.Ordinary.{ordinaryType, allOrdinary}
-use Rattle.reader.specs.Entries.{usageAt, numberAt, startAt, place, typedAt, entryFault, earlier, entriesFrom}
+use Rattle.index.specs.Entries.{usageAt, numberAt, startAt, place, typedAt, entryFault, earlier, entriesFrom}
 use Rattle.reader.specs.Passed.{JudgesEntries}
 use Rattle.reader.specs.Straight.{CameTo, ChunkAt, Stands, Stepped, Suits, SoFar, Alongside, Straightly}
 use Rattle.chunks.proofs.ChunkLaws.{whole, walk-end, walk-next, chunk-even, chunks-end, ordinary-end, second-end, along-next, first-good, chunks-on}
-use Rattle.reader.proofs.EntryLaws.{by-good, judged-at, entries-next, entries-end, before-next, before-none}
-use Rattle.reader.proofs.IndexLaws.{shape-good}
+use Rattle.index.proofs.EntryLaws.{by-good, judged-at, entries-next, entries-end, before-next, before-none}
+use Rattle.index.proofs.IndexLaws.{shape-good}
 use Rattle.reader.proofs.ReadLaws.{is-judged, read-rest, ordinary-behind}
 
 pub came-none : (f : List ℕ) (at : ℕ) → CameTo f at at true

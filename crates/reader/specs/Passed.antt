@@ -13,8 +13,8 @@ use Rattle.blorb.specs.Tags.{Fspc}
 use Rattle.blorb.specs.Model.{Model}
 use Rattle.chunks.specs.Ordinary.{allOrdinary}
 use Rattle.chunks.specs.Walk.{chunksFrom}
-use Rattle.reader.specs.Entries.{place}
-use Rattle.reader.specs.Optional.{optionalFault, EntriesPassed}
+use Rattle.index.specs.Entries.{place}
+use Rattle.index.specs.Optional.{optionalFault, EntriesPassed}
 use Rattle.reader.specs.Reading.{indexOf, readBy, readOf}
 use Rattle.reader.specs.declared.Reading.{Reading}
 use Rattle.reader.specs.declared.Reading.the-variants.{Accepted, Refused}

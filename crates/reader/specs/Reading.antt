@@ -13,13 +13,14 @@ use Rattle.blorb.specs.declared.Known.{Known}
 use Rattle.blorb.specs.declared.Known.the-variants.{Is, Unknown}
 use Rattle.blorb.specs.declared.Entry.{Entry}
 use Rattle.blorb.specs.Usages.{usageOf}
-use Rattle.reader.specs.Entries.{place}
+use Rattle.index.specs.Entries.{place}
+use Rattle.index.specs.Hits.{hitIn}
 use Rattle.reader.specs.declared.Reading.{Reading}
 use Rattle.reader.specs.declared.Reading.the-variants.{Accepted, Refused}
 use Rattle.reader.specs.declared.Asked.{Asked}
 use Rattle.reader.specs.declared.Asked.the-variants.{Given, Refused as Withheld}
-use Rattle.reader.specs.declared.entries.Hit.{Hit}
-use Rattle.reader.specs.declared.entries.Hit.the-variants.{At, Nothing}
+use Rattle.index.specs.declared.entries.Hit.{Hit}
+use Rattle.index.specs.declared.entries.Hit.the-variants.{At, Nothing}
 use Rattle.reader.specs.declared.Looked.{Looked}
 use Rattle.reader.specs.declared.Looked.the-variants.{Found, Refused as Missing}
 
@@ -54,15 +55,6 @@ askedBy (refuse k p) es i = Withheld k p
 -- "Asked for entry i, it gives usage, number and start, or 22 if i isn't below the count, after its own refusals."
 unfoldable pub askedOf : (profile : ℕ) → List ℕ → ℕ → Asked
 askedOf profile f i = askedBy (profileVerdict profile f) (indexOf f) i
-
--- the start of the first entry with this usage and number
-abbrev pub pickHit : Bool → ℕ → Hit → Hit
-pickHit true x h = At x
-pickHit false x h = h
-
-unfoldable pub hitIn : ℕ → ℕ → List format.Entry → Hit
-hitIn u n [] = Nothing
-hitIn u n (e ∷ es) = pickHit (eqb (e .usage) u && eqb (e .number) n) (e .start) (hitIn u n es)
 
 -- the chunk that begins at x: its type, and where its data is
 abbrev pub foundBy : List ℕ → Hit → Looked

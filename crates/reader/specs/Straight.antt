@@ -8,7 +8,7 @@ use Rattle.blorb.specs.Format.{isStart}
 use Rattle.blorb.specs.Verdict.{accept, chunkFault, secondIndex}
 use Rattle.chunks.specs.Walk.{chunksFrom, walkFrom, Reached}
 use Rattle.chunks.specs.Ordinary.{allOrdinary, Along}
-use Rattle.reader.specs.Entries.{startAt, place, entryFault, entriesFrom, Before}
+use Rattle.index.specs.Entries.{startAt, place, entryFault, entriesFrom, Before}
 use Rattle.reader.specs.Passed.{JudgesEntries}
 use Rattle.reader.specs.declared.Judgement.the-variants as judgement
 use Rattle.reader.specs.declared.straight.Step.{Step}

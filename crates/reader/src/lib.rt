@@ -3,11 +3,11 @@ use blorb::Entry;
 use blorb::Known;
 use blorb::Usage;
 use chunks::Check;
-use entries::Hit;
+use index::entries;
+use index::entries::Hit;
+use index::optional;
 use straight::Straight;
 
-mod entries;
-mod optional;
 mod parts;
 mod straight;
 

@@ -3,7 +3,7 @@ use crate::Facts;
 use crate::Front;
 use crate::Piece;
 use crate::Target;
-use crate::entries;
+use index::entries;
 ghost use mathlib.Core.Path.{_≡_};
 ghost use Prim.Native.Nat.{_≤_, _<_};
 ghost use lib.ListN.{length, drop};
@@ -12,7 +12,7 @@ ghost use Rattle.blorb.specs.Verdict.{accept};
 ghost use Rattle.blorb.specs.Format.{entriesIn, isStart};
 ghost use Rattle.chunks.specs.Ordinary.{allOrdinary};
 ghost use Rattle.chunks.specs.Walk.{chunksFrom, walkFrom};
-ghost use Rattle.reader.specs.Entries.{place, startAgain};
+ghost use Rattle.index.specs.Entries.{place, startAgain};
 ghost use Rattle.reader.specs.Inspecting.{pieceOf, targetOf, frontOf, factsOf};
 ghost use Rattle.reader.specs.Passed.{Passed, modelAt, Fronts, frontFrom};
 

@@ -1,14 +1,14 @@
 // The straight way through a file that turns out good: chunks and entries side by side, in one pass.
-use crate::entries;
 use blorb::Known;
 use blorb::Usage;
 use chunks::Check;
+use index::entries;
 ghost use mathlib.Core.Path.{_≡_};
 ghost use Prim.Native.Nat.{ℕ, _+_, _≤_, _<_};
 ghost use mathlib.Core.Bool.{Bool, true, false};
 ghost use lib.ListN.{length, drop};
 ghost use Rattle.blorb.specs.Verdict.{accept, chunkFault, pairIn};
-ghost use Rattle.reader.specs.Entries.{usageAt, numberAt, startAt, place, earlier, Topped};
+ghost use Rattle.index.specs.Entries.{usageAt, numberAt, startAt, place, earlier, Topped};
 ghost use Rattle.reader.specs.Straight.{CameTo, Suits, Stands, Stepped, Alongside, Straightly};
 
 // How far a walk came; `ordinary` is true only where it met ordinary chunks alone.

@@ -23,7 +23,8 @@ use Rattle.blorb.specs.Model.{base, startOf, entryOf, file, modelOf, model}
 use Rattle.blorb.specs.Queries.{without, find, uses, shared, start, frontPlace}
 use Rattle.blorb.specs.Usages.{usageOf}
 use Rattle.edits.specs.Journal.{recBody, recBytes, removal, recOf, trailer, recIn, lastBody, lastRec, zeros, wellFormed, fits1, fits2, fits3, fits4, fits, undo1, undo2, undo3, undo4, undone}
-use Rattle.reader.specs.Reading.{indexOf, readOf, askedOf, hitIn, lookupOf}
+use Rattle.reader.specs.Reading.{indexOf, readOf, askedOf, lookupOf}
+use Rattle.index.specs.Hits.{hitIn}
 
 -- opens every definition that a row computes with: a definition opens what its own line names
 unfoldable pub computed : ℕ

@@ -17,8 +17,8 @@ use Rattle.blorb.specs.Format.{Entry, entryIn, entriesIn}
 use Rattle.blorb.specs.All.{All}
 use Rattle.blorb.proofs.AllLaws.{all-getD}
 use Rattle.blorb.proofs.Checks.{and-both}
-use Rattle.reader.specs.Entries.{place}
-use Rattle.reader.proofs.IndexLaws.{length-entriesIn, entry-getD}
+use Rattle.index.specs.Entries.{place}
+use Rattle.index.proofs.IndexLaws.{length-entriesIn, entry-getD}
 use Rattle.rows.specs.Bridging.{NoTwice, Within, one, rank, held, Alike}
 use Rattle.rows.specs.Rows.{rowIn}
 use Rattle.rows.specs.Order.{before, isPair, sorted, Below, Rising}

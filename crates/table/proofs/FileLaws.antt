@@ -10,12 +10,12 @@ use Rattle.blorb.specs.Verdict.{Rules, accept, entriesFault, pairIn}
 use Rattle.blorb.specs.Rules.{profileVerdict}
 use Rattle.blorb.specs.All.{All}
 use Rattle.chunks.specs.Walk.{walkFrom, chunksFrom}
-use Rattle.reader.specs.Entries.{place}
+use Rattle.index.specs.Entries.{place}
 use Rattle.reader.specs.Reading.{indexOf, readOf}
 use Rattle.reader.specs.declared.Reading.the-variants.{Accepted}
 use Rattle.chunks.proofs.ChunkLaws.{neither}
-use Rattle.reader.proofs.EntryLaws.{pair-snoc}
-use Rattle.reader.proofs.IndexLaws.{first-entry}
+use Rattle.index.proofs.EntryLaws.{pair-snoc}
+use Rattle.index.proofs.IndexLaws.{first-entry}
 use Rattle.reader.proofs.AskLaws.{Good, accepted}
 use Rattle.rows.specs.Order.{isPair}
 use Rattle.rows.specs.Bridging.{Differ, NoTwice}

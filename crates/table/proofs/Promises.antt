@@ -18,10 +18,11 @@ use lib.Seq.{take-at}
 use Rattle.blorb.specs.Verdict.{accept}
 use Rattle.blorb.specs.Rules.{profileVerdict}
 use Rattle.blorb.proofs.Checks.{and-both}
-use Rattle.reader.specs.Reading.{indexOf, readOf, hitIn, lookupOf}
+use Rattle.reader.specs.Reading.{indexOf, readOf, lookupOf}
+use Rattle.index.specs.Hits.{hitIn}
 use Rattle.reader.specs.declared.Reading.{Reading}
 use Rattle.reader.specs.declared.Reading.the-variants.{Accepted, Refused}
-use Rattle.reader.specs.declared.entries.Hit.the-variants.{Nothing}
+use Rattle.index.specs.declared.entries.Hit.the-variants.{Nothing}
 use Rattle.reader.proofs.Promises.{accepted-when, lookup-found, plain-answers, unknown-answers}
 use Rattle.rows.specs.Rows.{rowsOf, flat}
 use Rattle.rows.specs.Bridging.{NoTwice}

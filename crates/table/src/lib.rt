@@ -8,7 +8,7 @@ ghost use lib.ListN.{length, drop};
 ghost use lib.Dec.{eqb};
 ghost use Rattle.blorb.specs.Bytes.{rd32};
 ghost use Rattle.blorb.specs.Format.{entryIn};
-ghost use Rattle.reader.specs.Entries.{place};
+ghost use Rattle.index.specs.Entries.{place};
 ghost use Rattle.rows.specs.Rows.{rowIn, rowsBy, rowsOf, flat};
 ghost use Rattle.rows.specs.Order.{sorted};
 ghost use Rattle.rows.specs.Bridging.{Fits, Alike, NoTwice, Within, rank, held};

@@ -11,7 +11,7 @@ use Rattle.editor.proofs.undo.Statement.{statement}
 use Rattle.editor.proofs.undo.Tie as tie
 use Rattle.editor.proofs.undo.Reads as reads
 use Rattle.editor.proofs.undo.Lts as lts
-use Rattle.judging.proofs.undoing.undo_plan.Reads as undo-plan-reads
+use Rattle.undoing.proofs.undo_plan.Reads as undo-plan-reads
 use Rattle.editor.proofs.write_back.Reads as write-back-reads
 
 -- src/lib.rt:276:11

@@ -1,7 +1,7 @@
 use mathlib.Core.Path.{sym, ap, _∙_}
 use Rattle.blorb.specs.Verdict.{accept, refuse}
 use Rattle.chunks.specs.Walk.{verdictOf}
-use Rattle.reader.proofs.OptionalLaws.{ordinary-optional}
+use Rattle.index.proofs.OptionalLaws.{ordinary-optional}
 use Rattle.reader.proofs.PartLaws.{unknown-is, entries-no, entries-good, rest-is}
 use borrow.Author.Needs.{needs}
 use Rattle.reader.proofs.judge_file.Statement.{statement}
@@ -9,7 +9,7 @@ use Rattle.reader.proofs.judge_file.Tie as tie
 use Rattle.reader.proofs.judge_file.Reads as reads
 use Rattle.reader.proofs.judge_file.Lts as lts
 use Rattle.reader.proofs.judge_entries.Reads as judge-entries-reads
-use Rattle.reader.proofs.optional.optional.Reads as optional-reads
+use Rattle.index.proofs.optional.optional.Reads as optional-reads
 
 returns : tie.Need-returns
 returns c = unknown-is _ _ (c .if1 .taken)

@@ -5,7 +5,7 @@ use Prim.Native.Nat.{ℕ}
 use Rattle.chunks.specs.Ordinary.{allOrdinary}
 use Rattle.chunks.specs.Walk.{verdictOf, chunksFrom}
 use Rattle.chunks.proofs.ChunkLaws.{fine, walked}
-use Rattle.reader.proofs.IndexLaws.{shaped}
+use Rattle.index.proofs.IndexLaws.{shaped}
 use Rattle.reader.proofs.ReadLaws.{first-long, is-shaped, is-judged, ordinary-behind, read-1, read-2, read-3, read-4, read-5, read-6, read-rest}
 use borrow.Author.Needs.{needs}
 use Rattle.reader.proofs.judge_in_turn.Statement.{statement}
@@ -18,8 +18,8 @@ use Rattle.chunks.proofs.head.Reads as head-reads
 use Rattle.chunks.proofs.second_if.Reads as second-if-reads
 use Rattle.chunks.proofs.skip.Reads as skip-reads
 use Rattle.chunks.proofs.walk.Reads as walk-reads
-use Rattle.reader.proofs.entries.entries.Reads as entries-reads
-use Rattle.reader.proofs.entries.shape.Reads as shape-reads
+use Rattle.index.proofs.entries.entries.Reads as entries-reads
+use Rattle.index.proofs.entries.shape.Reads as shape-reads
 
 -- src/lib.rt:86:47
 head-requires : tie.Need-head-requires

@@ -1,7 +1,7 @@
 use native.Mathlib.Omega.{arith}
 use mathlib.Core.Path.{sym, _∙_}
 use Rattle.chunks.proofs.ChunkLaws.{fine}
-use Rattle.reader.proofs.IndexLaws.{hit-begun}
+use Rattle.index.proofs.IndexLaws.{hit-begun}
 use Rattle.reader.proofs.AskLaws.{accepted, refused-as, look-no, look-22, look-found}
 use borrow.Author.Needs.{needs}
 use Rattle.reader.proofs.lookup.Statement.{statement}
@@ -10,7 +10,7 @@ use Rattle.reader.proofs.lookup.Reads as reads
 use Rattle.reader.proofs.lookup.Lts as lts
 use Rattle.blorb.proofs.be32_at.Reads as be32-at-reads
 use Rattle.reader.proofs.code.Reads as code-reads
-use Rattle.reader.proofs.entries.find.Reads as find-reads
+use Rattle.index.proofs.entries.find.Reads as find-reads
 use Rattle.reader.proofs.read.Reads as read-reads
 
 -- src/lib.rt:117:11

@@ -5,7 +5,7 @@ use Prim.Native.Nat.{ℕ, _-_, _≤_}
 use lib.ListN.{drop}
 use denote.Ref.{now}
 use Rattle.blorb.specs.Format.{entriesIn}
-use Rattle.reader.specs.Entries.{place, startAgain}
+use Rattle.index.specs.Entries.{place, startAgain}
 use Rattle.reader.proofs.PartLaws.{again-hit, again-next, again-end}
 use Rattle.reader.proofs.parts.start_again.Statement.{statement}
 use Rattle.reader.proofs.parts.start_again.Tie as tie

@@ -5,7 +5,7 @@ use Rattle.reader.proofs.parts.target.Statement.{statement}
 use Rattle.reader.proofs.parts.target.Tie as tie
 use Rattle.reader.proofs.parts.target.Reads as reads
 use Rattle.reader.proofs.parts.target.Lts as lts
-use Rattle.reader.proofs.entries.find_place.Reads as find-place-reads
+use Rattle.index.proofs.entries.find_place.Reads as find-place-reads
 use Rattle.reader.proofs.parts.piece.Reads as piece-reads
 
 -- src/parts.rt:57:9

@@ -3,7 +3,7 @@ use native.Mathlib.Omega.{arith}
 use mathlib.Core.Path.{_≡_, sym, _∙_}
 use borrow.Author.Tests.{not-true}
 use denote.Ref.{now}
-use Rattle.reader.proofs.EntryLaws.{fresh}
+use Rattle.index.proofs.EntryLaws.{fresh}
 use borrow.Author.Needs.{needs}
 use Rattle.reader.proofs.straight.is_fresh.Statement.{statement}
 use Rattle.reader.proofs.straight.is_fresh.Tie as tie

@@ -9,16 +9,16 @@ use lib.ListN.{length, length-set}
 use borrow.Author.Tests.{not-false}
 use Rattle.blorb.specs.Verdict.{accept}
 use Rattle.chunks.specs.Walk.{walkFrom}
-use Rattle.reader.specs.Entries.{usageAt, numberAt, startAt, place, Below, slotOf}
+use Rattle.index.specs.Entries.{usageAt, numberAt, startAt, place, Below, slotOf}
 use Rattle.reader.specs.Straight.{Stands, SoFar}
-use Rattle.reader.proofs.EntryLaws.{topped, below-next}
+use Rattle.index.proofs.EntryLaws.{topped, below-next}
 use Rattle.reader.proofs.StraightLaws.{came-none, came-then, came-end, sofar-none, sofar-next, sofar-end}
 use Rattle.reader.proofs.straight.side_by_side.Statement.{statement}
 use Rattle.reader.proofs.straight.side_by_side.Tie as tie
 use Rattle.reader.proofs.straight.side_by_side.Reads as reads
 use Rattle.reader.proofs.straight.side_by_side.Lts as lts
 use Rattle.blorb.proofs.be32_at.Reads as be32-at-reads
-use Rattle.reader.proofs.entries.slot.Reads as slot-reads
+use Rattle.index.proofs.entries.slot.Reads as slot-reads
 use Rattle.reader.proofs.straight.above.Reads as above-reads
 use Rattle.reader.proofs.straight.is_fresh.Reads as is-fresh-reads
 use Rattle.reader.proofs.straight.pass_over.Reads as pass-over-reads

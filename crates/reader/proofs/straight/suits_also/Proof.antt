@@ -4,7 +4,7 @@ use denote.Ref.{now}
 use mathlib.Core.Path.{sym, _∙_}
 use borrow.Author.Tests.{not-false}
 use Rattle.chunks.proofs.ChunkLaws.{whole}
-use Rattle.reader.proofs.EntryLaws.{typed-also}
+use Rattle.index.proofs.EntryLaws.{typed-also}
 use Rattle.reader.proofs.StraightLaws.{suits-not, suits-good}
 use borrow.Author.Needs.{needs}
 use Rattle.reader.proofs.straight.suits_also.Statement.{statement}
@@ -13,7 +13,7 @@ use Rattle.reader.proofs.straight.suits_also.Reads as reads
 use Rattle.reader.proofs.straight.suits_also.Lts as lts
 use Rattle.blorb.proofs.Usage.of_code.Reads as of-code-reads
 use Rattle.blorb.proofs.be32_at.Reads as be32-at-reads
-use Rattle.reader.proofs.entries.numbered.Reads as numbered-reads
+use Rattle.index.proofs.entries.numbered.Reads as numbered-reads
 
 returns : tie.Need-returns
 returns c = suits-not _ _ _

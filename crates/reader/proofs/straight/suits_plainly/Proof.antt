@@ -3,7 +3,7 @@ use native.Mathlib.Omega.{arith}
 use denote.Ref.{now}
 use mathlib.Core.Path.{sym, _∙_}
 use borrow.Author.Tests.{not-false}
-use Rattle.reader.proofs.EntryLaws.{typed-plain}
+use Rattle.index.proofs.EntryLaws.{typed-plain}
 use Rattle.reader.proofs.StraightLaws.{suits-not, suits-good}
 use borrow.Author.Needs.{needs}
 use Rattle.reader.proofs.straight.suits_plainly.Statement.{statement}
@@ -12,8 +12,8 @@ use Rattle.reader.proofs.straight.suits_plainly.Reads as reads
 use Rattle.reader.proofs.straight.suits_plainly.Lts as lts
 use Rattle.blorb.proofs.Usage.of_code.Reads as of-code-reads
 use Rattle.blorb.proofs.be32_at.Reads as be32-at-reads
-use Rattle.reader.proofs.entries.numbered.Reads as numbered-reads
-use Rattle.reader.proofs.entries.plainly_typed.Reads as plainly-typed-reads
+use Rattle.index.proofs.entries.numbered.Reads as numbered-reads
+use Rattle.index.proofs.entries.plainly_typed.Reads as plainly-typed-reads
 
 returns : tie.Need-returns
 returns c = λ profile. suits-not _ _ _

@@ -1,0 +1,45 @@
+use mathlib.Core.Path.{ap, sym, _∙_}
+use mathlib.Core.Bool.{_&&_}
+use Rattle.reader.specs.declared.Target.{Target}
+use Rattle.undoing.specs.UndoPlan.{entryFine}
+use borrow.Author.Needs.{needs}
+use Rattle.undoing.proofs.entry_fine.Statement.{statement}
+use Rattle.undoing.proofs.entry_fine.Tie as tie
+use Rattle.undoing.proofs.entry_fine.Reads as reads
+use Rattle.undoing.proofs.entry_fine.Lts as lts
+use Rattle.judging.proofs.judge.number_fits.Reads as number-fits-reads
+use Rattle.undoing.proofs.known_usage.Reads as known-usage-reads
+
+-- src/undoing.rt:139:26
+enum-told : tie.Need-enum-told
+enum-told c = search needs
+
+-- src/undoing.rt:140:28
+enum-told-2 : tie.Need-enum-told-2
+enum-told-2 c = search needs
+
+-- src/undoing.rt:140:28
+known-usage-requires : tie.Need-known-usage-requires
+known-usage-requires c κs = search needs
+
+-- src/undoing.rt:140:60
+number-fits-requires : tie.Need-number-fits-requires
+number-fits-requires c κs = search needs
+
+-- src/undoing.rt:135:1
+returns : tie.Need-returns
+returns c =
+    let a = c .before .before .args in
+    ap (λ (z : Target). entryFine (a .usage) (a .number) (a .allowed) z) (sym (c .enum-told .given .1))
+
+-- src/undoing.rt:135:1
+returns-2 : tie.Need-returns-2
+returns-2 c =
+    let a = c .before .before .before .before .args in
+    (λ i. c .before .known-usage .ensures i && (a .allowed && c .number-fits .ensures i))
+    ∙ ap (λ (z : Target). entryFine (a .usage) (a .number) (a .allowed) z) (sym (c .before .before .enum-told2 .given .1))
+
+pub entry-fine-spec : {M : Type 1} → statement M
+entry-fine-spec =
+    tie.close
+    (tie.spec enum-told enum-told-2 known-usage-requires number-fits-requires returns returns-2)

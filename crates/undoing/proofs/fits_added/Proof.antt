@@ -1,0 +1,34 @@
+use Prim.Native.Nat.{_+_}
+use mathlib.Core.Bool.{_&&_, not}
+use lib.Dec.{eqb}
+use borrow.Author.Needs.{needs}
+use Rattle.undoing.proofs.fits_added.Statement.{statement}
+use Rattle.undoing.proofs.fits_added.Tie as tie
+use Rattle.undoing.proofs.fits_added.Reads as reads
+use Rattle.undoing.proofs.fits_added.Lts as lts
+use Rattle.undoing.proofs.chunk_size.Reads as chunk-size-reads
+
+-- src/undoing.rt:66:15
+cast-end : tie.Need-cast-end
+cast-end c = search needs
+
+-- src/undoing.rt:66:34
+chunk-size-requires : tie.Need-chunk-size-requires
+chunk-size-requires c κs = search needs
+
+-- src/undoing.rt:66:15
+add-end : tie.Need-add-end
+add-end c = search needs
+
+-- src/undoing.rt:67:46
+add-result : tie.Need-add-result
+add-result c = search needs
+
+-- src/undoing.rt:63:1
+returns : tie.Need-returns
+returns c =
+    let a = c .before .before .before .before .args in
+    λ i. eqb (a .p .place) (a .place) && (eqb (a .count) (a .place + 1) && (eqb (a .p .start + c .before .before .chunk-size .ensures i) (a .len) && not (a .p .shared)))
+
+pub fits-added-spec : {M : Type 1} → statement M
+fits-added-spec = tie.close (tie.spec cast-end chunk-size-requires add-end add-result returns)

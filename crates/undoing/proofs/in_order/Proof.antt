@@ -1,0 +1,23 @@
+use Rattle.undoing.proofs.UndoTests.{too-far, both-sides}
+use borrow.Author.Needs.{needs}
+use Rattle.undoing.proofs.in_order.Statement.{statement}
+use Rattle.undoing.proofs.in_order.Tie as tie
+use Rattle.undoing.proofs.in_order.Reads as reads
+use Rattle.undoing.proofs.in_order.Lts as lts
+use Rattle.undoing.proofs.starts_below.Reads as starts-below-reads
+use Rattle.undoing.proofs.starts_from.Reads as starts-from-reads
+
+returns : tie.Need-returns
+returns c = too-far _ _ _ _ _ (c .if1 .taken)
+
+starts-below-requires : tie.Need-starts-below-requires
+starts-below-requires c κs = search needs
+
+starts-from-requires : tie.Need-starts-from-requires
+starts-from-requires c κs = search needs
+
+returns-2 : tie.Need-returns-2
+returns-2 c = both-sides _ _ _ _ _ _ _ (c .before .before .if1 .left) (c .before .starts-below .ensures) (c .starts-from .ensures)
+
+pub in-order-spec : {M : Type 1} → statement M
+in-order-spec = tie.close (tie.spec returns starts-below-requires starts-from-requires returns-2)

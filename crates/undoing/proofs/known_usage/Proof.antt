@@ -1,0 +1,31 @@
+use mathlib.Core.Path.{sym, _∙_}
+use Rattle.blorb.proofs.UsageLaws.{known-is, known-not}
+use borrow.Author.Needs.{needs}
+use Rattle.undoing.proofs.known_usage.Statement.{statement}
+use Rattle.undoing.proofs.known_usage.Tie as tie
+use Rattle.undoing.proofs.known_usage.Reads as reads
+use Rattle.undoing.proofs.known_usage.Lts as lts
+use Rattle.blorb.proofs.Usage.of_code.Reads as of-code-reads
+
+-- src/undoing.rt:128:11
+of-code-requires : tie.Need-of-code-requires
+of-code-requires c κs = search needs
+
+-- src/undoing.rt:129:25
+enum-told : tie.Need-enum-told
+enum-told c = search needs
+
+-- src/undoing.rt:130:27
+enum-told-2 : tie.Need-enum-told-2
+enum-told-2 c = search needs
+
+-- src/undoing.rt:125:1
+returns : tie.Need-returns
+returns c = sym (known-is _ _ (sym (c .before .before .of-code .ensures) ∙ c .enum-told .given .1) .0)
+
+-- src/undoing.rt:125:1
+returns-2 : tie.Need-returns-2
+returns-2 c = sym (known-not _ (sym (c .before .before .of-code .ensures) ∙ c .enum-told2 .given .1))
+
+pub known-usage-spec : {M : Type 1} → statement M
+known-usage-spec = tie.close (tie.spec of-code-requires enum-told enum-told-2 returns returns-2)
