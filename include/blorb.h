@@ -132,7 +132,7 @@ enum {
     BLORB_NOTHING_TO_UNDO = 26, /* `used` is 0 */
 
     /* The finding table. */
-    BLORB_TABLE_ROOM = 34,      /* the slice is too small for the table; place 0 */
+    BLORB_TABLE_ROOM = 34,      /* the slice is too small for the table, or for the table turned; place 0 */
     BLORB_TABLE_STALE = 35,     /* the table is not this file's; place: the first differing row from 0, or the smaller row count */
 
     /* The file that the edit would make; place as in that file. */
@@ -230,6 +230,20 @@ typedef struct blorb_search_answer {
 
 /* The row with this usage and number, by halving. Any slice will do, checked or not; a partial last row is not looked at. Refusal 22. */
 blorb_search_answer blorb_table_search(const uint32_t *table, size_t numbers, const char usage[4], uint32_t number);
+
+/*
+ * The same table in three columns: in a slice of n whole rows (numbers / BLORB_ROW_NUMBERS, rounded down) row i is columns[i], columns[n + i],
+ * columns[2 * n + i], so all usages come first, then all numbers, then all starts. blorb_table_build writes rows; these two calls turn one form
+ * into the other. They carry whole rows, judge none, and only read the first slice; the numbers behind the last row of the second one stay. Both
+ * forms hold the same entries and give every search the same answer and probes, and turning back changes no row. To check or search what was
+ * written give just that part: BLORB_ROW_NUMBERS * rows as its numbers. Refusal 34 where the second slice, of `room` numbers, is too small.
+ */
+blorb_build_answer blorb_table_to_columns(const uint32_t *table, size_t numbers, uint32_t *columns, size_t room);
+blorb_build_answer blorb_table_to_rows(const uint32_t *columns, size_t numbers, uint32_t *table, size_t room);
+
+/* As blorb_table_check and blorb_table_search, of a table in columns. A search reads usages and numbers, and one start. */
+blorb_check_answer blorb_columns_check(const uint8_t *file, size_t size, uint32_t profile, const uint32_t *columns, size_t numbers);
+blorb_search_answer blorb_columns_search(const uint32_t *columns, size_t numbers, const char usage[4], uint32_t number);
 
 /*
  * Editing. The file is the first `length` bytes of a buffer of `size` bytes; the journal's records are the first `used` bytes of

@@ -6,11 +6,14 @@ usage: make_table_samples.py            writes both files and says how many samp
 
 The program of that crate reads the packed samples and prints what the library answers; `rt check` holds what it prints
 to the file stdout. The expectations come from table_reference.py, written from 02 alone; the check's answer of every
-sample by hand is stated here as well, and this script stops where the reference says another.
+sample by hand, and what a table in columns answers, are stated here as well, and this script stops where the reference
+says another.
 
-A packed sample: five numbers of four bytes (the length of its name, the length of its file, how many numbers its slice
-has, how many pairs are sought, and the profile), the name, the file, four bytes for each number of the slice, four bytes of
-usage and four of number for each pair. Each slice is checked, then built in, then (as it was given) searched for each pair.
+A packed sample: six numbers of four bytes (the length of its name, the length of its file, how many numbers its slice
+has, how many a second slice has, how many pairs are sought, and the profile), the name, the file, four bytes for each
+number of the slice, four bytes of usage and four of number for each pair. Each slice is checked, then built in; then, as it was given,
+checked as three columns, turned in the second slice into columns and (as columns) into rows, each of which is checked,
+and searched in both forms for each pair.
 """
 import pathlib
 import sys
@@ -23,6 +26,7 @@ from reference import DATA, EXEC, PICT, SND
 CRATE = pathlib.Path(__file__).resolve().parent.parent / "crates" / "table_samples"
 ROOM = 1_048_576          # the program's buffer; the input has to be shorter
 SLICE = 16_384            # numbers in its longest slice
+FILLER = 7                # each number of the second slice, before
 GENERATED, SEED = 400, 2
 KIND = {PICT: (b"Rect", bytes(8)), SND: (b"MOD ", b"m"), DATA: (b"TEXT", b"eel"), EXEC: (b"ZCOD", b"z")}
 
@@ -121,6 +125,46 @@ def by_hand():
         yield f"11 bytes, profile {profile}", A[:11], a, (52, 0), profile
 
 
+def columns(s):
+    """The numbers of the file's table in three columns."""
+    return reference.in_columns(reference.rows_for(s))
+
+
+def columns_by_hand():
+    """(name, file, slice, numbers in the second slice, the check's answer for columns, what turning the slice into rows answers)"""
+    b, many, full = columns(B), columns(MANY), columns(FULL)
+    yield "columns, blank file, empty slice", BLANK, [], 0, None, 0
+    yield "columns, blank file, a partial row", BLANK, [1, 2], 0, (35, 0), 0
+    yield "columns of A", A, columns(A), 3, None, 1
+    yield "columns of B", B, b, 6, None, 2
+    yield "columns of B, one number too few in the second slice", B, b, 5, None, (34, 0)
+    yield "columns of B, no second slice", B, b, 0, None, (34, 0)
+    yield "columns of B, room to spare in the second slice", B, b, 11, None, 2
+    yield "columns of B, a number more", B, b + [0], 6, (35, 2), 2
+    yield "columns of B, two numbers more", B, b + [0, 0], 6, (35, 2), 2
+    yield "columns of B, the rows of B", B, good(B), 6, (35, 0), 2
+    yield "columns of B, a number short", B, b[:5], 6, (35, 0), 1
+    yield "columns of B, the last start", B, with_at(b, 5, b[5] + 2), 6, (35, 1), 2
+    yield "columns of B, the second number", B, with_at(b, 3, b[3] + 1), 6, (35, 1), 2
+    yield "columns of B, the first usage", B, with_at(b, 0, 0), 6, (35, 0), 2
+    yield "columns of three rows for a file of two", B, reference.in_columns(reference.rows_for(B) + [(2 ** 32 - 1, 0, 0)]), 9, (35, 2), 3
+    yield "columns of one row for a file of two", B, reference.in_columns(reference.rows_for(B)[:1]), 3, (35, 1), 1
+    yield "columns, many", MANY, many, 24, None, 8
+    yield "columns, many, a start moved", MANY, with_at(many, 16 + 4, 0), 23, (35, 4), (34, 0)
+    yield "columns, many, of another game", MANY, columns(OTHER), 24, (35, 6), 8
+    yield "columns, 4096 rows", FULL, full, 12288, None, 4096
+    yield "columns, 4096 rows, one number too few", FULL, with_at(full, 12287, 0), 12287, (35, 4095), (34, 0)
+    yield "columns, refused file", put32(A, 4, 41), columns(A), 3, (5, 4), 1
+    yield "columns, no file", b"", [1, 2, 3], 2, (2, 0), (34, 0)
+    pictures = reference.in_columns(reference.rows_for(GIFS, 1))
+    yield "columns, a GIF, plain", GIFS, pictures, len(pictures), (14, 24), len(pictures) // 3
+    yield "columns, a GIF, ADRIFT", GIFS, pictures, len(pictures), None, len(pictures) // 3, 1
+    yield "columns of B, ADRIFT", B, b, 6, None, 2, 1
+    for profile in (2, 2 ** 32 - 1):
+        yield f"columns of B, profile {profile}", B, b, 6, (52, 0), 2, profile
+        yield f"columns, 11 bytes, profile {profile}", A[:11], [], 0, (52, 0), 0, profile
+
+
 def questions(table):
     """Pairs to seek: those of some rows, and pairs that lie before, between and behind."""
     rows = reference.rows_of(table)
@@ -159,10 +203,18 @@ def generated(count, seed):
             table = swapped(table, dice.below(len(table) // 3), dice.below(len(table) // 3))
         elif way == 6 and table:
             table = without_row(table, dice.below(len(table) // 3))
+        if dice.below(3) == 0:
+            table = reference.in_columns(reference.rows_of(table)) + table[len(table) // 3 * 3:]
         if dice.below(20) == 0:
             s = put32(s, 4, dice.below(100))
         profile = dice.one_of((0, 1, 2)) if house == 0 else dice.one_of((0, 0, 0, 1))
-        yield f"generated {i}, profile {profile}", s, table, profile
+        yield f"generated {i}, profile {profile}", s, table, second_room(table, dice.below(6)), profile
+
+
+def second_room(table, way):
+    """Numbers in the second slice: as many as the whole rows take, one too few, or more."""
+    whole = len(table) // 3 * 3
+    return max(0, whole - 1) if way == 0 else whole + (0, 0, 1, 2, 9)[way - 1]
 
 
 def checksum(table):
@@ -178,42 +230,63 @@ def words(answer):
     return {"accepted": "accepted", "refused": "refused {} at {}", "rows": "rows {}", "at": "at {}"}[what].format(*values)
 
 
-def lines(name, s, table, profile, pairs):
+def lines(name, s, table, room, profile, pairs):
     built = reference.build(s, table, profile)
     yield (f"{name}: {words(reference.check(s, table, profile))}; {words(built)} sum {checksum(built[-1])}; "
            f"then {words(reference.check(s, built[-1], profile))}")
+    turned = reference.to_columns(table, [FILLER] * room)
+    back = reference.to_rows(table, turned[-1])
+    yield (f" columns: {words(reference.columns_check(s, table, profile))}; to columns {words(turned)} sum {checksum(turned[-1])}; "
+           f"then {words(reference.columns_check(s, turned[-1], profile))}; to rows {words(back)} sum {checksum(back[-1])}; "
+           f"then {words(reference.check(s, back[-1], profile))}")
     for usage, number in pairs:
-        found = reference.search(table, usage, number)
-        yield f" {int.from_bytes(usage, 'big')} {number}: {words(found)} probes {found[-1]}"
+        found, other = reference.search(table, usage, number), reference.columns_search(table, usage, number)
+        yield (f" {int.from_bytes(usage, 'big')} {number}: {words(found)} probes {found[-1]}; "
+               f"in columns {words(other)} probes {other[-1]}")
 
 
-def packed(name, s, table, profile, pairs):
-    parts = [be(len(name)), be(len(s)), be(len(table)), be(len(pairs)), be(profile), name.encode(), s]
+def packed(name, s, table, room, profile, pairs):
+    parts = [be(len(name)), be(len(s)), be(len(table)), be(room), be(len(pairs)), be(profile), name.encode(), s]
     return b"".join(parts + [be(x) for x in table] + [u + be(n) for u, n in pairs])
+
+
+def stated(what, name, answer, said):
+    """Stops where the answer is not what stands beside the sample: nothing, a count of rows, or a number and place."""
+    expected = ("accepted",) if said is None else ("rows", said) if isinstance(said, int) else ("refused", *said)
+    if answer[:len(expected)] != expected:
+        sys.exit(f"{name}: {what} by hand {expected}, the reference {answer}")
 
 
 def main():
     samples = []
-    for name, s, table, stated, *other in by_hand():
-        expected, profile = ("refused", *stated) if stated else ("accepted",), other[0] if other else 0
-        if reference.check(s, table, profile) != expected:
-            sys.exit(f"{name}: by hand {expected}, the reference {reference.check(s, table, profile)}")
-        samples.append((name, s, table, profile, questions(table)))
+    for k, (name, s, table, said, *other) in enumerate(by_hand()):
+        profile = other[0] if other else 0
+        stated("check", name, reference.check(s, table, profile), said)
+        samples.append((name, s, table, second_room(table, k % 6), profile, questions(table)))
+    for name, s, table, room, said, rows, *other in columns_by_hand():
+        profile = other[0] if other else 0
+        stated("check of columns", name, reference.columns_check(s, table, profile), said)
+        stated("to rows", name, reference.to_rows(table, [FILLER] * room), rows)
+        samples.append((name, s, table, room, profile, questions(reference.in_rows(reference.columns_of(table)))))
     hand = len(samples)
-    samples += [(name, s, table, profile, questions(table)) for name, s, table, profile in generated(GENERATED, SEED)]
+    samples += [(name, s, table, room, profile, questions(table)) for name, s, table, room, profile in generated(GENERATED, SEED)]
     stdin = b"".join(packed(*x) for x in samples)
     stdout = "".join(line + "\n" for x in samples for line in lines(*x)).encode()
-    if len(stdin) >= ROOM or max(len(x[2]) for x in samples) > SLICE:
+    if len(stdin) >= ROOM or max(max(len(x[2]), x[3]) for x in samples) > SLICE:
         sys.exit(f"{len(stdin)} bytes are too many for the program's buffer")
     for name, content in (("stdin", stdin), ("stdout", stdout)):
         if "--check" not in sys.argv[1:]:
             (CRATE / name).write_bytes(content)
         elif (CRATE / name).read_bytes() != content:
             sys.exit(f"{CRATE / name} is not what this script makes")
-    for what, ask in (("check", reference.check), ("build", reference.build)):
-        told = Counter(a[1] if a[0] == "refused" else 0 for a in (ask(x[1], x[2], x[3]) for x in samples))
+    asked = (("check", lambda s, t, r, p: reference.check(s, t, p)), ("build", lambda s, t, r, p: reference.build(s, t, p)),
+             ("check of columns", lambda s, t, r, p: reference.columns_check(s, t, p)),
+             ("to columns", lambda s, t, r, p: reference.to_columns(t, [FILLER] * r)),
+             ("to rows", lambda s, t, r, p: reference.to_rows(t, [FILLER] * r)))
+    for what, ask in asked:
+        told = Counter(a[1] if a[0] == "refused" else 0 for a in (ask(*x[1:5]) for x in samples))
         print(f"{what} by refusal (0: none):", *(f"{k}: {told[k]}" for k in sorted(told)))
-    print(f"{len(samples)} samples ({hand} by hand, {GENERATED} generated), {len(stdin)} bytes, {sum(len(x[4]) for x in samples)} searches")
+    print(f"{len(samples)} samples ({hand} by hand, {GENERATED} generated), {len(stdin)} bytes, {sum(len(x[5]) for x in samples)} searches in each form")
 
 
 if __name__ == "__main__":

@@ -188,6 +188,8 @@ static int print_times(void)
     table_by_bytes();
     puts("\n## Finding tables\n");
     print_tables();
+    puts("\n## Finding tables in columns");
+    print_columns();
     return 0;
 }
 

@@ -5,4 +5,7 @@
 /* Prints them, in Markdown. */
 void print_tables(void);
 
+/* And those of a search in columns beside one in rows. */
+void print_columns(void);
+
 #endif

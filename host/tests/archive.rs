@@ -1,7 +1,7 @@
 //! The library's calls through its C interface, on buffers that lie inside larger guarded arrays.
 
 use crate::fence::{self, Fenced};
-use crate::reference::{blank_file, Answer, Call, Edit, Refusal, State, Tag, PLAIN};
+use crate::reference::{blank_file, Answer, Call, Edit, Form, Refusal, State, Tag, PLAIN};
 use std::ptr;
 
 /// The structures of blorb.h that come back by value.
@@ -67,6 +67,10 @@ mod raw {
         pub fn blorb_table_build(file: *const u8, size: usize, profile: u32, table: *mut u32, numbers: usize) -> Build;
         pub fn blorb_table_check(file: *const u8, size: usize, profile: u32, table: *const u32, numbers: usize) -> Check;
         pub fn blorb_table_search(table: *const u32, numbers: usize, usage: *const u8, number: u32) -> Search;
+        pub fn blorb_table_to_columns(table: *const u32, numbers: usize, columns: *mut u32, room: usize) -> Build;
+        pub fn blorb_table_to_rows(columns: *const u32, numbers: usize, table: *mut u32, room: usize) -> Build;
+        pub fn blorb_columns_check(file: *const u8, size: usize, profile: u32, columns: *const u32, numbers: usize) -> Check;
+        pub fn blorb_columns_search(columns: *const u32, numbers: usize, usage: *const u8, number: u32) -> Search;
         pub fn blorb_read(file: *const u8, size: usize, profile: u32) -> Read;
         pub fn blorb_entry(file: *const u8, size: usize, profile: u32, i: usize) -> Entry;
         pub fn blorb_lookup(file: *const u8, size: usize, profile: u32, usage: *const u8, number: u32) -> Lookup;
@@ -225,20 +229,38 @@ pub fn table_build(file: &mut Lent, profile: u32, table: &mut Lent, count: usize
     reading(answer.refusal, answer.place, [answer.rows])
 }
 
-pub fn table_check(file: &mut Lent, profile: u32, table: &mut Lent, count: usize) -> Reading<0> {
-    let answer = unsafe { raw::blorb_table_check(file.pointer(), file.size, profile, numbers(table), count) };
+pub fn table_check(form: Form, file: &mut Lent, profile: u32, table: &mut Lent, count: usize) -> Reading<0> {
+    let call = match form {
+        Form::Rows => raw::blorb_table_check,
+        Form::Columns => raw::blorb_columns_check,
+    };
+    let answer = unsafe { call(file.pointer(), file.size, profile, numbers(table), count) };
     reading(answer.refusal, answer.place, [])
 }
 
 /// The start or the refusal, and the probes in both cases.
-pub fn table_search(table: &mut Lent, count: usize, usage: &Tag, number: u32) -> Result<(Result<u64, Refusal>, u64), String> {
+pub fn table_search(form: Form, table: &mut Lent, count: usize, usage: &Tag, number: u32) -> Result<(Result<u64, Refusal>, u64), String> {
+    let call = match form {
+        Form::Rows => raw::blorb_table_search,
+        Form::Columns => raw::blorb_columns_search,
+    };
     let mut lent_usage = Lent::new(usage, table.shift + 1);
-    let answer = unsafe { raw::blorb_table_search(numbers(table), count, lent_usage.pointer(), number) };
+    let answer = unsafe { call(numbers(table), count, lent_usage.pointer(), number) };
     if let Some(complaint) = lent_usage.complaint("usage", usage) {
         return Err(complaint);
     }
     let found = reading(answer.refusal, answer.place, [answer.start])?;
     Ok((found.map(|[start]| start), answer.probes))
+}
+
+/// A table of this form turned into the other.
+pub fn table_turn(form: Form, table: &mut Lent, count: usize, second: &mut Lent, room: usize) -> Reading<1> {
+    let call = match form {
+        Form::Rows => raw::blorb_table_to_columns,
+        Form::Columns => raw::blorb_table_to_rows,
+    };
+    let answer = unsafe { call(numbers(table), count, numbers(second), room) };
+    reading(answer.refusal, answer.place, [answer.rows])
 }
 
 fn edited(answer: raw::Edit) -> Answer {

@@ -605,6 +605,7 @@ fn rows() -> Vec<(&'static str, Vec<u64>)> {
         taking(["lookup", "lookup 52"], &[22]),
         taking(["table_build", "table_build 52"], &[34]),
         taking(["table_check", "table_check 52"], &[35]),
+        taking(["columns_check", "columns_check 52"], &[35]),
         taking(["add", "add 52"], &[20, 24, 25, 101, 109, 111, 112, 114, 115, 116]),
         taking(["replace", "replace 52"], &[20, 22, 23, 24, 25, 101, 109, 114, 119]),
         taking(["remove", "remove 52"], &[20, 22, 25, 119]),
@@ -612,6 +613,9 @@ fn rows() -> Vec<(&'static str, Vec<u64>)> {
     ];
     let others = vec![
         ("table_search", vec![0, 22]),
+        ("table_to_columns", vec![0, 34]),
+        ("table_to_rows", vec![0, 34]),
+        ("columns_search", vec![0, 22]),
         ("blank", vec![0, 24]),
         ("ADRIFT as plain", vec![0, 14]),
         ("add as plain", vec![0, 14, 114]),

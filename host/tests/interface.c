@@ -847,6 +847,86 @@ static void test_table(void)
     searches(on_one, 9, "Pict", 3, 72, 2);
 }
 
+/* ---- the table in columns */
+
+typedef blorb_build_answer turning(const uint32_t *, size_t, uint32_t *, size_t);
+
+/* Turns a slice in a second one of that many numbers, which must then hold these numbers and filler behind them. */
+static void turns(turning *call, const uint32_t *from, size_t numbers, size_t room, uint64_t refusal, const uint32_t *turned, uint64_t count)
+{
+    uint32_t filler;
+    memset(&filler, FILLER, sizeof filler);
+    lent t = lend((const uint8_t *)from, 4 * numbers, 4 * numbers), d = lend(NULL, 0, 4 * room);
+    blorb_build_answer b = call(numbers_in(&t), numbers, numbers_in(&d), room);
+    expect(b.refusal == refusal && b.place == 0 && b.rows == count, "columns: turning");
+    for (size_t i = 0; i < room; i++)
+        expect(numbers_in(&d)[i] == (i < 3 * count ? turned[i] : filler), "columns: the second slice");
+    expect(numbers == 0 || memcmp(t.at, from, 4 * numbers) == 0, "columns: turning leaves the first slice");
+    give_back(&t);
+    give_back(&d);
+}
+
+static void checks_columns(const image *f, const uint32_t *from, size_t numbers, uint64_t refusal, uint64_t place)
+{
+    lent l = lend(f->at, f->length, f->length), t = lend((const uint8_t *)from, 4 * numbers, 4 * numbers);
+    blorb_check_answer c = blorb_columns_check(l.at, l.size, profile, numbers_in(&t), numbers);
+    expect(c.refusal == refusal && c.place == place, "columns: check");
+    expect(numbers == 0 || memcmp(t.at, from, 4 * numbers) == 0, "columns: check leaves the slice");
+    give_back(&l);
+    give_back(&t);
+}
+
+static void searches_columns(const uint32_t *from, size_t numbers, const char *usage, uint32_t number, uint64_t start, uint64_t probes)
+{
+    lent t = lend((const uint8_t *)from, 4 * numbers, 4 * numbers);
+    blorb_search_answer s = blorb_columns_search(numbers_in(&t), numbers, usage, number);
+    expect(s.refusal == (start == 0 ? BLORB_NOT_THERE : BLORB_DONE) && s.place == 0 && s.start == start, "columns: search");
+    expect(s.probes == probes, "columns: probes");
+    give_back(&t);
+}
+
+static void test_columns(void)
+{
+    image none = blank(), a = sample_a(), b = sample_b(), empty = {.length = 0};
+    uint32_t rows[] = {BLORB_DATA, 7, 48, BLORB_PICT, 1, 60, 5, 6};
+    uint32_t columns[] = {BLORB_DATA, BLORB_PICT, 7, 1, 48, 60, 5, 6};
+    uint32_t of_three[] = {BLORB_DATA, BLORB_PICT, BLORB_SND, 7, 1, 2, 48, 60, 72};
+    for (size_t over = 0; over < 3; over++) { /* a partial row is not carried */
+        turns(blorb_table_to_columns, rows, 6 + over, 6, 0, columns, 2);
+        turns(blorb_table_to_columns, rows, 6 + over, 9, 0, columns, 2);
+        turns(blorb_table_to_columns, rows, 6 + over, 5, 34, columns, 0);
+        turns(blorb_table_to_columns, rows, over, 0, 0, columns, 0);
+        turns(blorb_table_to_rows, columns, 6 + over, 6, 0, rows, 2);
+        turns(blorb_table_to_rows, columns, 6 + over, 9, 0, rows, 2);
+        turns(blorb_table_to_rows, columns, 6 + over, 5, 34, rows, 0);
+        turns(blorb_table_to_rows, columns, over, 0, 0, rows, 0);
+    }
+    turns(blorb_table_to_columns, rows, 6, 0, 34, columns, 0);
+    checks_columns(&none, columns, 0, 0, 0);
+    checks_columns(&none, columns, 1, 35, 0);
+    checks_columns(&b, columns, 6, 0, 0);
+    checks_columns(&b, columns, 7, 35, 2);
+    checks_columns(&b, columns, 0, 35, 0);
+    checks_columns(&b, rows, 6, 35, 0);
+    checks_columns(&b, of_three, 9, 35, 2);
+    checks_columns(&a, columns, 6, 35, 0);
+    checks_columns(&empty, columns, 6, 2, 0);
+    for (size_t i = 0; i < 6; i++)
+        for (int bit = 0; bit < 32; bit++) {
+            uint32_t wrong[6];
+            memcpy(wrong, columns, sizeof wrong);
+            wrong[i] ^= (uint32_t)1 << bit;
+            checks_columns(&b, wrong, 6, 35, i % 2);
+        }
+    searches_columns(columns, 0, "Data", 7, 0, 0);
+    searches_columns(columns, 2, "Data", 7, 0, 0);
+    searches_columns(columns, 6, "Data", 7, 48, 2);
+    searches_columns(columns, 6, "Pict", 1, 60, 1);
+    searches_columns(columns, 7, "Pict", 2, 0, 1);
+    searches_columns(columns, 6, "Aaaa", 7, 0, 2);
+    searches_columns(of_three, 9, "Snd ", 2, 72, 2);
+}
+
 /* ---- profiles */
 
 static const uint32_t unknown[] = {2, 3, 255, 256, 65536, 0x80000000, 0xffffffff};
@@ -933,6 +1013,7 @@ static void test_unknown_profile(void)
             builds(files[k], 0, 52, 0, rows, 0);
             checks_table(files[k], rows, 3, 52, 0);
             checks_table(files[k], rows, 0, 52, 0);
+            checks_columns(files[k], rows, 3, 52, 0);
             for (int call = 0; call < 4; call++) {
                 pair p = prepared(files[k], 60, &none, 40);
                 refused(&p, any_edit(&p, call), 52, 0, "an edit or undo: 52");
@@ -1003,6 +1084,7 @@ static void test_calls(void)
     test_order();
     test_lengths();
     test_table();
+    test_columns();
 }
 
 int main(void)

@@ -788,29 +788,68 @@ pub fn table_build(rows: &Result<Vec<Row>, Refusal>, table: &[u32]) -> (Result<[
     (Ok([rows.len() as u64]), after)
 }
 
+/// The two forms of a table: row after row, or three columns, each as long as there are whole rows.
+#[derive(Clone, Copy, PartialEq, Debug)]
+pub enum Form {
+    Rows,
+    Columns,
+}
+
+/// The whole rows of a slice in this form.
+pub fn whole_rows(form: Form, table: &[u32]) -> Vec<Row> {
+    let count = table.len() / 3;
+    match form {
+        Form::Rows => table.chunks_exact(3).map(|row| [row[0], row[1], row[2]]).collect(),
+        Form::Columns => (0..count).map(|i| [table[i], table[count + i], table[2 * count + i]]).collect(),
+    }
+}
+
+/// The numbers of these rows in this form.
+pub fn in_form(form: Form, rows: &[Row]) -> Vec<u32> {
+    match form {
+        Form::Rows => rows.concat(),
+        Form::Columns => (0..3).flat_map(|column| rows.iter().map(move |row| row[column])).collect(),
+    }
+}
+
 /// The answer of checking this slice. Refusal 35 after the reader's own: the first differing row, or the smaller whole-row count.
-pub fn table_check(rows: &Result<Vec<Row>, Refusal>, table: &[u32]) -> Result<[u64; 0], Refusal> {
+pub fn table_check(form: Form, rows: &Result<Vec<Row>, Refusal>, table: &[u32]) -> Result<[u64; 0], Refusal> {
     let rows = rows.as_ref().map_err(|&refusal| refusal)?;
-    if rows.concat() == table {
+    if in_form(form, rows) == table {
         return Ok([]);
     }
-    let given: Vec<&[u32]> = table.chunks_exact(3).collect();
+    let given = whole_rows(form, table);
     let both = given.len().min(rows.len());
     refuse(35, (0..both).find(|&i| given[i] != rows[i]).unwrap_or(both))
 }
 
 /// The start, or 22, and the number of rows looked at.
-pub fn table_search(table: &[u32], usage: &Tag, number: u32) -> (Result<u64, Refusal>, u64) {
+pub fn table_search(form: Form, table: &[u32], usage: &Tag, number: u32) -> (Result<u64, Refusal>, u64) {
+    let rows = whole_rows(form, table);
     let sought = (u32::from_be_bytes(*usage), number);
-    let (mut low, mut high, mut probes) = (0, table.len() / 3, 0);
+    let (mut low, mut high, mut probes) = (0, rows.len(), 0);
     while low < high {
         let middle = (low + high) / 2;
         probes += 1;
-        match (table[3 * middle], table[3 * middle + 1]).cmp(&sought) {
-            std::cmp::Ordering::Equal => return (Ok(table[3 * middle + 2] as u64), probes),
+        let [usage, number, start] = rows[middle];
+        match (usage, number).cmp(&sought) {
+            std::cmp::Ordering::Equal => return (Ok(start as u64), probes),
             std::cmp::Ordering::Less => low = middle + 1,
             std::cmp::Ordering::Greater => high = middle,
         }
     }
     (refuse(22, 0), probes)
+}
+
+/// The answer of turning a table of this form into the other in a second slice, and that slice afterwards. Refusal 34 if it is too short.
+pub fn table_turn(form: Form, table: &[u32], second: &[u32]) -> (Result<[u64; 1], Refusal>, Vec<u32>) {
+    let other = match form {
+        Form::Rows => Form::Columns,
+        Form::Columns => Form::Rows,
+    };
+    let numbers = in_form(other, &whole_rows(form, table));
+    if second.len() < numbers.len() {
+        return (refuse(34, 0), second.to_vec());
+    }
+    (Ok([numbers.len() as u64 / 3]), [&numbers, &second[numbers.len()..]].concat())
 }

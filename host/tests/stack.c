@@ -13,7 +13,7 @@
 
 enum { PAGE = 4096, STACK = 2 * PAGE, ROOM = 200000, DATA = 40001 };
 static uint8_t file[ROOM], wrong[ROOM], journal[ROOM], data[DATA];
-static uint32_t table[6];
+static uint32_t table[6], columns[6];
 static ucontext_t outside, inside;
 static int calls;
 static uint32_t profile;
@@ -92,6 +92,10 @@ static void every_call(void)
     done(blorb_table_build(file, a.length, profile, table, 6).refusal);
     done(blorb_table_check(file, a.length, profile, table, 6).refusal);
     done(blorb_table_search(table, 6, "Data", 2).refusal);
+    done(blorb_table_to_columns(table, 6, columns, 6).refusal);
+    done(blorb_columns_check(file, a.length, profile, columns, 6).refusal);
+    done(blorb_columns_search(columns, 6, "Data", 2).refusal);
+    done(blorb_table_to_rows(columns, 6, table, 6).refusal);
     broken(a.length, 1, a.used, BLORB_NO_PADDING); /* Data 2 is last, with an odd length */
     broken(a.length, 2, a.used, BLORB_CHUNK_LENGTH);
     broken(a.length, DATA, a.used, BLORB_CHUNK_CUT);

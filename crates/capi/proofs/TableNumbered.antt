@@ -12,7 +12,7 @@ use Rattle.reader.specs.declared.Reading.{Reading}
 use Rattle.reader.specs.declared.Reading.the-variants.{Accepted, Refused}
 use Rattle.reader.proofs.Promises.{accepted-when}
 use Rattle.rows.specs.Halving.{rowOf, halving}
-use Rattle.table.specs.Answers.{tableOf, roomFor, buildBy, buildOf, agree, acceptIf, checkBy, checkOf, foundBy, searchOf}
+use Rattle.table.specs.Answers.{tableOf, roomFor, buildBy, buildOf, turnOf, agree, acceptIf, checkBy, checkOf, foundBy, searchOf}
 use Rattle.table.specs.declared.Built.the-variants as built
 use Rattle.table.specs.declared.Checked.the-variants as checked
 use Rattle.table.specs.declared.Found.the-variants as found
@@ -27,18 +27,23 @@ not-zero profile f k p r e =
     let z : _≡_ {A = ℕ} 0 1 = cc in
     omega arith
 
+room : (b : Bool) (n : ℕ) → buildNumbers (roomFor b n) .refusal ≡ 0 → (m : ℕ) × (roomFor b n ≡ built.Rows m)
+room true n e = (n, refl)
+room false n e = absurd (omega (arith, e))
+
 -- a build whose `refusal` is 0 has written the rows
 pub zero-built : (profile : ℕ) (f : List ℕ) (size : ℕ) → buildNumbers (buildOf profile f size) .refusal ≡ 0 → (n : ℕ) × (buildOf profile f size ≡ built.Rows n)
 unfolding buildOf
 zero-built profile f size e = go (readOf profile f) refl e
   where
-    room : (b : Bool) (n : ℕ) → buildNumbers (roomFor b n) .refusal ≡ 0 → (m : ℕ) × (roomFor b n ≡ built.Rows m)
-    room true n e = (n, refl)
-    room false n e = absurd (omega (arith, e))
-
     go : (r : Reading) → readOf profile f ≡ r → buildNumbers (buildBy r size) .refusal ≡ 0 → (n : ℕ) × (buildBy r size ≡ built.Rows n)
     go (Accepted l n) t e = room (leb (3 * n) size) n e
     go (Refused k p) t e = absurd (not-zero profile f k p t e)
+
+-- and so has a turn into the other form
+pub zero-turned : (rows : List Entry) (size : ℕ) → buildNumbers (turnOf rows size) .refusal ≡ 0 → (n : ℕ) × (turnOf rows size ≡ built.Rows n)
+unfolding turnOf
+zero-turned rows size e = room (leb (3 * length rows) size) (length rows) e
 
 -- a check whose `refusal` is 0 has accepted the table
 pub zero-checked : (profile : ℕ) (f : List ℕ) (rows : List Entry) (size : ℕ) → checkNumbers (checkOf profile f rows size) .refusal ≡ 0

@@ -8,13 +8,14 @@ use reader::Reading;
 use table::Built;
 use table::Checked;
 use table::Found;
+use table::Searched;
 ghost use mathlib.Core.Path.{_≡_};
 ghost use lib.ListN.{length};
 ghost use lib.Dec.{leb};
 ghost use Rattle.blorb.specs.Bytes.{rd32};
 ghost use Rattle.reader.specs.Reading.{readOf, askedOf, lookupOf};
-ghost use Rattle.rows.specs.Rows.{rowsOf, flat};
-ghost use Rattle.table.specs.Answers.{tableOf, buildOf, written, checkOf, searchOf};
+ghost use Rattle.rows.specs.Rows.{rowsOf, columnsOf, flat, flatColumns};
+ghost use Rattle.table.specs.Answers.{tableOf, buildOf, turnOf, written, checkOf, searchOf};
 ghost use Rattle.edits.specs.Edit.{add, replace, remove};
 ghost use Rattle.edits.specs.Run.{edit, undo};
 ghost use Rattle.edits.specs.Blank.{blanked};
@@ -283,12 +284,11 @@ pub extern "C" fn blorb_undo(
     numbers(editor::undo(file, length, journal, used, profile))
 }
 
-// The file's finding table at the front of the slice.
-#[no_mangle]
-pub extern "C" fn blorb_table_build(file: &[u8], profile: u32, table: &mut [u32]) -> BuildAnswer
-    ensures { λ r. ⌜ (r ≡ buildNumbers (buildOf profile (now (file .entry)) (length (now (table .entry))))) × (now (table .exit) ≡ written (buildOf profile (now (file .entry)) (length (now (table .entry)))) (flat (tableOf (now (file .entry)))) (now (table .entry))) ⌝ }
+// The answers of the finding table's calls as numbers.
+fn build_numbers(answer: Built) -> BuildAnswer
+    ensures { λ r. ⌜ r ≡ buildNumbers answer ⌝ }
 {
-    match table::build(file, profile, table) {
+    match answer {
         Built::Rows(rows) => BuildAnswer {
             refusal: 0,
             place: 0,
@@ -302,12 +302,10 @@ pub extern "C" fn blorb_table_build(file: &[u8], profile: u32, table: &mut [u32]
     }
 }
 
-// Whether the whole slice is just this file's table.
-#[no_mangle]
-pub extern "C" fn blorb_table_check(file: &[u8], profile: u32, table: &[u32]) -> CheckAnswer
-    ensures { λ r. ⌜ r ≡ checkNumbers (checkOf profile (now (file .entry)) (rowsOf (now (table .entry))) (length (now (table .entry)))) ⌝ }
+fn check_numbers(answer: Checked) -> CheckAnswer
+    ensures { λ r. ⌜ r ≡ checkNumbers answer ⌝ }
 {
-    match table::check(file, profile, table) {
+    match answer {
         Checked::Accepted => CheckAnswer {
             refusal: 0,
             place: 0,
@@ -319,28 +317,82 @@ pub extern "C" fn blorb_table_check(file: &[u8], profile: u32, table: &[u32]) ->
     }
 }
 
-// The start in the row (usage, number), and how many rows were looked at.
-#[no_mangle]
-pub extern "C" fn blorb_table_search(table: &[u32], usage: &[u8; 4], number: u32) -> SearchAnswer
-    ensures { λ r. ⌜ r ≡ searchNumbers (searchOf (rowsOf (now (table .entry))) (rd32 (now (usage .entry))) number) ⌝ }
+fn search_numbers(answer: Searched) -> SearchAnswer
+    ensures { λ r. ⌜ r ≡ searchNumbers answer ⌝ }
 {
-    let searched = table::search(table, *usage, number);
-    let found = searched.found;
+    let found = answer.found;
     match found {
         Found::At(start) => SearchAnswer {
             refusal: 0,
             place: 0,
             start: start as u64,
-            probes: searched.probes,
+            probes: answer.probes,
         },
-        Found::Refused {
-            number: missing,
-            place,
-        } => SearchAnswer {
-            refusal: missing,
+        Found::Refused { number, place } => SearchAnswer {
+            refusal: number,
             place,
             start: 0,
-            probes: searched.probes,
+            probes: answer.probes,
         },
     }
+}
+
+// The file's finding table at the front of the slice.
+#[no_mangle]
+pub extern "C" fn blorb_table_build(file: &[u8], profile: u32, table: &mut [u32]) -> BuildAnswer
+    ensures { λ r. ⌜ (r ≡ buildNumbers (buildOf profile (now (file .entry)) (length (now (table .entry))))) × (now (table .exit) ≡ written (buildOf profile (now (file .entry)) (length (now (table .entry)))) (flat (tableOf (now (file .entry)))) (now (table .entry))) ⌝ }
+{
+    build_numbers(table::build(file, profile, table))
+}
+
+// Whether the whole slice is just this file's table.
+#[no_mangle]
+pub extern "C" fn blorb_table_check(file: &[u8], profile: u32, table: &[u32]) -> CheckAnswer
+    ensures { λ r. ⌜ r ≡ checkNumbers (checkOf profile (now (file .entry)) (rowsOf (now (table .entry))) (length (now (table .entry)))) ⌝ }
+{
+    check_numbers(table::check(file, profile, table))
+}
+
+// The start in the row (usage, number), and how many rows were looked at.
+#[no_mangle]
+pub extern "C" fn blorb_table_search(table: &[u32], usage: &[u8; 4], number: u32) -> SearchAnswer
+    ensures { λ r. ⌜ r ≡ searchNumbers (searchOf (rowsOf (now (table .entry))) (rd32 (now (usage .entry))) number) ⌝ }
+{
+    search_numbers(table::search(table, *usage, number))
+}
+
+// The rows of a table as three columns at the front of a second slice.
+#[no_mangle]
+pub extern "C" fn blorb_table_to_columns(table: &[u32], columns: &mut [u32]) -> BuildAnswer
+    ensures { λ r. ⌜ (r ≡ buildNumbers (turnOf (rowsOf (now (table .entry))) (length (now (columns .entry))))) × (now (columns .exit) ≡ written (turnOf (rowsOf (now (table .entry))) (length (now (columns .entry)))) (flatColumns (rowsOf (now (table .entry)))) (now (columns .entry))) ⌝ }
+{
+    build_numbers(table::to_columns(table, columns))
+}
+
+// The rows of a table of three columns, one after another at the front of a second slice.
+#[no_mangle]
+pub extern "C" fn blorb_table_to_rows(columns: &[u32], table: &mut [u32]) -> BuildAnswer
+    ensures { λ r. ⌜ (r ≡ buildNumbers (turnOf (columnsOf (now (columns .entry))) (length (now (table .entry))))) × (now (table .exit) ≡ written (turnOf (columnsOf (now (columns .entry))) (length (now (table .entry)))) (flat (columnsOf (now (columns .entry)))) (now (table .entry))) ⌝ }
+{
+    build_numbers(table::to_rows(columns, table))
+}
+
+// Whether the whole slice is just this file's table in three columns.
+#[no_mangle]
+pub extern "C" fn blorb_columns_check(file: &[u8], profile: u32, columns: &[u32]) -> CheckAnswer
+    ensures { λ r. ⌜ r ≡ checkNumbers (checkOf profile (now (file .entry)) (columnsOf (now (columns .entry))) (length (now (columns .entry)))) ⌝ }
+{
+    check_numbers(table::columns_check(file, profile, columns))
+}
+
+// The start in the row (usage, number) of a table of three columns, and how many rows were looked at.
+#[no_mangle]
+pub extern "C" fn blorb_columns_search(
+    columns: &[u32],
+    usage: &[u8; 4],
+    number: u32,
+) -> SearchAnswer
+    ensures { λ r. ⌜ r ≡ searchNumbers (searchOf (columnsOf (now (columns .entry))) (rd32 (now (usage .entry))) number) ⌝ }
+{
+    search_numbers(table::columns_search(columns, *usage, number))
 }

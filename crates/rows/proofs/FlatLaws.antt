@@ -1,11 +1,14 @@
 -- Laws of the numbers of rows: rows and their numbers, there and back.
-use mathlib.Core.Path.{_≡_, refl, ap, _∙_}
-use Prim.Native.Nat.{ℕ, zero, suc, _+_, _*_, _/_}
+use mathlib.Core.Path.{_≡_, refl, ap, sym, _∙_}
+use Prim.Native.Nat.{ℕ, zero, suc, _+_, _*_, _/_, _≤_, _<_}
 use mathlib.Core.List.{List, [], _∷_, _++_}
 use native.Mathlib.Omega.{arith}
-use lib.ListN.{length, getD, take, drop}
+use native.Mathlib.Numerals.{add-one}
+use lib.ListN.{length, getD, take, drop, length-append, length-drop, take-append-drop, List·getD-append}
+use lib.Seq.{take-suc, take-all, length-take-le, drop-drop, drop-at, take-at}
 use Rattle.blorb.specs.Format.{Entry}
 use Rattle.rows.specs.Rows.{listed, rowIn, rowsBy, rowsOf, flat}
+use Rattle.rows.specs.Halving.{noRow}
 use Rattle.rows.proofs.RowLaws.{length-listed, listed-ext}
 use Rattle.rows.proofs.OrderLaws.{same-entry}
 
@@ -81,3 +84,44 @@ unfolding flat
 flat-drop zero es = refl
 flat-drop (suc q) [] = let x : 3 * suc q ≡ suc (3 * q + 2) = omega arith in rw x
 flat-drop (suc q) (e ∷ es) = let x : 3 * suc q ≡ suc (suc (suc (3 * q))) = omega arith in rw (x, flat-drop q es)
+
+-- ---- rows that are put one by one, from the first on
+
+module _ (es : List Entry) (t d : List ℕ) (i : ℕ) (w : d ≡ flat (take i es) ++ drop (3 * i) t) where
+  pub entries-turn : (e : Entry) → i < length es → getD es i noRow ≡ e → take (3 * i) d ++ (e .usage ∷ e .number ∷ e .start ∷ []) ++ drop (3 * i + 3) d
+      ≡ flat (take (i + 1) es) ++ drop (3 * (i + 1)) t
+  unfolding flat
+  entries-turn e l g =
+      let f : length (flat (take i es)) ≡ 3 * i = length-flat (take i es) ∙ ap (λ (k : ℕ). 3 * k) (length-take-le i es (omega arith)) in
+      let a : take (3 * i) (flat (take i es) ++ drop (3 * i) t) ≡ flat (take i es) = take-at (flat (take i es)) (drop (3 * i) t) (3 * i) f in
+      let b : drop (3 * i + 3) (flat (take i es) ++ drop (3 * i) t) ≡ drop (3 * (i + 1)) t =
+      let k : 3 * i + 3 ≡ 3 * (i + 1) = omega arith in
+      sym (drop-drop 3 (3 * i) (flat (take i es) ++ drop (3 * i) t)) ∙ ap (drop 3) (drop-at (flat (take i es)) (drop (3 * i) t) (3 * i) f)
+      ∙ drop-drop 3 (3 * i) t ∙ ap (λ (n : ℕ). drop n t) k in
+      let s : take (i + 1) es ≡ take i es ++ (e ∷ []) = ap (λ (n : ℕ). take n es) (add-one i) ∙ take-suc es i noRow l ∙ rw g in
+      rw (w, a, b, s, flat-append (take i es) (e ∷ []))
+
+  pub entries-length : i ≤ length es → 3 * length es ≤ length t → length d ≡ length t
+  entries-length l m =
+      let f : length (flat (take i es)) ≡ 3 * i = length-flat (take i es) ∙ ap (λ (k : ℕ). 3 * k) (length-take-le i es l) in
+      ap length w ∙ simp (length-append, length-drop) (omega arith)
+
+  pub entries-all : i ≡ length es → d ≡ flat es ++ drop (3 * i) t
+  entries-all q = let a : take i es ≡ es = take-all i es (omega arith) in rw a at w
+
+-- ---- rows and the numbers behind them
+
+pub rows-front : (a b : List ℕ) (n : ℕ) → 3 * n ≤ length a → rowsBy (a ++ b) n 3 1 ≡ rowsBy a n 3 1
+rows-front a b n h =
+    listed-ext (rowIn (a ++ b) 3 1) (rowIn a 3 1) n
+    (λ i l. same-entry _ _ (List·getD-append a b 0 (i * 3) (omega arith)) (List·getD-append a b 0 (i * 3 + 1) (omega arith))
+    (List·getD-append a b 0 (i * 3 + 2 * 1) (omega arith)))
+
+pub rows-split : (t : List ℕ) (n : ℕ) → 3 * n ≤ length t → t ≡ flat (rowsBy t n 3 1) ++ drop (3 * n) t
+rows-split t n h =
+    let l : length (take (3 * n) t) ≡ 3 * n = length-take-le (3 * n) t h in
+    let s : take (3 * n) t ++ drop (3 * n) t ≡ t = take-append-drop (3 * n) t in
+    let r : rowsBy t n 3 1 ≡ rowsBy (take (3 * n) t) n 3 1 = ap (λ (x : List ℕ). rowsBy x n 3 1) (sym s) ∙ rows-front (take (3 * n) t) (drop (3 * n) t)
+    n (omega arith) in
+    let f : flat (rowsBy t n 3 1) ≡ take (3 * n) t = ap flat r ∙ flat-rows-go n (take (3 * n) t) l in
+    sym (ap (λ (x : List ℕ). x ++ drop (3 * n) t) f ∙ s)

@@ -4,3 +4,4 @@ pub mod RowLaws
 pub mod SortLaws
 pub mod HeapLaws
 pub mod FlatLaws
+pub mod ColumnLaws

@@ -1,7 +1,7 @@
--- A finding table as a lent slice of numbers of 32 bits (02, P2): the rows that it holds, and the numbers that hold given rows. A row is an
--- entry of the index: usage, number and start as numbers.
+-- A finding table as a lent slice of numbers of 32 bits (02, P2 and P10): the rows that it holds, one after another or in three columns, and the
+-- numbers that hold given rows. A row is an entry of the index: usage, number and start as numbers.
 use Prim.Native.Nat.{ℕ, zero, suc, _+_, _*_, _/_}
-use mathlib.Core.List.{List, [], _∷_}
+use mathlib.Core.List.{List, [], _∷_, _++_, map}
 use lib.ListN.{length, getD}
 use Rattle.blorb.specs.Format.{Entry}
 
@@ -24,7 +24,15 @@ rowsBy t n step gap = listed (rowIn t step gap) n
 unfoldable pub rowsOf : List ℕ → List Entry
 rowsOf t = rowsBy t (length t / 3) 3 1
 
+-- P10's layout: "three columns in one slice, each as long as there are whole rows: all usages, all numbers, all starts"
+unfoldable pub columnsOf : List ℕ → List Entry
+columnsOf t = rowsBy t (length t / 3) 1 (length t / 3)
+
 -- the numbers of these rows, one row after another
 unfoldable pub flat : List Entry → List ℕ
 flat [] = []
 flat (e ∷ es) = e .usage ∷ (e .number ∷ (e .start ∷ flat es))
+
+-- the numbers of these rows, column after column
+unfoldable pub flatColumns : List Entry → List ℕ
+flatColumns es = map (λ (e : Entry). e .usage) es ++ map (λ (e : Entry). e .number) es ++ map (λ (e : Entry). e .start) es

@@ -4,9 +4,9 @@ use Prim.Native.Nat.{ℕ}
 use mathlib.Core.List.{List}
 use lib.ListN.{length}
 use Rattle.blorb.specs.Format.{Entry}
-use Rattle.rows.specs.Rows.{rowsOf, flat}
+use Rattle.rows.specs.Rows.{rowsOf, columnsOf, flat, flatColumns}
 use Rattle.rows.specs.Order.{sorted}
-use Rattle.table.specs.Answers.{tableOf, buildOf, written, compared, checkOf, searchOf}
+use Rattle.table.specs.Answers.{tableOf, buildOf, turnOf, written, compared, checkOf, searchOf}
 use Rattle.table.specs.declared.Built.{Built}
 use Rattle.table.specs.declared.Built.the-variants as built
 use Rattle.table.specs.declared.Checked.{Checked}
@@ -23,6 +23,14 @@ pub data TableRow : Type 0 where
   checks : List ℕ → List Entry → Checked → TableRow
   -- a slice, a usage and number, and the search's answer
   searches : List ℕ → ℕ → ℕ → Searched → TableRow
+  -- a slice of rows, a second slice, the answer of turning the rows into columns there, and the second slice afterwards
+  toColumns : List ℕ → List ℕ → Built → List ℕ → TableRow
+  -- a slice of columns, turned into rows in a second one
+  toRows : List ℕ → List ℕ → Built → List ℕ → TableRow
+  -- a profile, a file, a slice of columns, and what their check answers
+  columnsFor : (profile : ℕ) → List ℕ → List ℕ → Checked → TableRow
+  -- a slice of columns, a usage and number, and the search's answer
+  columnsSearch : List ℕ → ℕ → ℕ → Searched → TableRow
 
 abbrev pub TableRowHolds : TableRow → Type 0
 TableRowHolds (builtFor p f t answer after) = (buildOf p f (length t) ≡ answer) × (written answer (flat (tableOf f)) t ≡ after)
@@ -30,3 +38,7 @@ TableRowHolds (checkedFor p f t answer) = checkOf p f (rowsOf t) (length t) ≡ 
 TableRowHolds (builds t es after) = written (built.Rows (length es)) (flat (sorted es)) t ≡ after
 TableRowHolds (checks t es answer) = compared (rowsOf t) (length t) (sorted es) ≡ answer
 TableRowHolds (searches t u n answer) = searchOf (rowsOf t) u n ≡ answer
+TableRowHolds (toColumns t d answer after) = (turnOf (rowsOf t) (length d) ≡ answer) × (written answer (flatColumns (rowsOf t)) d ≡ after)
+TableRowHolds (toRows t d answer after) = (turnOf (columnsOf t) (length d) ≡ answer) × (written answer (flat (columnsOf t)) d ≡ after)
+TableRowHolds (columnsFor p f t answer) = checkOf p f (columnsOf t) (length t) ≡ answer
+TableRowHolds (columnsSearch t u n answer) = searchOf (columnsOf t) u n ≡ answer

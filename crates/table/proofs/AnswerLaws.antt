@@ -10,7 +10,7 @@ use Rattle.rows.specs.Rows.{rowIn, rowsBy, flat}
 use Rattle.rows.specs.Bridging.{NoTwice, Within, rank, held, Alike}
 use Rattle.rows.specs.Order.{sorted, Rising}
 use Rattle.rows.specs.Halving.{rowOf, halving}
-use Rattle.table.specs.Answers.{searchOf, tableOf, buildOf, written, agree, acceptIf, checkOf}
+use Rattle.table.specs.Answers.{searchOf, tableOf, buildOf, turnOf, written, agree, acceptIf, checkOf}
 use Rattle.rows.specs.declared.Spot.{Spot}
 use Rattle.table.specs.declared.Found.the-variants as found
 use Rattle.rows.proofs.OrderLaws.{more}
@@ -131,3 +131,17 @@ module _ (profile : ℕ) (f : List ℕ) (l count size : ℕ) (e : readOf profile
   build-numbers t d h =
       let q : length (flat (tableOf f)) ≡ 3 * count = length-flat (tableOf f) ∙ ap (λ (k : ℕ). 3 * k) (table-count profile f l count e) in
       rw (q, table-is profile f l count e) h
+
+-- ---- turning n rows into numbers of the other form
+
+module _ (rows : List Entry) (n size : ℕ) (e : length rows ≡ n) where
+  pub turn-short : size < 3 * n → built.Refused 34 0 ≡ turnOf rows size
+  unfolding turnOf
+  turn-short h = rw (e, lt-leb (3 * n) size h)
+
+  pub turn-rows : 3 * n ≤ size → built.Rows n ≡ turnOf rows size
+  unfolding turnOf
+  turn-rows h = rw (e, le-leb (3 * n) size h)
+
+pub turn-numbers : (front t d : List ℕ) (n : ℕ) → length front ≡ 3 * n → d ≡ front ++ drop (3 * n) t → d ≡ written (built.Rows n) front t
+turn-numbers front t d n l h = rw l h

@@ -1,16 +1,15 @@
 -- Laws of building: the rows of all entries, put in the file's order, stand in their own order after the sort.
 use mathlib.Core.Path.{_≡_, refl, ap, sym, _∙_}
 use Prim.Native.Nat.{ℕ, zero, suc, _+_, _*_, _-_, _/_, _≤_, _<_}
-use mathlib.Core.List.{List, [], _∷_, _++_, List·Memᴰ, Permᴰ·refl}
+use mathlib.Core.List.{List, _++_, List·Memᴰ, Permᴰ·refl}
 use native.Mathlib.Omega.{arith}
-use native.Mathlib.Numerals.{add-one}
-use lib.ListN.{length, getD, take, drop, length-append, length-drop, take-append-drop, List·getD-append}
-use lib.Seq.{getD-drop, take-suc, take-all, length-take-le, drop-drop, drop-at, take-at, ext-getD}
+use lib.ListN.{length, getD, drop, length-append, length-drop}
+use lib.Seq.{getD-drop, drop-at, ext-getD}
 use Rattle.blorb.specs.Format.{Entry}
 use Rattle.rows.specs.Rows.{rowIn, rowsBy, flat}
 use Rattle.rows.specs.Halving.{rowOf, noRow}
-use Rattle.rows.proofs.RowLaws.{length-listed, row-by, adjacent-all, row-there, listed-ext}
-use Rattle.rows.proofs.OrderLaws.{same-entry, key-before, key-same}
+use Rattle.rows.proofs.RowLaws.{length-listed, row-by, adjacent-all, row-there}
+use Rattle.rows.proofs.OrderLaws.{key-before, key-same}
 use mathlib.Core.Bool.{Bool, true, false}
 use lib.Dec.{ltb}
 use borrow.Author.Tests.{ltb-true, ltb-false}
@@ -19,46 +18,7 @@ use Rattle.rows.specs.Bridging.{NoTwice}
 use Rattle.rows.specs.Heaps.{keyIn, Mixed, Climbs}
 use Rattle.rows.proofs.SortLaws.{only-sorted, all-there, mem-at, one-place}
 use Rattle.rows.proofs.HeapLaws.{mixed-back}
-use Rattle.rows.proofs.FlatLaws.{length-flat, flat-append, flat-rows-go, rows-flat-go}
-
-module _ (es : List Entry) (t d : List ℕ) (i : ℕ) (w : d ≡ flat (take i es) ++ drop (3 * i) t) where
-  pub entries-turn : (e : Entry) → i < length es → getD es i noRow ≡ e → take (3 * i) d ++ (e .usage ∷ e .number ∷ e .start ∷ []) ++ drop (3 * i + 3) d
-      ≡ flat (take (i + 1) es) ++ drop (3 * (i + 1)) t
-  unfolding flat
-  entries-turn e l g =
-      let f : length (flat (take i es)) ≡ 3 * i = length-flat (take i es) ∙ ap (λ (k : ℕ). 3 * k) (length-take-le i es (omega arith)) in
-      let a : take (3 * i) (flat (take i es) ++ drop (3 * i) t) ≡ flat (take i es) = take-at (flat (take i es)) (drop (3 * i) t) (3 * i) f in
-      let b : drop (3 * i + 3) (flat (take i es) ++ drop (3 * i) t) ≡ drop (3 * (i + 1)) t =
-      let k : 3 * i + 3 ≡ 3 * (i + 1) = omega arith in
-      sym (drop-drop 3 (3 * i) (flat (take i es) ++ drop (3 * i) t)) ∙ ap (drop 3) (drop-at (flat (take i es)) (drop (3 * i) t) (3 * i) f)
-      ∙ drop-drop 3 (3 * i) t ∙ ap (λ (n : ℕ). drop n t) k in
-      let s : take (i + 1) es ≡ take i es ++ (e ∷ []) = ap (λ (n : ℕ). take n es) (add-one i) ∙ take-suc es i noRow l ∙ rw g in
-      rw (w, a, b, s, flat-append (take i es) (e ∷ []))
-
-  pub entries-length : i ≤ length es → 3 * length es ≤ length t → length d ≡ length t
-  entries-length l m =
-      let f : length (flat (take i es)) ≡ 3 * i = length-flat (take i es) ∙ ap (λ (k : ℕ). 3 * k) (length-take-le i es l) in
-      ap length w ∙ simp (length-append, length-drop) (omega arith)
-
-  pub entries-all : i ≡ length es → d ≡ flat es ++ drop (3 * i) t
-  entries-all q = let a : take i es ≡ es = take-all i es (omega arith) in rw a at w
-
--- ---- rows and the numbers behind them
-
-rows-front : (a b : List ℕ) (n : ℕ) → 3 * n ≤ length a → rowsBy (a ++ b) n 3 1 ≡ rowsBy a n 3 1
-rows-front a b n h =
-    listed-ext (rowIn (a ++ b) 3 1) (rowIn a 3 1) n
-    (λ i l. same-entry _ _ (List·getD-append a b 0 (i * 3) (omega arith)) (List·getD-append a b 0 (i * 3 + 1) (omega arith))
-    (List·getD-append a b 0 (i * 3 + 2 * 1) (omega arith)))
-
-rows-split : (t : List ℕ) (n : ℕ) → 3 * n ≤ length t → t ≡ flat (rowsBy t n 3 1) ++ drop (3 * n) t
-rows-split t n h =
-    let l : length (take (3 * n) t) ≡ 3 * n = length-take-le (3 * n) t h in
-    let s : take (3 * n) t ++ drop (3 * n) t ≡ t = take-append-drop (3 * n) t in
-    let r : rowsBy t n 3 1 ≡ rowsBy (take (3 * n) t) n 3 1 = ap (λ (x : List ℕ). rowsBy x n 3 1) (sym s) ∙ rows-front (take (3 * n) t) (drop (3 * n) t)
-    n (omega arith) in
-    let f : flat (rowsBy t n 3 1) ≡ take (3 * n) t = ap flat r ∙ flat-rows-go n (take (3 * n) t) l in
-    sym (ap (λ (x : List ℕ). x ++ drop (3 * n) t) f ∙ s)
+use Rattle.rows.proofs.FlatLaws.{length-flat, rows-flat-go, rows-front, rows-split}
 
 less : (a b : ℕ) → a ≤ b → (a ≡ b → ⊥) → a < b
 less a b l h = go (ltb a b) refl

@@ -4,3 +4,4 @@ pub mod FileLaws
 pub mod FillLaws
 pub mod AnswerLaws
 pub mod Promises
+pub mod Columns

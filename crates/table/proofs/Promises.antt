@@ -71,7 +71,7 @@ sorted-same : (es : List Entry) → SameEntries (sorted es) es
 sorted-same es = (λ x k. perm-mem (sorted-perm es) k, λ x k. perm-mem (Permᴰ·symm (sorted-perm es)) k)
 
 module _ (profile : ℕ) (f : List ℕ) (rows : List Entry) (size : ℕ) (hl : length rows ≡ size / 3) where
-  accepted-rows : checkOf profile f rows size ≡ checked.Accepted → (profileVerdict profile f ≡ accept) × (rows ≡ tableOf f) × (size ≡ 3 * length rows)
+  pub accepted-rows : checkOf profile f rows size ≡ checked.Accepted → (profileVerdict profile f ≡ accept) × (rows ≡ tableOf f) × (size ≡ 3 * length rows)
   unfolding checkOf
   accepted-rows h =
       let a = accepted-by profile (readOf profile f) f rows size refl h in

@@ -1,4 +1,4 @@
--- What building, checking and searching a finding table answer (02, P2), and what building leaves in the slice.
+-- What building, checking, searching and turning a finding table answer (02, P2 and P10), and what building and turning leave in the slice.
 use Prim.Native.Nat.{ℕ, suc, _*_, _-_}
 use mathlib.Core.List.{List, [], _∷_, _++_}
 use mathlib.Core.Bool.{Bool, true, false, _&&_, cond}
@@ -37,7 +37,11 @@ buildBy (reading.Refused k p) size = built.Refused k p
 unfoldable pub buildOf : (profile : ℕ) → List ℕ → ℕ → Built
 buildOf profile f size = buildBy (readOf profile f) size
 
--- the slice afterwards: these numbers at its front; "Building leaves the slice behind the last row as it was"
+-- turning these rows into the other form, in a slice of size numbers: "three numbers for each whole row, 34 if that is too short"
+unfoldable pub turnOf : List Entry → ℕ → Built
+turnOf rows size = roomFor (leb (3 * length rows) size) (length rows)
+
+-- the slice afterwards: these numbers at its front; "Building leaves the slice behind the last row as it was", turning "its rest untouched"
 abbrev pub written : Built → List ℕ → List ℕ → List ℕ
 written (built.Rows n) front t = front ++ drop (length front) t
 written (built.Refused k p) front t = t

@@ -1,4 +1,5 @@
-// The finding table of a Blorb file (02, P2): three numbers of 32 bits to a row, built in a lent slice, checked and searched.
+// The finding table of a Blorb file (02, P2): three numbers of 32 bits to a row, built in a lent slice, checked and searched; and the same table in
+// three columns (02, P10), turned into rows and back.
 use reader::Reading;
 ghost use mathlib.Core.Path.{_≡_};
 ghost use Prim.Native.Nat.{_+_, _*_, _/_, _≤_, _<_, min};
@@ -9,11 +10,11 @@ ghost use lib.Dec.{eqb};
 ghost use Rattle.blorb.specs.Bytes.{rd32};
 ghost use Rattle.blorb.specs.Format.{entryIn};
 ghost use Rattle.index.specs.Entries.{place};
-ghost use Rattle.rows.specs.Rows.{rowIn, rowsBy, rowsOf, flat};
+ghost use Rattle.rows.specs.Rows.{rowIn, rowsBy, rowsOf, columnsOf, flat, flatColumns};
 ghost use Rattle.rows.specs.Order.{sorted};
 ghost use Rattle.rows.specs.Bridging.{Fits, Alike, NoTwice, Within, rank, held};
 ghost use Rattle.table.specs.Bridging.{firstEntries};
-ghost use Rattle.table.specs.Answers.{tableOf, buildOf, written, agree, checkOf, searchOf};
+ghost use Rattle.table.specs.Answers.{tableOf, buildOf, turnOf, written, agree, checkOf, searchOf};
 
 pub enum Found {
     At(u32),
@@ -67,6 +68,14 @@ pub fn search(table: &[u32], usage: [u8; 4], number: u32) -> Searched
     ensures { λ r. ⌜ r ≡ searchOf (rowsOf (now (table .entry))) (rd32 usage) number ⌝ }
 {
     find(table, table.len() / 3, 3, 1, code(usage), number)
+}
+
+// The same in a table of three columns.
+pub fn columns_search(columns: &[u32], usage: [u8; 4], number: u32) -> Searched
+    ensures { λ r. ⌜ r ≡ searchOf (columnsOf (now (columns .entry))) (rd32 usage) number ⌝ }
+{
+    let rows = columns.len() / 3;
+    find(columns, rows, 1, rows, code(usage), number)
 }
 
 // The pair of the entry at `p`.
@@ -292,6 +301,14 @@ pub fn check(file: &[u8], profile: u32, table: &[u32]) -> Checked
     compare(file, profile, table, table.len() / 3, 3, 1)
 }
 
+// The same of a table of three columns.
+pub fn columns_check(file: &[u8], profile: u32, columns: &[u32]) -> Checked
+    ensures { λ r. ⌜ r ≡ checkOf profile (now (file .entry)) (columnsOf (now (columns .entry))) (length (now (columns .entry))) ⌝ }
+{
+    let rows = columns.len() / 3;
+    compare(file, profile, columns, rows, 1, rows)
+}
+
 // The rows of the file's entries, in the file's order.
 fn put_entries(file: &[u8], count: usize, t: &mut [u32])
     requires { ⌜ (count ≤ 4096) × (place count ≤ length (now file)) × (3 * count ≤ length (now t)) ⌝ }
@@ -337,4 +354,34 @@ pub fn build(file: &[u8], profile: u32, table: &mut [u32]) -> Built
             Built::Rows(count)
         }
     }
+}
+
+// The rows of a table as three columns at the front of a second slice: how many rows they are.
+pub fn to_columns(table: &[u32], columns: &mut [u32]) -> Built
+    ensures { λ r. ⌜ (r ≡ turnOf (rowsOf (now (table .entry))) (length (now (columns .entry)))) × (now (columns .exit) ≡ written r (flatColumns (rowsOf (now (table .entry)))) (now (columns .entry))) ⌝ }
+{
+    let rows = table.len() / 3;
+    if columns.len() < 3 * rows {
+        return Built::Refused {
+            number: 34,
+            place: 0,
+        };
+    }
+    rows::put_columns(table, rows, columns);
+    Built::Rows(rows)
+}
+
+// The rows of a table of three columns, one after another at the front of a second slice: how many rows they are.
+pub fn to_rows(columns: &[u32], table: &mut [u32]) -> Built
+    ensures { λ r. ⌜ (r ≡ turnOf (columnsOf (now (columns .entry))) (length (now (table .entry)))) × (now (table .exit) ≡ written r (flat (columnsOf (now (columns .entry)))) (now (table .entry))) ⌝ }
+{
+    let rows = columns.len() / 3;
+    if table.len() < 3 * rows {
+        return Built::Refused {
+            number: 34,
+            place: 0,
+        };
+    }
+    rows::put_rows(columns, rows, table);
+    Built::Rows(rows)
 }

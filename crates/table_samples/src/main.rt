@@ -1,13 +1,15 @@
 // Runs the finding table on the samples that stand packed on standard input, and says what it answers.
 //
-// A packed sample: five numbers of four bytes (the length of its name, the length of its file, how many numbers its slice
-// has, how many pairs are sought, and the profile), the name, the file, four bytes for each number of the slice, four bytes
-// of usage and four of number for each pair. The next sample follows at once; tests/make_table_samples.py writes them.
+// A packed sample: six numbers of four bytes (the length of its name, the length of its file, how many numbers its slice
+// has, how many a second slice has, how many pairs are sought, and the profile), the name, the file, four bytes for each
+// number of the slice, four bytes of usage and four of number for each pair. The next sample follows at once;
+// tests/make_table_samples.py writes them.
 use libc::STDIN_FILENO;
 use libc::STDOUT_FILENO;
 use table::Built;
 use table::Checked;
 use table::Found;
+use table::Searched;
 ghost use mathlib.Core.Path.{_≡_};
 ghost use Prim.Native.Nat.{_<_};
 ghost use lib.ListN.{length};
@@ -21,7 +23,7 @@ fn room() -> [u8; 1048576]
 fn slice_room() -> [u32; 16384]
     ensures { λ r. ⌜ 16384 ≡ length r ⌝ }
 {
-    [0; 16384]
+    [7; 16384]
 }
 
 fn text(s: &[u8]) {
@@ -39,20 +41,14 @@ fn refused(k: u64, place: usize) {
     number(place as u64);
 }
 
-fn say_check(file: &[u8], profile: u32, t: &[u32]) {
-    match table::check(file, profile, t) {
+fn say_checked(answer: Checked) {
+    match answer {
         Checked::Accepted => text(b"accepted"),
         Checked::Refused { number, place } => refused(number, place),
     }
 }
 
-fn say_search(t: &[u32], usage: [u8; 4], n: u32) {
-    text(b" ");
-    number(blorb::be32_at(&usage, 0));
-    text(b" ");
-    number(n as u64);
-    text(b": ");
-    let answer = table::search(t, usage, n);
+fn say_searched(answer: Searched) {
     let found = answer.found;
     match found {
         Found::At(start) => {
@@ -63,6 +59,17 @@ fn say_search(t: &[u32], usage: [u8; 4], n: u32) {
     }
     text(b" probes ");
     number(answer.probes as u64);
+}
+
+fn say_search(t: &[u32], usage: [u8; 4], n: u32) {
+    text(b" ");
+    number(blorb::be32_at(&usage, 0));
+    text(b" ");
+    number(n as u64);
+    text(b": ");
+    say_searched(table::search(t, usage, n));
+    text(b"; in columns ");
+    say_searched(table::columns_search(t, usage, n));
     text(b"\n");
 }
 
@@ -81,8 +88,9 @@ fn checksum(t: &[u32]) -> u64 {
     sum
 }
 
-fn say_build(file: &[u8], profile: u32, t: &mut [u32]) {
-    match table::build(file, profile, t) {
+// What was written in `t`.
+fn say_built(answer: Built, t: &[u32]) {
+    match answer {
         Built::Rows(rows) => {
             text(b"rows ");
             number(rows as u64);
@@ -117,54 +125,91 @@ fn search_all(t: &[u32], pairs: &[u8]) {
     }
 }
 
-// The slice is checked, built anew and, as it was given, searched.
-fn ask(file: &[u8], profile: u32, numbers: &[u8], pairs: &[u8], t: &mut [u32]) {
-    load(numbers, t);
-    say_check(file, profile, t);
+// The slice is checked as rows, and built anew.
+fn ask_rows(file: &[u8], profile: u32, t: &mut [u32]) {
+    say_checked(table::check(file, profile, t));
     text(b"; ");
-    say_build(file, profile, t);
+    let built = table::build(file, profile, t);
+    say_built(built, t);
     text(b"; then ");
-    say_check(file, profile, t);
+    say_checked(table::check(file, profile, t));
     text(b"\n");
+}
+
+// The slice is checked as columns, and turned in a second one: into columns, and as columns into rows.
+fn ask_columns(file: &[u8], profile: u32, t: &[u32], second: &mut [u32]) {
+    text(b" columns: ");
+    say_checked(table::columns_check(file, profile, t));
+    text(b"; to columns ");
+    let turned = table::to_columns(t, second);
+    say_built(turned, second);
+    text(b"; then ");
+    say_checked(table::columns_check(file, profile, second));
+    text(b"; to rows ");
+    let back = table::to_rows(t, second);
+    say_built(back, second);
+    text(b"; then ");
+    say_checked(table::check(file, profile, second));
+    text(b"\n");
+}
+
+fn ask(file: &[u8], profile: u32, numbers: &[u8], pairs: &[u8], t: &mut [u32], second: &mut [u32]) {
     load(numbers, t);
+    ask_rows(file, profile, t);
+    load(numbers, t);
+    ask_columns(file, profile, t, second);
     search_all(t, pairs);
 }
 
-// A slice of `count` numbers.
-fn ask_slice(file: &[u8], profile: u32, numbers: &[u8], count: usize, pairs: &[u8]) {
+// A slice of `count` numbers, and a second one of `room` numbers.
+fn ask_slices(file: &[u8], profile: u32, numbers: &[u8], count: usize, room: usize, pairs: &[u8]) {
     let mut t = slice_room();
+    let mut second = slice_room();
     if 16384 < count {
         text(b"too many numbers\n");
         return;
     }
-    ask(file, profile, numbers, pairs, &mut t[..count]);
+    if 16384 < room {
+        text(b"too many numbers\n");
+        return;
+    }
+    ask(
+        file,
+        profile,
+        numbers,
+        pairs,
+        &mut t[..count],
+        &mut second[..room],
+    );
 }
 
 // The sample at `at`. Answers where the next one stands, or 0 where the packing is bad.
 fn sample(s: &[u8], at: usize) -> usize {
-    if s.len() < 20 {
+    if s.len() < 24 {
         return 0;
     }
-    if s.len() - 20 < at {
+    if s.len() - 24 < at {
         return 0;
     }
-    let name = at + 20;
+    let name = at + 24;
     let file = name + blorb::be32_at(s, at) as usize;
     let numbers = file + blorb::be32_at(s, at + 4) as usize;
     let count = blorb::be32_at(s, at + 8) as usize;
+    let room = blorb::be32_at(s, at + 12) as usize;
     let pairs = numbers + 4 * count;
-    let end = pairs + 8 * blorb::be32_at(s, at + 12) as usize;
-    let profile = blorb::be32_at(s, at + 16) as u32;
+    let end = pairs + 8 * blorb::be32_at(s, at + 16) as usize;
+    let profile = blorb::be32_at(s, at + 20) as u32;
     if s.len() < end {
         return 0;
     }
     text(&s[name..file]);
     text(b": ");
-    ask_slice(
+    ask_slices(
         &s[file..numbers],
         profile,
         &s[numbers..pairs],
         count,
+        room,
         &s[pairs..end],
     );
     end

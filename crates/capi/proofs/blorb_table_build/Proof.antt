@@ -1,5 +1,5 @@
--- Each case of the answer is set out as numbers; the slice is as the library leaves it.
-use mathlib.Core.Path.{ap, sym, _∙_}
+-- The library's answer as numbers; the slice is as the library leaves it.
+use mathlib.Core.Path.{ap, _∙_}
 use Rattle.capi.specs.TableNumbers.{buildNumbers}
 use borrow.Author.Needs.{needs}
 use Rattle.capi.proofs.blorb_table_build.Statement.{statement}
@@ -7,22 +7,8 @@ use Rattle.capi.proofs.blorb_table_build.Tie as tie
 
 returns : tie.Need-returns
 returns c =
-    let e = c .before .before .before .before .before .build .ensures in
-    (ap buildNumbers (sym (c .before .rows .given .1) ∙ e .0), rw (e .0) at (e .1))
-
-returns-2 : tie.Need-returns-2
-returns-2 c =
-    let e = c .before .before .before .before .before .build .ensures in
-    (ap buildNumbers (sym (c .before .number .given .1) ∙ e .0), rw (e .0) at (e .1))
+    let e = c .before .before .before .build .ensures in
+    (c .build-numbers .ensures ∙ ap buildNumbers (e .0), rw (e .0) at (e .1))
 
 pub blorb-table-build-spec : {M : Type 1} → statement M
-blorb-table-build-spec =
-    tie.close
-    (tie.spec
-    (λ c κs. search needs)
-    (λ c. search needs)
-    (λ c. search needs)
-    (λ c. search needs)
-    returns
-    (λ c. search needs)
-    returns-2)
+blorb-table-build-spec = tie.close (tie.spec (λ c κs. search needs) (λ c κs. search needs) (λ c. search needs) returns)

@@ -11,8 +11,8 @@ use Rattle.rows.specs.Halving.{noRow}
 use Rattle.index.proofs.IndexLaws.{length-entriesIn, entry-getD}
 use Rattle.rows.specs.Rows.{flat}
 use Rattle.rows.proofs.OrderLaws.{same-entry}
+use Rattle.rows.proofs.FlatLaws.{entries-turn, entries-length, entries-all}
 use Rattle.table.proofs.CheckLaws.{entry-read}
-use Rattle.table.proofs.FillLaws.{entries-turn, entries-length, entries-all}
 use Rattle.table.proofs.put_entries.Statement.{statement}
 use Rattle.table.proofs.put_entries.Tie as tie
 
