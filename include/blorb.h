@@ -130,6 +130,7 @@ enum {
     BLORB_FILE_ROOM = 24,       /* the file buffer is too small for the resulting file */
     BLORB_JOURNAL_ROOM = 25,    /* the journal is too small for the record */
     BLORB_NOTHING_TO_UNDO = 26, /* `used` is 0 */
+    BLORB_WHOLE_FORM = 30,      /* data of type 'FORM' has under 8 bytes, or does not begin with 'FORM' and its own size less 8 */
 
     /* The finding table. */
     BLORB_TABLE_ROOM = 34,      /* the slice is too small for the table, or for the table turned; place 0 */
@@ -184,11 +185,16 @@ typedef struct blorb_lookup_answer {
     uint64_t refusal;
     uint64_t place;
     uint32_t type;   /* the chunk's type as a number */
-    uint64_t start;  /* where its data begins: file + start */
-    uint64_t length; /* the data's bytes, without header and padding */
+    uint64_t start;  /* where the resource begins: file + start */
+    uint64_t length; /* its bytes, without padding */
 } blorb_lookup_answer;
 
-/* The resource with this usage and number. The file's refusals, then 22 exactly where the index has no such entry. */
+/*
+ * The resource with this usage and number. It is the chunk's data, which begins BLORB_HEADER_SIZE bytes behind the chunk's start; but of type
+ * 'FORM' it is the whole chunk, header included, for an AIFF sound is an IFF file of its own, and that is one 'FORM' chunk. No padding in either
+ * case. So blorb_lookup gives what blorb_add and blorb_replace were given, byte for byte.
+ * The file's refusals, then 22 exactly where the index has no such entry.
+ */
 blorb_lookup_answer blorb_lookup(const uint8_t *file, size_t size, uint32_t profile, const char usage[4], uint32_t number);
 
 /*
@@ -224,7 +230,7 @@ blorb_check_answer blorb_table_check(const uint8_t *file, size_t size, uint32_t 
 typedef struct blorb_search_answer {
     uint64_t refusal;
     uint64_t place;
-    uint64_t start;  /* where the resource's chunk begins: its header, BLORB_HEADER_SIZE bytes before its data */
+    uint64_t start;  /* where the resource's chunk begins: BLORB_HEADER_SIZE bytes before the resource; of a 'FORM' that is the resource itself */
     uint64_t probes; /* rows looked at: at most 13 in a table of BLORB_MAX_ENTRIES rows, 0 in an empty one */
 } blorb_search_answer;
 
@@ -266,9 +272,15 @@ typedef struct blorb_edit_answer {
 blorb_edit_answer blorb_blank(uint8_t *file, size_t size);
 
 /*
- * Add a resource: an entry at the end of the index, a chunk at the end of the file. It takes 20 bytes and the data, rounded up
+ * Data of type 'FORM' is a whole file, as blorb_lookup gives it: it begins with 'FORM' and a length of its size less 8, or it is refused with 30,
+ * whatever the usage. These BLORB_HEADER_SIZE bytes become the chunk's header, and the chunk holds what follows them. Of every other type the
+ * chunk holds the data as it is given. Sizes of the file (24, 101) and of journal records (25) go by what the chunk holds.
+ */
+
+/*
+ * Add a resource: an entry at the end of the index, a chunk at the end of the file. It takes 20 bytes and what the chunk holds, rounded up
  * to even, in the file, and BLORB_RECORD_SIZE in the journal.
- * Refusals: 52, 20, those of the present file, 101, 109, 111, 112, 114, 115, 116, 24, 25.
+ * Refusals: 52, 20, those of the present file, 30, 101, 109, 111, 112, 114, 115, 116, 24, 25.
  */
 blorb_edit_answer blorb_add(uint8_t *file, size_t size, size_t length,
                             uint8_t *journal, size_t journal_size, size_t used, uint32_t profile,
@@ -276,9 +288,9 @@ blorb_edit_answer blorb_add(uint8_t *file, size_t size, size_t length,
                             const uint8_t *data, size_t data_size);
 
 /*
- * Give a resource another type and other data, in the same position. The old data goes to the journal: BLORB_RECORD_SIZE and
- * the old data's bytes.
- * Refusals: 52, 20, those of the present file, 22, 23, 101, 109, 114, 119, 24, 25.
+ * Give a resource another type and other data, in the same position. What the chunk held goes to the journal: BLORB_RECORD_SIZE and
+ * these bytes.
+ * Refusals: 52, 20, those of the present file, 22, 23, 30, 101, 109, 114, 119, 24, 25.
  */
 blorb_edit_answer blorb_replace(uint8_t *file, size_t size, size_t length,
                                 uint8_t *journal, size_t journal_size, size_t used, uint32_t profile,
@@ -287,7 +299,7 @@ blorb_edit_answer blorb_replace(uint8_t *file, size_t size, size_t length,
 
 /*
  * Remove a resource: its entry, and its chunk unless another entry has it too. The journal takes BLORB_RECORD_SIZE and, where the
- * chunk goes, the data's bytes.
+ * chunk goes, the bytes that it held.
  * Refusals: 52, 20, those of the present file, 22, 119, 25.
  */
 blorb_edit_answer blorb_remove(uint8_t *file, size_t size, size_t length,
@@ -360,7 +372,7 @@ static inline blorb_entry_answer blorb_editor_entry(const blorb_editor *e, size_
     return a;
 }
 
-/* The data is at e->file + start, until the next edit or undo. */
+/* The resource is at e->file + start, until the next edit or undo. */
 static inline blorb_lookup_answer blorb_editor_lookup(const blorb_editor *e, const char usage[4], uint32_t number)
 {
     blorb_lookup_answer a = blorb_lookup(e->file, blorb_editor_lent(e), e->profile, usage, number);

@@ -12,6 +12,11 @@ def chunk(kind, body=b"", length=None, pad=0):
     return kind + be(len(body) if length is None else length) + body + bytes([pad] * (len(body) % 2))
 
 
+def whole_form(body=b"AIFF", length=None):
+    """A 'FORM' file of this data, as a lookup gives it and an add takes it: no padding. Its length can be given wrong."""
+    return b"FORM" + be(len(body) if length is None else length) + body
+
+
 def form(*parts):
     """A file of these bytes behind the first twelve, its FORM length right."""
     body = b"".join(parts)

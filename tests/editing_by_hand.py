@@ -10,7 +10,7 @@ the same reason. A host that lends the library a large buffer has to run them.
 from collections import namedtuple
 from itertools import permutations, product
 
-from building import be, blorb, chunk, form, put, starts
+from building import be, blorb, chunk, form, put, starts, whole_form
 from editing_run import Scenario, fill, lent
 from reading_by_hand import (A, ANNO, B, B_BINA, B_LESS, B_TURNED, BLANK, BROKEN, BROKEN_OFF, DATA, EXEC, JPEG, KINDS, PICT,
                              RECT, RELN, SND, TEXT, WHOLE, ZCOD, behind, fspc, large)
@@ -219,12 +219,13 @@ for usage in KINDS:
     steps = []
     for kinds in KINDS.values():
         for kind in kinds:
-            body = {b"Rect": bytes(8), b"FORM": b"AIFF"}.get(kind, b"abc")
+            body = {b"Rect": bytes(8), b"FORM": whole_form()}.get(kind, b"abc")
+            m = 4 if kind == b"FORM" else len(body)    # as the chunk holds it
             fits = kind in KINDS[usage]
-            steps += [(add(usage, 0, kind, body), done(48 + 12 + size(body), 29) if fits else no(114, 36))]
+            steps += [(add(usage, 0, kind, body), done(48 + 12 + size(bytes(m)), 29) if fits else no(114, 36))]
             steps += [(UNDO, done(48, 0, A))] * fits
     if usage == DATA:
-        steps += [(replace(DATA, 7, k, bytes(8)), no(114, 24)) for u in KINDS for k in KINDS[u] if u != DATA]
+        steps += [(replace(DATA, 7, k, whole_form(bytes(4))), no(114, 24)) for u in KINDS for k in KINDS[u] if u != DATA]
     scenario(f"types for {usage.decode()}", A, steps, shown=False)
 for word in (b"data", b"DATA", b"Snd\0", b"RIdx", b"TEXT", bytes(4), b"\xff\xff\xff\xff"):
     scenario(f"usage {word.hex()}", B, [
@@ -232,18 +233,18 @@ for word in (b"data", b"DATA", b"Snd\0", b"RIdx", b"TEXT", bytes(4), b"\xff\xff\
 scenario("wrong for a new entry", B, [
     (add(PICT, 2, *TEXT), no(114, 48)), (add(PICT, 2, b"Rect", b"1234567"), no(114, 48)),
     (add(PICT, 2, b"Rect", b"123456789"), no(114, 48)), (add(PICT, 2, b"Rect", b""), no(114, 48)),
-    (add(SND, 2, b"FORM", b""), no(114, 48)), (add(SND, 2, b"FORM", b"AIF"), no(114, 48)),
-    (add(SND, 2, b"FORM", b"AIFC"), no(114, 48)), (add(EXEC, 1, *ZCOD), no(115, 52)),
+    (add(SND, 2, b"FORM", whole_form(b"")), no(114, 48)), (add(SND, 2, b"FORM", whole_form(b"AIF")), no(114, 48)),
+    (add(SND, 2, b"FORM", whole_form(b"AIFC")), no(114, 48)), (add(EXEC, 1, *ZCOD), no(115, 52)),
     (add(EXEC, 2 ** 32 - 1, *ZCOD), no(115, 52)), (add(DATA, 7, *TEXT), no(116, 48)), (add(PICT, 1, *JPEG), no(116, 48)),
     (add(DATA, 8, b"RIdx", b""), no(109, 88)), (add(DATA, 8, b"RIdx", be(0)), no(109, 88)),
     (add(DATA, 8, b"RelN", b"\0\1"), no(114, 48)), (add(PICT, 2, b"Fspc", be(2)), no(114, 48)),
     (add(PICT, 2, bytes(4), b""), no(114, 48)), (add(PICT, 7, *JPEG), done(98)),
-    (add(SND, 1, b"FORM", b"AIFFx"), done(124))])
+    (add(SND, 1, b"FORM", whole_form(b"AIFFx")), done(124))])
 scenario("wrong for a replacement", B, [
     (replace(PICT, 1, b"Rect", b"1234567"), no(114, 36)), (replace(DATA, 7, *JPEG), no(114, 24)),
     (replace(DATA, 7, b"RIdx", b""), no(109, 48)), (replace(PICT, 1, b"RIdx", be(0)), no(109, 60)),
     (replace(DATA, 7, b"RelN", b"\0\1"), no(114, 24)), (replace(PICT, 1, b"Fspc", be(1)), no(114, 36)),
-    (replace(PICT, 1, b"FORM", b"AIFF"), no(114, 36)), (replace(DATA, 8, *TEXT), no(22)), (replace(PICT, 7, *JPEG), no(22)),
+    (replace(PICT, 1, b"FORM", whole_form()), no(114, 36)), (replace(DATA, 8, *TEXT), no(22)), (replace(PICT, 7, *JPEG), no(22)),
     (remove(DATA, 1), no(22)), (remove(SND, 7), no(22)), (remove(DATA, 7 + 2 ** 24), no(22))])
 scenario("to an empty index", BLANK, [
     (add(EXEC, 1, *ZCOD), no(115, 28)), (add(b"Pic ", 1, *JPEG), no(112, 24)), (add(DATA, 1, b"RIdx", b""), no(109, 36)),

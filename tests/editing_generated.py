@@ -6,7 +6,7 @@ profile. A single call may be made under another profile than the edits before i
 """
 import editing_reference
 import reference
-from building import Dice, be, blorb, grow, put, put32
+from building import Dice, be, blorb, grow, put, put32, whole_form
 from editing_by_hand import FIRST, FOUR, FRONT, LAST, MIXED, SAME, SHARED, THREE
 from editing_run import Scenario, lent
 from reading_by_hand import B, BLANK, JPEG, PICT, UNKNOWN, WHOLE
@@ -17,7 +17,7 @@ from undo_by_hand import HELD
 ALLOWED = {PLAIN: RESOURCES, ADRIFT: ADRIFT_RESOURCES}
 KINDS = {profile: {usage: [kind for u, kind in allowed if u == usage] for usage in USAGES} for profile, allowed in ALLOWED.items()}
 FILES = [BLANK, B, MIXED, SHARED, FOUR, WHOLE, FIRST, LAST, FRONT, HELD, SAME, THREE]
-WRONG = [b"RIdx", b"RelN", b"Fspc", b"ANNO", b"TEXT", b"Rect", b"GIF ", b"WAV ", bytes(4)]
+WRONG = [b"RIdx", b"RelN", b"Fspc", b"ANNO", b"TEXT", b"Rect", b"FORM", b"GIF ", b"WAV ", bytes(4)]
 MOODS = [("add", "add", "add", "replace"), ("replace", "replace", "remove"), ("remove", "remove", "undo"), ("undo",),
          ("undo",), ("add", "replace", "remove", "undo"), ("add", "undo"), ("add", "replace", "replace", "remove")]
 
@@ -25,7 +25,11 @@ MOODS = [("add", "add", "add", "replace"), ("replace", "replace", "remove"), ("r
 # ---- calls
 
 def body_of(d, kind):
-    if kind in (b"Rect", b"FORM") or d.below(4):
+    """Data to be given with that type: of 'FORM' a whole file, now and then one whose head is wrong or cut short."""
+    if kind == b"FORM":
+        file = whole_form(body_for(d, kind))
+        return d.one_of([file] * 6 + [file + b"\0", file[8:], file[:d.below(12)], grow(file, 4, 1), put(file, 0, b"f")])
+    if kind == b"Rect" or d.below(4):
         return body_for(d, kind)
     return d.bytes(d.below(40))
 

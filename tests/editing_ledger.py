@@ -40,15 +40,25 @@ class Kept:
         return [k for _, _, k in self.entries].count(self.entries[i][2]) > 1
 
 
+def disagrees(kind, body):
+    """Of type 'FORM': the data given isn't a whole file, which begins with 'FORM' and its size less 8 (02, P3)."""
+    return kind == b"FORM" and body[:8] != b"FORM" + be(max(0, len(body) - 8))
+
+
+def new_chunk(kind, body):
+    """The chunk of the arguments of an add or a replacement, its data without the head of a whole file."""
+    return kind, body[8:] if kind == b"FORM" else body
+
+
 def applied(f, call):
     """The file after an edit whose entry is there, as under The edits."""
     what, usage, number, *new = call
     i = f.place_of(usage, number)
     if what == "add":
-        return Kept(f.entries + [(usage, number, len(f.chunks))], f.chunks + [tuple(new)])
+        return Kept(f.entries + [(usage, number, len(f.chunks))], f.chunks + [new_chunk(*new)])
     k = f.entries[i][2]
     if what == "replace":
-        return Kept(f.entries, f.chunks[:k] + [tuple(new)] + f.chunks[k + 1:])
+        return Kept(f.entries, f.chunks[:k] + [new_chunk(*new)] + f.chunks[k + 1:])
     rest = f.entries[:i] + f.entries[i + 1:]
     if f.shared(i):
         return Kept(rest, f.chunks)
@@ -93,7 +103,7 @@ class Ledger:
 
     def reason(self, call):
         """The first reason in an edit's order that holds, as (number, place); None if none does."""
-        what, usage, number, *_ = call
+        what, usage, number, *new = call
         if self.len() > self.room or self.used() > self.journal:
             return 20, 0
         verdict = reference.read(self.file(), self.profile)
@@ -104,6 +114,8 @@ class Ledger:
             return 22, 0
         if what == "replace" and self.now.shared(i):
             return 23, 0
+        if new and disagrees(*new):
+            return 30, 0
         after = applied(self.now, call)
         if after.places()[-1] > reference.MOST_BYTES:
             return 101, 0

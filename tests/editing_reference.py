@@ -1,4 +1,5 @@
-"""The editing half of 01 (The edits, The undo journal, refusals 20 to 26 and 100 + k) and 52 of 02 (P12), in Python.
+"""The editing half of 01 (The edits, The undo journal, refusals 20 to 26 and 100 + k), with 30 (P3) and 52 (P12) of 02, in
+Python.
 
 Written from the paper alone, over reference.py, to be held against the proved library: it shares no code, no definition
 and no order of working with it. Where the paper leaves a choice, the reading taken is named in a comment.
@@ -10,8 +11,8 @@ and no order of working with it. Where the paper leaves a choice, the reading ta
     undo(buf, L, jrn, U, profile)                                   (answer, buf, jrn)
 
 buf and jrn are the two whole buffers as bytes, before the call and after it. The file is the first L bytes of buf, the
-records are the first U bytes of jrn. An answer's number is 0 where the call has succeeded. The profile is plain where none is
-given; the present file and the one after the call are judged under the same.
+records are the first U bytes of jrn. An answer's number is 0 where the call has succeeded. The body given with type 'FORM' is a
+whole file. The profile is plain where none is given; the present file and the one after the call are judged under the same.
 """
 from collections import namedtuple
 
@@ -84,9 +85,19 @@ def sharing(entries, start):
 
 # ---- The edits: each gives the entries and chunks of the resulting file, and the record
 
+def as_held(kind, given):
+    """The data as the chunk holds it. Of type 'FORM' it is given with its head (02, P3): 30 if it is under 8 bytes or its head
+    isn't 'FORM' and its size less 8."""
+    if kind != b"FORM":
+        return given
+    refuse_if(len(given) < 8 or given[:4] != b"FORM" or be32(given, 4) != len(given) - 8, 30, 0)
+    return given[8:]
+
+
 def added(file, profile, usage, number, kind, body):
     """Entry at the end of the index, chunk at the end of the file. All old starts grow by 12."""
     entries, chunks = taken_apart(file, profile)
+    body = as_held(kind, body)
     new = Entry(usage, number, len(file) + 12)
     record = Record(ADDED, usage, number, len(entries), 0, NO_TYPE, b"")
     return moved(entries, 12) + [new], plain(chunks) + [(kind, body)], record
@@ -105,6 +116,7 @@ def replaced(file, profile, usage, number, kind, body):
     place = found(entries, usage, number)
     start = entries[place].start
     refuse_if(sharing(entries, start) > 1, 23, 0)
+    body = as_held(kind, body)
     k = chunk_at(chunks, start)
     old = chunks[k]
     rest = plain(chunks)
@@ -225,9 +237,9 @@ def answered(buf, L, jrn, U, profile, work):
 
 
 def edit(buf, L, jrn, U, profile, change):
-    """The order: 52, 20, the reader's number for the present file, 22, 23, 100 + k, 24, 25."""
+    """The order: 52, 20, the reader's number for the present file, 22, 23, 30, 100 + k, 24, 25."""
     def work(file):
-        entries, chunks, record = change(file)                  # 22, 23
+        entries, chunks, record = change(file)                  # 22, 23, 30
         try:
             new = judged(entries, chunks, profile)
         except Refusal as r:

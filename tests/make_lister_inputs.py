@@ -1,5 +1,5 @@
 #!/usr/bin/env python3
-"""Writes the lister programs' standard input and the output that paper 01 asks for: crates/lister*/stdin and stdout.
+"""Writes the lister programs' standard input and the output that 01 and 02 (P3) ask for: crates/lister*/stdin and stdout.
 
 usage: python3 tests/make_lister_inputs.py      from the repository's root
 
@@ -25,7 +25,8 @@ def blorb(entries, chunks):
     lines = ["blorb %d bytes %d resources" % (len(file), len(entries))]
     for usage, number, c in entries:
         kind, data = chunks[c]
-        lines.append("%s %d at %d %s %d" % (usage.decode(), number, starts[c], kind.decode(), len(data)))
+        given = len(data) + (8 if kind == b"FORM" else 0)    # of a 'FORM' a lookup gives its header too (02, P3)
+        lines.append("%s %d at %d %s %d" % (usage.decode(), number, starts[c], kind.decode(), given))
     return file, "".join(line + "\n" for line in lines)
 
 

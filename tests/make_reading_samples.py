@@ -7,9 +7,9 @@ usage: make_reading_samples.py            writes both files and says how many sa
 The program of that crate reads the packed samples and prints what the library answers; `rt check` holds what it prints
 to the file stdout.
 
-How the expectations are computed: by reference.py, a reader in Python written from 01 alone. The verdict of every
-sample of reading_by_hand.py is stated there by hand as well, from 01's table, and this script stops where the reference
-says another. Nothing comes from the library: neither its code nor anything it prints is read here.
+How the expectations are computed: by reference.py, a reader in Python written from the papers alone. The verdict of every
+sample of reading_by_hand.py is stated there by hand as well, from 01's table, and some lookups; this script stops where the
+reference says another. Nothing comes from the library: neither its code nor anything it prints is read here.
 
 A packed sample: five numbers of four bytes (the length of its name, the length of its file, how many entries and how
 many pairs are asked, and the profile), the name, the file, eight bytes for each entry's number, four bytes of usage and
@@ -21,7 +21,7 @@ from collections import Counter
 
 import reference
 from building import be
-from reading_by_hand import DATA, EXEC, PICT, SAMPLES, SND
+from reading_by_hand import DATA, EXEC, LOOKED, PICT, SAMPLES, SND
 from reading_generated import ADRIFT_RESOURCES, generated
 
 CRATE = pathlib.Path(__file__).resolve().parent.parent / "crates" / "reading_samples"
@@ -93,6 +93,10 @@ def main():
         stated = ("refused", *verdict) if isinstance(verdict, tuple) else ("accepted", len(s), verdict)
         if reference.read(s, profile) != stated:
             sys.exit(f"{name}: by hand {stated}, the reference {reference.read(s, profile)}")
+    for s, usage, number, kind, start, part in LOOKED:
+        said = reference.lookup(s, usage, number), reference.part(s, usage, number)
+        if said != (("found", kind, start, len(part)), part):
+            sys.exit(f"{usage.decode()} {number} of {s.hex()}: by hand {kind.decode()} at {start} and {part}, the reference {said}")
     samples = [asked(name, s, profile, FAR) for name, s, _, profile in SAMPLES]
     for i, s in enumerate(generated(GENERATED, SEED)):
         samples.append(asked(f"generated {i}", s, 0, FAR[i % len(FAR):][:1]))

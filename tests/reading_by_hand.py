@@ -1,6 +1,7 @@
-"""Sample files of reading, each with the verdict that 01 and 02 (P1, P5, P12) give it, stated by hand.
+"""Sample files of reading, each with the verdict that 01 and 02 (P1, P5, P12) give it, stated by hand, and some lookups.
 
 SAMPLES holds (name, file, verdict, profile): the verdict is the count of an accepted file, or (number, place) of a refusal.
+LOOKED holds (file, usage, number, kind, start, part) of lookups that find something: of type 'FORM' the whole chunk (02, P3).
 The places are those of the table in 01: the index stands at 12, its length at 16, its count at 20, entry i at 24 + 12i,
 and the chunks behind an index of n entries from 24 + 12n on.
 
@@ -8,7 +9,7 @@ Not here: refusal 1, and the acceptance of exactly 16,777,216 bytes. A program h
 8 MiB are usual, so a proved program with a file that large ends at once (it was tried). A host that lends the
 library a large buffer has to run them.
 """
-from building import be, blorb, chunk, form, grow, index, put, put32, right_length, starts
+from building import be, blorb, chunk, form, grow, index, put, put32, right_length, starts, whole_form
 
 PICT, SND, DATA, EXEC = b"Pict", b"Snd ", b"Data", b"Exec"
 KINDS = {
@@ -21,7 +22,7 @@ TEXT, ZCOD = (b"TEXT", b"eel"), (b"ZCOD", b"code")
 JPEG, RECT = (b"JPEG", b"jp"), (b"Rect", be(320) + be(0))
 RELN, ANNO = (b"RelN", b"\0\1"), (b"ANNO", b"note")
 
-SAMPLES = []
+SAMPLES, LOOKED = [], []
 
 
 def sample(name, file, verdict, profile=0):
@@ -65,6 +66,10 @@ sample("A with start 12", put32(A, 32, 12), (13, 32))
 sample("A with count 1073741825", put32(A, 20, 1073741825), (10, 16))
 sample("A plus Fspc 1", behind(A, chunk(*fspc(1))), (19, 56))
 sample("B plus Fspc 1", behind(B, chunk(*fspc(1))), (19, 84))
+
+
+LOOKED += [(A, DATA, 7, b"TEXT", 44, b"eel"), (B, DATA, 7, b"TEXT", 56, b"eel"), (B, PICT, 1, b"Rect", 68, be(320) + be(0)),
+           (B_BINA, DATA, 7, b"BINA", 56, b"")]
 
 
 def large(count):
@@ -225,6 +230,12 @@ for n in (0, 4, 7, 9, 12, 16):
     sample(f"Rect of {n}", rows([(DATA, 7, 48), (PICT, 1, 60)], TEXT, (b"Rect", bytes(n))), (14, 36))
 for body in (b"AIFF", b"AIFFx", b"AIFFCOMM"):
     sample(f"FORM of {body.hex()}", rows([(SND, 3, 36)], (b"FORM", body)), 1)
+    LOOKED.append((rows([(SND, 3, 36)], (b"FORM", body)), SND, 3, b"FORM", 36, whole_form(body)))
+SOUNDS = [(b"FORM", b"AIFFx"), (b"MOD ", b"tunes"), (b"FORM", b"AIFFform"), (b"FORM", b"no entry"), (b"OGGV", whole_form(b"AIFFx"))]
+sample("sounds, whole and not", blorb([(SND, 9, 0), (SND, 8, 0), (SND, 3, 1), (SND, 4, 2), (SND, 5, 4)], SOUNDS), 5)
+for number, kind, start, part in ((9, b"FORM", 84, b"FORM\0\0\0\5AIFFx"), (8, b"FORM", 84, b"FORM\0\0\0\5AIFFx"), (3, b"MOD ", 106, b"tunes"),
+                                  (4, b"FORM", 112, b"FORM\0\0\0\10AIFFform"), (5, b"OGGV", 152, b"FORM\0\0\0\5AIFFx")):
+    LOOKED.append((SAMPLES[-1][1], SND, number, kind, start, part))
 for body in (b"", b"A", b"AIF", b"AIFC", b"AIFf", b"aiff", b"IFRS", b"\0AIFF", b"AIFCAIFF"):
     sample(f"FORM of {body.hex() or 'nothing'}", rows([(SND, 3, 36)], (b"FORM", body)), (14, 24))
 for n in (1, 256, 2147483648, 4294967295):

@@ -1,4 +1,5 @@
-"""The reading half of 01 (description of the build and its rules), with 28 and 29 of 02 (P1) and its profiles (P12), in Python.
+"""The reading half of 01 (description of the build and its rules), with 28 and 29 of 02 (P1), its whole
+'FORM' chunks (P3) and its profiles (P12), in Python.
 
 Written from the papers alone, to be held against the proved library: it shares no code, no definition and no order of
 working with it. Where they leave a choice, the reading taken is named in a comment.
@@ -6,7 +7,7 @@ working with it. Where they leave a choice, the reading taken is named in a comm
     read(s, profile)                    ("accepted", length, count)            or ("refused", number, place)
     entry(s, i, profile)                ("given", usage, number, start)        or ("refused", number, place)
     lookup(s, usage, number, profile)   ("found", kind, start, length)         or ("refused", number, place)
-    part(s, usage, number, profile)     the data bytes; none where lookup refuses
+    part(s, usage, number, profile)     the bytes that the lookup gives; none where it refuses
 
 s is the whole file as bytes; usages and kinds (types of chunks) are four bytes; the profile is a number, plain where none is
 given. For what builds on this: parse(s, profile) gives the chunks and the entries of an accepted file and raises Refusal otherwise.
@@ -182,14 +183,17 @@ def find(s, usage, number, profile=PLAIN):
 
 
 def lookup(s, usage, number, profile=PLAIN):
-    """The chunk's type and its data's start and length: the start is that of the part, behind the header."""
+    """The chunk's type, and start and length of the part: its data, or of type 'FORM' the whole chunk, header included and
+    padding not (02, P3)."""
     def ask():
         c = find(s, usage, number, profile)
+        if c.kind == b"FORM":
+            return ("found", c.kind, c.start, 8 + len(c.body))
         return ("found", c.kind, c.start + 8, len(c.body))
     return answer(ask)
 
 
 def part(s, usage, number, profile=PLAIN):
-    """The data of the chunk, without header or padding; empty where lookup refuses."""
+    """The bytes that the lookup names; none where it refuses."""
     a = lookup(s, usage, number, profile)
     return s[a[2]:a[2] + a[3]] if a[0] == "found" else b""

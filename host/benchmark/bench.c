@@ -103,7 +103,7 @@ static void move_rows(const char *bytes, size_t size, size_t by)
 {
     static struct times bare_edit, bare_undo;
     struct sample s = make_pair(bytes, 100, size - 8), bare = make_pair(bytes, 100, 0);
-    struct edit e = {"a move", REPLACE, s.first};
+    struct edit e = {"a move", REPLACE, s.first, NULL};
 
     e.what.size += by;
     time_edit(&bare, &e, &bare_edit, &bare_undo);
@@ -164,7 +164,7 @@ static void table_by_bytes(void)
     for (unsigned i = 0; i < 3; i++) {
         double n = (double)megabytes[i];
         struct sample s = make_sample("by bytes", 16, megabytes[i] * 65536 - 64, RISING);
-        struct edit e = {"replace front, 512 more", REPLACE, s.first};
+        struct edit e = {"replace front, 512 more", REPLACE, s.first, NULL};
         e.what.size += MORE;
         time_question(&s, READ, &undo_times);
         double read = undo_times.least[0];

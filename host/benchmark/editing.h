@@ -127,10 +127,14 @@ blorb_edit_answer CALL(add)(uint8_t *file, size_t size, size_t length, uint8_t *
 {
     uint32_t u = tag(usage), t = tag(type);
     struct facts f = opened(file, size, length, journal_size, used, profile, u, number, 0);
-    size_t more = 12 + chunk_size(m);
 
     if (f.verdict.refusal != 0)
         return answer(f.verdict.refusal, f.verdict.place, length, used);
+    if (t == FORM && !is_whole(data, m))
+        return answer(BLORB_WHOLE_FORM, 0, length, used);
+    data += 8 - left_out(t);
+    m -= 8 - left_out(t);
+    size_t more = 12 + chunk_size(m);
     struct verdict v = add_fault(&f, length, profile, u, number, t, data, m);
     if (v.refusal != 0)
         return answer(v.refusal, v.place, length, used);
@@ -181,6 +185,10 @@ blorb_edit_answer CALL(replace)(uint8_t *file, size_t size, size_t length, uint8
         return answer(BLORB_NOT_THERE, 0, length, used);
     if (f.shared)
         return answer(BLORB_SHARED, 0, length, used);
+    if (t == FORM && !is_whole(data, m))
+        return answer(BLORB_WHOLE_FORM, 0, length, used);
+    data += 8 - left_out(t);
+    m -= 8 - left_out(t);
     size_t end = length - chunk_size(f.length) + chunk_size(m);
     struct verdict v = replace_fault(&f, end, profile, u, number, t, data, m);
     if (v.refusal != 0)

@@ -360,7 +360,8 @@ blorb_lookup_answer fast_lookup(const uint8_t *file, size_t size, uint32_t profi
         return (blorb_lookup_answer){f.verdict.refusal, f.verdict.place, 0, 0, 0};
     if (!f.found)
         return (blorb_lookup_answer){BLORB_NOT_THERE, 0, 0, 0, 0};
-    return (blorb_lookup_answer){0, 0, f.type, f.start + (uint64_t)8, f.length};
+    size_t skipped = left_out(f.type);
+    return (blorb_lookup_answer){0, 0, f.type, f.start + skipped, 8 + (uint64_t)f.length - skipped};
 }
 
 static void move_starts(uint8_t *file, size_t count, uint32_t limit, uint32_t behind, uint32_t other)

@@ -139,23 +139,23 @@ void free_sample(struct sample *s)
 static struct edit replacing(const char *name, struct resource r, size_t size)
 {
     r.size = size;
-    return (struct edit){name, REPLACE, r};
+    return (struct edit){name, REPLACE, r, NULL};
 }
 
 void edits_of(const struct sample *s, struct edit edits[EDITS])
 {
     struct resource a = s->first, z = s->last;
 
-    edits[0] = (struct edit){"add 100 bytes", ADD, {"Data", "TEXT", 1000000, 100}};
-    edits[1] = (struct edit){"add 10 KB", ADD, {"Data", "TEXT", 1000000, 10240}};
+    edits[0] = (struct edit){"add 100 bytes", ADD, {"Data", "TEXT", 1000000, 100}, NULL};
+    edits[1] = (struct edit){"add 10 KB", ADD, {"Data", "TEXT", 1000000, 10240}, NULL};
     edits[2] = replacing("replace front, same size", a, a.size);
     edits[3] = replacing("replace front, 512 more", a, a.size + MORE);
     edits[4] = replacing("replace front, 512 less", a, a.size - MORE);
     edits[5] = replacing("replace back, same size", z, z.size);
     edits[6] = replacing("replace back, 512 more", z, z.size + MORE);
     edits[7] = replacing("replace back, 512 less", z, z.size - MORE);
-    edits[8] = (struct edit){"remove front", REMOVE, a};
-    edits[9] = (struct edit){"remove back", REMOVE, z};
+    edits[8] = (struct edit){"remove front", REMOVE, a, NULL};
+    edits[9] = (struct edit){"remove back", REMOVE, z, NULL};
 }
 
 blorb_edit_answer carry_out(const struct library *l, uint8_t *file, size_t room, size_t length, uint8_t *journal,
@@ -166,5 +166,6 @@ blorb_edit_answer carry_out(const struct library *l, uint8_t *file, size_t room,
     if (e->kind == REMOVE)
         return l->remove(file, room, length, journal, journal_room, used, profile, r->usage, r->number);
     adding *call = e->kind == ADD ? l->add : l->replace;
-    return call(file, room, length, journal, journal_room, used, profile, r->usage, r->number, r->type, payload() + 1, r->size);
+    const uint8_t *data = e->data != NULL ? e->data : payload() + 1;
+    return call(file, room, length, journal, journal_room, used, profile, r->usage, r->number, r->type, data, r->size);
 }

@@ -31,6 +31,7 @@ struct edit {
     const char *name;
     enum kind kind;
     struct resource what; /* of an add or a replacement: what is put in */
+    const uint8_t *data;  /* its data; null for some of the payload */
 };
 
 enum { EDITS = 10, MORE = 512, JOURNAL_ROOM = BLORB_MAX_SIZE };

@@ -61,6 +61,18 @@ static inline size_t entry_at(size_t i)
     return 24 + 12 * i;
 }
 
+/* How many bytes of a chunk's front a lookup leaves out: its header, but nothing of a 'FORM'. */
+static inline size_t left_out(uint32_t type)
+{
+    return type == FORM ? 0 : 8;
+}
+
+/* Whether data of type 'FORM' is a whole file: 'FORM', its size less 8, and what the chunk holds. */
+static inline bool is_whole(const uint8_t *data, size_t n)
+{
+    return n >= 8 && get32(data) == FORM && get32(data + 4) == n - 8;
+}
+
 static inline bool known_usage(uint32_t usage)
 {
     return usage == BLORB_PICT || usage == BLORB_SND || usage == BLORB_DATA || usage == BLORB_EXEC;

@@ -217,8 +217,8 @@ blorb_lookup_answer plain_lookup(const uint8_t *file, size_t size, uint32_t prof
     size_t i = find(file, r.count, tag(usage), number);
     if (i == r.count)
         return (blorb_lookup_answer){BLORB_NOT_THERE, 0, 0, 0, 0};
-    size_t at = get32(file + entry_at(i) + 8);
-    return (blorb_lookup_answer){0, 0, get32(file + at), at + 8, get32(file + at + 4)};
+    size_t at = get32(file + entry_at(i) + 8), skipped = left_out(get32(file + at));
+    return (blorb_lookup_answer){0, 0, get32(file + at), at + skipped, 8 + (uint64_t)get32(file + at + 4) - skipped};
 }
 
 static bool start_again(const uint8_t *file, size_t count, size_t i, uint32_t start)

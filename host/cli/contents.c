@@ -38,6 +38,13 @@ bytes data_at(const uint8_t *file, uint32_t start)
     return (bytes){file + start + BLORB_HEADER_SIZE, number_in(file + start + 4)};
 }
 
+bytes found_at(const uint8_t *file, uint32_t start)
+{
+    bytes held = data_at(file, start);
+    size_t head = memcmp(type_at(file, start), "FORM", 4) == 0 ? BLORB_HEADER_SIZE : 0;
+    return (bytes){held.at - head, held.length + head};
+}
+
 /* A refusal of an entry names it, and its chunk's type where that is the reason. */
 enum { ABOUT_SIZE = 120 };
 static void tell_entry(const contents *c, char about[ABOUT_SIZE])
@@ -109,29 +116,52 @@ void free_contents(contents *c)
     free(c->file);
 }
 
+/* Whether just this many bytes are left to be read. Gives -1 and errno where that cannot be told. */
+static int has_left(int fd, uint64_t count)
+{
+    uint8_t room[16384];
+    size_t length = 1;
+    while (length > 0) {
+        if (read_all(fd, room, sizeof room, &length) != 0)
+            return -1;
+        if (length > count)
+            return 0;
+        count -= length;
+    }
+    return count == 0;
+}
+
+/* Longer data makes the file too long, and so does its beginning of this length. */
+enum { ENOUGH = BLORB_MAX_SIZE + BLORB_HEADER_SIZE + 1 };
+
+/*
+ * The length in the head of a FORM speaks of all the data, of which only the beginning was read. Where it is right, the beginning is given
+ * a length that is right for it: so it is refused as too long, like all of it. Gives 0, or -1 and errno.
+ */
+static int mend_head(int fd, uint8_t *room)
+{
+    uint64_t stated = (uint64_t)number_in(room + 4) + BLORB_HEADER_SIZE;
+    uint32_t length = ENOUGH - BLORB_HEADER_SIZE;
+    int right = memcmp(room, "FORM", 4) == 0 && stated >= ENOUGH ? has_left(fd, stated - ENOUGH) : 0;
+    for (int i = 0; right > 0 && i < 4; i++)
+        room[4 + i] = (uint8_t)(length >> (24 - 8 * i));
+    return right < 0 ? -1 : 0;
+}
+
 int load_data(data *d, const char *path)
 {
-    /* Longer data makes the file too long, and so does its beginning of this length. */
-    size_t limit = BLORB_MAX_SIZE + BLORB_HEADER_SIZE + 1;
     int input = strcmp(path, "-") == 0;
     int fd = input ? STDIN_FILENO : open(path, O_RDONLY | O_CLOEXEC);
     *d = (data){0};
     if (fd < 0)
         return say_failed(path, "the data cannot be opened");
-    d->whole.at = d->room = malloc(limit);
-    int done = d->room == NULL ? -1 : read_all(fd, d->room, limit, &d->whole.length);
+    d->held.at = d->room = malloc(ENOUGH);
+    int done = d->room == NULL ? -1 : read_all(fd, d->room, ENOUGH, &d->held.length);
+    d->is_cut = d->held.length == ENOUGH;
+    if (done == 0 && d->is_cut)
+        done = mend_head(fd, d->room);
     int status = done == 0 ? CARRIED_OUT : say_failed(input ? "standard input" : path, "the data cannot be read");
     if (!input)
         close(fd);
-    d->held = d->whole;
     return status;
-}
-
-void hold_as(data *d, const char type[4])
-{
-    bytes all = d->whole;
-    int is_aiff = all.length >= 12 && memcmp(all.at, "FORM", 4) == 0 && memcmp(all.at + 8, "AIFF", 4) == 0;
-    d->held = all;
-    if (memcmp(type, "FORM", 4) == 0 && is_aiff && number_in(all.at + 4) == all.length - BLORB_HEADER_SIZE)
-        d->held = (bytes){all.at + BLORB_HEADER_SIZE, all.length - BLORB_HEADER_SIZE};
 }

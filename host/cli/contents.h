@@ -44,19 +44,16 @@ uint32_t number_in(const uint8_t *at);
 const char *type_at(const uint8_t *file, uint32_t start);
 bytes data_at(const uint8_t *file, uint32_t start);
 
+/* What a lookup gives of that chunk: its data, or the whole chunk but its padding where it is a FORM. */
+bytes found_at(const uint8_t *file, uint32_t start);
+
 typedef struct data {
     uint8_t *room; /* to be freed */
-    bytes whole;   /* as it was read */
-    bytes held;    /* as the chunk holds it */
+    bytes held;
+    int is_cut;    /* there is too much for any file, and this is only the beginning */
 } data;
 
 /* Reads the data of a resource; "-" is standard input. Gives the exit status. */
 int load_data(data *d, const char *path);
-
-/*
- * Sets what a chunk of this type holds of the data. The file of an AIFF sound is a FORM chunk itself, so its eight bytes of header
- * become the chunk's own.
- */
-void hold_as(data *d, const char type[4]);
 
 #endif

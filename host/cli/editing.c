@@ -45,8 +45,8 @@ static int refused_edit(const request *r, const blorb_edit_answer *a, const data
     show_pair(r->usage, r->number, pair);
     show_tag(r->type, type);
     snprintf(about, sizeof about, d != NULL ? "%s %s" : "%s", pair, type);
-    int sound = d != NULL && a->refusal == BLORB_RESULT_TYPE && memcmp(r->usage, "Snd ", 4) == 0
-        && memcmp(r->type, "FORM", 4) == 0 && aiff_advice(d->whole, advice);
+    int head = a->refusal == BLORB_WHOLE_FORM || (a->refusal == BLORB_RESULT_TYPE && memcmp(r->type, "FORM", 4) == 0);
+    int sound = d != NULL && head && !d->is_cut && memcmp(r->usage, "Snd ", 4) == 0 && aiff_advice(d->held, advice);
     int house = d != NULL && a->refusal == BLORB_RESULT_TYPE && r->profile == BLORB_PLAIN && only_adrift(r->usage, r->type);
     return say_refused(r->file, a->refusal, a->place, about, sound ? advice : house ? USE_ADRIFT : NULL);
 }
@@ -174,15 +174,15 @@ static int settle_type(request *r, const data *d)
     char why[WHY_SIZE];
     if (r->type[0] != '\0')
         return CARRIED_OUT;
-    const char *told = type_told(r->profile, r->usage, d->whole);
-    const kind *k = kind_of(d->whole);
+    const char *told = type_told(r->profile, r->usage, d->held);
+    const kind *k = kind_of(d->held);
     if (told != NULL) {
         memcpy(r->type, told, sizeof r->type);
         return CARRIED_OUT;
     }
     snprintf(why, sizeof why, "TYPE is left out, and the data does not tell it%s%s", k != NULL ? ": it is " : "",
              k != NULL ? k->what : "");
-    int house = r->profile == BLORB_PLAIN && type_told(BLORB_ADRIFT, r->usage, d->whole) != NULL;
+    int house = r->profile == BLORB_PLAIN && type_told(BLORB_ADRIFT, r->usage, d->held) != NULL;
     return say_cannot(strcmp(r->data, "-") == 0 ? "standard input" : r->data, why,
                       house ? USE_ADRIFT : "Give TYPE in front of DATAFILE. " TYPES);
 }
@@ -196,10 +196,8 @@ static int edit_with_data(const request *asked, call *carry_out)
     int status = load_data(&d, r.data);
     if (status == CARRIED_OUT)
         status = settle_type(&r, &d);
-    if (status == CARRIED_OUT) {
-        hold_as(&d, r.type);
+    if (status == CARRIED_OUT)
         status = edit(&r, carry_out, &d);
-    }
     free(d.room);
     return status;
 }

@@ -236,14 +236,18 @@ int size_told(const char type[4], bytes held, uint32_t *width, uint32_t *height)
 
 int aiff_advice(bytes held, char advice[ADVICE_SIZE])
 {
-    const mark other = HELD(8, "AIFC");
-    if (held.length < 12 || memcmp(held.at, "FORM", 4) != 0)
-        return 0;
-    uint64_t says = (uint64_t)number_in(held.at + 4) + BLORB_HEADER_SIZE, there = held.length;
-    int plain = is_kind(kind_of(held), "FORM");
-    if (has(held, &other))
+    const mark other = HELD(8, "AIFC"), headless = HELD(0, "AIFF");
+    int whole = held.length >= 12 && memcmp(held.at, "FORM", 4) == 0;
+    uint64_t says = whole ? (uint64_t)number_in(held.at + 4) + BLORB_HEADER_SIZE : 0, there = held.length;
+    int plain = whole && is_kind(kind_of(held), "FORM");
+    if (has(held, &headless))
+        snprintf(advice, ADVICE_SIZE, "This is an AIFF file without its first eight bytes, 'FORM' and a length: give the whole file.");
+    else if (whole && has(held, &other))
         snprintf(advice, ADVICE_SIZE, "This is AIFF-C, the kind that may be compressed; Blorb takes plain AIFF. Save the sound as\n"
                  "  AIFF, or as Ogg Vorbis with the type OGGV.");
+    else if (plain && says % 2 == 1 && says + 1 == there && held.at[says] == 0)
+        snprintf(advice, ADVICE_SIZE, "The last byte is padding behind the AIFF form, which ends after %" PRIu64 " bytes, and no part of it: take it\n"
+                 "  off (head -c %" PRIu64 ").", says, says);
     else if (plain && says < there)
         snprintf(advice, ADVICE_SIZE, "The AIFF form ends after %" PRIu64 " bytes, but the file has %" PRIu64 ": cut off what stands\n"
                  "  behind it (head -c %" PRIu64 "), or save the sound again.", says, there, says);

@@ -28,7 +28,7 @@ int contradicts(const char type[4], bytes held, char why[WHY_SIZE]);
 /* A picture's width and height by its own bytes. Gives 0 where they are not told. */
 int size_told(const char type[4], bytes held, uint32_t *width, uint32_t *height);
 
-/* What to do about an AIFF file whose FORM length is not its own, or AIFF-C, for a message; gives 0 where it is neither. */
+/* What to do about an AIFF file whose FORM length is not its own or whose head is missing, or AIFF-C, for a message; gives 0 where it is none. */
 enum { ADVICE_SIZE = 240 };
 int aiff_advice(bytes held, char advice[ADVICE_SIZE]);
 

@@ -19,7 +19,7 @@ static void list_plainly(const contents *c)
     for (size_t i = 0; i < c->read.count; i++) {
         entry e = entry_at(c->file, i);
         printf("%.4s %" PRIu32 " at %" PRIu32 " %.4s %zu\n", e.usage, e.number, e.start, type_at(c->file, e.start),
-               data_at(c->file, e.start).length);
+               found_at(c->file, e.start).length);
     }
 }
 
@@ -84,8 +84,8 @@ static int look_over(const contents *c, overview *o)
 typedef struct resource {
     entry entry;
     const char *type;
-    bytes held;
-    size_t file_length; /* of what `get` writes */
+    bytes held; /* as a lookup gives it */
+    size_t at;  /* where that begins */
     size_t sharers;
     int is_frontispiece;
     int has_size;
@@ -98,11 +98,9 @@ static resource resource_at(const contents *c, const overview *o, size_t i)
 {
     char why[WHY_SIZE];
     entry e = entry_at(c->file, i);
-    resource r = {.entry = e, .type = type_at(c->file, e.start), .held = data_at(c->file, e.start)};
-    int is_form = memcmp(r.type, "FORM", 4) == 0;
-    bytes whole = is_form ? (bytes){c->file + e.start, r.held.length + BLORB_HEADER_SIZE} : r.held;
-    const kind *k = kind_of(whole);
-    r.file_length = whole.length;
+    resource r = {.entry = e, .type = type_at(c->file, e.start), .held = found_at(c->file, e.start)};
+    const kind *k = kind_of(r.held);
+    r.at = (size_t)(r.held.at - c->file);
     r.sharers = sharers(c, o, e.start);
     r.is_frontispiece = o->frontispiece != NULL && memcmp(e.usage, "Pict", 4) == 0 && number_in(o->frontispiece) == e.number;
     r.has_size = size_told(r.type, r.held, &r.width, &r.height);
@@ -118,8 +116,7 @@ static uint32_t release_in(const overview *o)
 
 static void print_resource(const resource *r)
 {
-    printf("%.4s %" PRIu32 ": %.4s, %zu bytes from %" PRIu32, r->entry.usage, r->entry.number, r->type, r->held.length,
-           r->entry.start + BLORB_HEADER_SIZE);
+    printf("%.4s %" PRIu32 ": %.4s, %zu bytes from %zu", r->entry.usage, r->entry.number, r->type, r->held.length, r->at);
     if (r->has_size)
         printf(", %" PRIu32 " by %" PRIu32, r->width, r->height);
     if (r->told != NULL)
@@ -177,8 +174,9 @@ static void print_json_resource(const resource *r)
     print_tag("usage", r->entry.usage);
     printf(", \"number\": %" PRIu32 ", ", r->entry.number);
     print_tag("type", r->type);
-    printf(", \"start\": %" PRIu32 ", \"data_start\": %" PRIu32 ", \"length\": %zu, \"file_length\": %zu", r->entry.start,
-           r->entry.start + BLORB_HEADER_SIZE, r->held.length, r->file_length);
+    /* `file_length` is from when a FORM's `length` did not count its head. */
+    printf(", \"start\": %" PRIu32 ", \"data_start\": %zu, \"length\": %zu, \"file_length\": %zu", r->entry.start, r->at, r->held.length,
+           r->held.length);
     printf(", \"sharers\": %zu, \"frontispiece\": %s, ", r->sharers, r->is_frontispiece ? "true" : "false");
     print_number("width", r->has_size, r->width);
     fputs(", ", stdout);

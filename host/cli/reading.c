@@ -95,13 +95,6 @@ static int put(const request *r, const char *out, const contents *c, bytes held)
     return put_in_file(r, out, &old, held);
 }
 
-/* An AIFF sound is a FORM chunk with its header: that is what makes it a file again. */
-static bytes file_of(const char type[4], bytes held)
-{
-    size_t head = memcmp(type, "FORM", 4) == 0 ? BLORB_HEADER_SIZE : 0;
-    return (bytes){held.at - head, held.length + head};
-}
-
 static int get_one(const request *r, const contents *c)
 {
     char pair[PAIR_SIZE];
@@ -109,8 +102,7 @@ static int get_one(const request *r, const contents *c)
     show_pair(r->usage, r->number, pair);
     if (found.refusal != BLORB_DONE)
         return say_refused(r->file, found.refusal, found.place, pair, NULL);
-    uint32_t start = (uint32_t)found.start - BLORB_HEADER_SIZE;
-    bytes held = file_of(type_at(c->file, start), data_at(c->file, start));
+    bytes held = {c->file + found.start, (size_t)found.length};
     if (r->out == NULL || strcmp(r->out, "-") == 0)
         return put_on_output(held);
     return put(r, r->out, c, held);
@@ -137,7 +129,7 @@ static int get_entry(const request *r, const contents *c, size_t i)
     errno = ENAMETOOLONG;
     if (length < 0 || (size_t)length >= sizeof path)
         return say_failed(r->folder, "the folder's name leaves no room for those of the files");
-    return put(r, path, c, file_of(type_at(c->file, e.start), data_at(c->file, e.start)));
+    return put(r, path, c, found_at(c->file, e.start));
 }
 
 static int get_all(const request *r, const contents *c)

@@ -46,6 +46,7 @@ static const remedy remedies[] = {
     {BLORB_SHARED, "Remove this resource and add it again: the other one keeps the old data."},
     {BLORB_NOTHING_TO_UNDO,
      "Past edits are kept in FILE.undo. If FILE was moved or renamed, move that along under the same new name."},
+    {BLORB_WHOLE_FORM, "Give the whole AIFF file as it was saved, its first eight bytes included and nothing behind its end, or another type.\n  " TYPES},
     {BLORB_TABLE_STALE, "`blorb table FILE` writes it anew."},
     {BLORB_RESULT_TOO_LONG, "Use smaller data, or remove another resource first."},
     {BLORB_RESULT_SECOND_INDEX, TYPES},

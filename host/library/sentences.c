@@ -69,6 +69,8 @@ const char *blorb_sentence(uint64_t refusal)
         return "there is no room in the journal";
     case BLORB_NOTHING_TO_UNDO:
         return "there is nothing to undo";
+    case BLORB_WHOLE_FORM:
+        return "data of type 'FORM' must be a whole file that begins with 'FORM' and its own length less 8";
     case BLORB_TABLE_ROOM:
         return "there is no room for the finding table";
     case BLORB_TABLE_STALE:

@@ -351,6 +351,11 @@ pub fn on_huge_arrays(zeros: &mut [u8]) -> Vec<(&'static str, String, String)> {
         raw::blorb_blank(f, 100);
         let add = raw::blorb_add(f, 100, 24, j, 100, 0, p, usage, 7, tag, z, huge);
         check("add of huge data", numbers(add), [101, 0, 24, 0]);
+        // A length of 16 agrees with the size less 8 only where 32 bits are looked at.
+        zeros[..8].copy_from_slice(b"FORM\0\0\0\x10");
+        let add = raw::blorb_add(f, 100, 24, j, 100, 0, p, b"Snd ".as_ptr(), 7, b"FORM".as_ptr(), z, huge);
+        check("add of a huge FORM", numbers(add), [30, 0, 24, 0]);
+        zeros[..8].fill(0);
         let add = raw::blorb_add(f, 100, 24, j, 100, 0, p, usage, 7, tag, eel, 3);
         check("add of small data", numbers(add), [0, 0, 48, 29]);
         let replace = raw::blorb_replace(f, 100, 48, j, 100, 29, p, usage, 7, tag, z, huge);

@@ -80,7 +80,7 @@ SAID = {
     27: ("not in the order of the chunks", "by their starts"), 17: ("second 'RelN' or 'Fspc'", "Pack"),
     18: ("not 2 bytes long", "Pack"), 19: ("not in the index or is a Rect", "Pack"), 21: ("cannot be undone", "journal"),
     22: ("no such resource", "blorb list"), 23: ("shares the chunk", "add it again"), 26: ("nothing to undo", "FILE.undo"),
-    35: ("finding table is not this file's", "blorb table FILE"),
+    30: ("must be a whole file", "whole AIFF file"), 35: ("finding table is not this file's", "blorb table FILE"),
     101: ("would be longer", "smaller data"), 109: ("index's type 'RIdx'", "Pict takes"), 111: ("would have more", "Remove"),
     112: ("no such usage", "Pict, Snd, Data or Exec"), 114: ("does not suit the usage", "Pict takes"),
     115: ("number 0 and no other", "number 0"), 116: ("has a resource with this", "blorb replace"),
@@ -148,7 +148,8 @@ def listing(file, profile=reference.PLAIN):
     lines = [b"blorb %d bytes %d resources\n" % (len(file), len(entries))]
     for e in entries:
         c = by_start[e.start]
-        lines.append(b"%s %d at %d %s %d\n" % (e.usage, e.number, e.start, c.kind, len(c.body)))
+        length = len(c.body) + (8 if c.kind == b"FORM" else 0)      # of what a lookup gives (02, P3)
+        lines.append(b"%s %d at %d %s %d\n" % (e.usage, e.number, e.start, c.kind, length))
     return b"".join(lines)
 
 

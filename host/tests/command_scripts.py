@@ -27,11 +27,12 @@ def json_listing(work):
         start = got["start"]
         same(held[start:start + 8], kind + be(len(body)), f"a chunk begins at the start of {usage} {number}")
         width, height = sizes.get(kind, (None, None))
-        same(got, {"usage": usage.decode(), "number": number, "type": kind.decode(), "start": start, "data_start": start + 8,
-                   "length": len(body), "file_length": len(body) + (8 if kind == b"FORM" else 0), "sharers": 2 if k == 0 else 1,
+        head = 8 if kind == b"FORM" else 0      # of a FORM the whole chunk is the data
+        same(got, {"usage": usage.decode(), "number": number, "type": kind.decode(), "start": start, "data_start": start + 8 - head,
+                   "length": len(body) + head, "file_length": len(body) + head, "sharers": 2 if k == 0 else 1,
                    "frontispiece": (usage, number) == (b"Pict", 2), "width": width, "height": height, "data": what.get(kind),
                    "suits": True}, f"{usage} {number}")
-        same(len(done("get", file, usage, str(number))), got["file_length"], f"what get writes of {usage} {number}")
+        same(done("get", file, usage, str(number)), held[got["data_start"]:got["data_start"] + got["length"]], f"what get writes of {usage} {number}")
     others = [(c["type"].encode("latin-1"), c["length"]) for c in told["other_chunks"]]
     same(others, [(kind, len(body)) for kind, body in CHUNKS[9:]], "chunks without an entry")
     expect(all(held[c["start"]:c["start"] + 4] == c["type"].encode("latin-1") for c in told["other_chunks"]), "and where they begin")

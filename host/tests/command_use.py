@@ -8,7 +8,7 @@ import subprocess
 import time
 
 from building import Dice, blorb, chunk, form, grow, index, put, put32, right_length
-from command_kit import (PROGRAM, aiff, be, contents, done, edited, editing_reference, expect, failed, jpeg, listing, mod, ogg,
+from command_kit import (PROGRAM, ROOT, aiff, be, contents, done, edited, editing_reference, expect, failed, jpeg, listing, mod, ogg,
                          png, reference, refused, refused_list, run, same, tried)
 
 BLANK = bytes.fromhex("464f524d000000104946525352496478 0000000400000000")
@@ -16,6 +16,7 @@ SAMPLE_A = bytes.fromhex("464f524d00000028 49465253 5249647800000010 00000001 44
 LIMIT = 16_777_216
 NAMES = ("list", "check", "get", "new", "add", "replace", "remove", "undo", "history", "forget")
 NOBODY = 65534
+SOUNDS = ROOT / "host/tests/data"
 
 
 def help_and_misuse(work):
@@ -112,8 +113,7 @@ def media(work):
     for usage, number, kind, data in parts:
         (work / "data").write_bytes(data)
         done("add", file, usage, number, kind, work / "data")
-        held = data[8:] if kind == "FORM" else data
-        wanted = edited(editing_reference.added, wanted, usage.ljust(4).encode(), int(number), kind.ljust(4).encode(), held)
+        wanted = edited(editing_reference.added, wanted, usage.ljust(4).encode(), int(number), kind.ljust(4).encode(), data)
         same(file.read_bytes(), wanted, f"the file with {usage} {number}")
     same(done("list", file), listing(wanted), "list of the whole game")
     for usage, number, _, data in parts:
@@ -122,17 +122,56 @@ def media(work):
         same(out.read_bytes(), data, f"get {usage} {number} -o")
     done("get", "-o", out, file, "Pict", "1")
     same(out.read_bytes(), png(), "-o in front")
-    # An AIFF sound stands in the file as its own file does, and its data alone is taken too.
+    # An AIFF sound stands in the file as its own file does. Only the whole file is taken.
     expect(aiff() in wanted and aiff(b"odd") in wanted, "a whole AIFF file stands in the Blorb file")
-    done("replace", file, "Snd", "4", "FORM", "-", stdin=aiff()[8:])
-    same(file.read_bytes(), wanted, "an AIFF file's data without its header")
     for wrong, advice in ((aiff()[:-1], "has 58 bytes, but there are only 57"), (aiff() + b"\0", "ends after 58 bytes, but the file has 59"),
-                          (b"FORM" + be(4) + b"AIFC", "AIFF-C"), (b"FORM", None), (b"", None)):
+                          (aiff()[8:], "without its first eight bytes"), (b"FORM" + be(5) + b"AIFC", "AIFF-C"), (b"FORM", None), (b"", None),
+                          (b"form" + aiff()[4:], None)):
+        refused(30, 0, "replace", file, "Snd", "4", "FORM", "-", stdin=wrong, advice=advice)
+        refused(30, 0, "add", file, "Snd", "9", "FORM", "-", stdin=wrong, advice=advice)
+    for wrong, advice in ((b"FORM" + be(4) + b"AIFC", "AIFF-C"), (b"FORM" + be(0), None), (b"FORM" + be(4) + b"IFRS", None)):
         refused(114, 24 + 12 * 3, "replace", file, "Snd", "4", "FORM", "-", stdin=wrong, advice=advice)
-    same(file.read_bytes(), wanted, "a refused replacement changes nothing")
-    # The header is only taken off where the type is FORM.
+    # By the type alone; a resource that is not there comes first.
+    refused(30, 0, "add", file, "Pict", "9", "FORM", "-", stdin=aiff() + b"\0")
+    refused(114, 24 + 12 * 9, "add", file, "Pict", "9", "FORM", "-", stdin=aiff())
+    refused(22, 0, "replace", file, "Snd", "9", "FORM", "-", stdin=aiff() + b"\0")
+    same(file.read_bytes(), wanted, "a refused edit changes nothing")
+    # Eight bytes belong to the chunk's header only where the type is FORM.
     done("add", file, "Data", "9", "BINA", "-", stdin=aiff())
     same(done("get", file, "Data", "9"), aiff(), "an AIFF file as plain data")
+
+
+def samples_in(sound):
+    """What SoX hears in an AIFF file: nothing of this project is used."""
+    return subprocess.run(["sox", "-t", "aiff", "-", "-t", "raw", "-"], input=sound, capture_output=True, check=True).stdout
+
+
+def played_back(work):
+    """AIFF files that SoX made (sox -D -r 8000 -n -b 8 -c 1 --comment "" odd.aiff synth 101s sine 440; even.aiff has -b 16 and 100s): what get
+    writes are the same bytes, and SoX plays them."""
+    file, even, odd = work / "game.blb", SOUNDS / "even.aiff", SOUNDS / "odd.aiff"
+    whole = odd.read_bytes()[:-1]
+    done("new", file)
+    done("add", file, "Snd", "1", "FORM", even)
+    # Behind a FORM of odd length SoX writes the padding of that chunk, which its length does not count.
+    refused(30, 0, "add", file, "Snd", "2", "FORM", odd, advice="padding behind the AIFF form, which ends after 155 bytes")
+    (work / "odd.aiff").write_bytes(whole)
+    done("add", file, "Snd", "2", work / "odd.aiff")
+    sounds = {"1": even.read_bytes(), "2": whole}
+    same(done("list", file), b"blorb 458 bytes 2 resources\nSnd  1 at 48 FORM 254\nSnd  2 at 302 FORM 155\n", "the lengths of the whole files")
+    for number, sound in sounds.items():
+        same(done("get", file, "Snd", number), sound, f"the AIFF file {number} comes out as it went in")
+    done("replace", file, "Snd", "1", "FORM", work / "odd.aiff")
+    same((done("get", file, "Snd", "1"), done("get", file, "Snd", "2")), (whole, whole), "the other sound in its place")
+    done("undo", file)
+    done("get", file, "--all", work / "all")
+    same(contents(work / "all"), {f"Snd-{number}.FORM": sound for number, sound in sounds.items()}, "get --all")
+    if shutil.which("sox") is None:
+        print("  played_back: there is no sox here, so nothing was played back")
+        return
+    for number, (sound, length) in {"1": (even, 200), "2": (odd, 101)}.items():
+        heard = samples_in(done("get", file, "Snd", number))
+        same((heard, len(heard)), (samples_in(sound.read_bytes()), length), f"what SoX hears in {number}")
 
 
 def wrong_files():
@@ -336,6 +375,22 @@ def at_the_limit(work):
     refused(101, 0, "add", file, "Data", "8", "BINA", data)
     refused(22, 0, "replace", file, "Data", "8", "BINA", data)
     refused(101, 0, "replace", file, "Data", "7", "BINA", data)
+    # Of a FORM only the beginning is read, too: its head decides whether it is too long or no whole file.
+    for length, number in ((LIMIT + 7, 101), (LIMIT + 8, 101), (LIMIT + 9, 101), (LIMIT + 40000, 101), (LIMIT + 40001, 30), (1 << 31, 30)):
+        sound = b"FORM" + be(min(length, LIMIT + 40000) - 8) + b"AIFF"
+        with open(data, "wb") as f:
+            f.write(sound)
+            f.truncate(length)
+        for words in (("add", file, "Snd", "8", "FORM"), ("add", file, "Snd", "8")):
+            refused(number, 0, *words, data)
+    with open(data, "wb") as f:
+        f.write(b"FORM" + be(LIMIT - 44) + b"AIFF")
+        f.truncate(LIMIT - 36)
+    file.write_bytes(BLANK)
+    done("add", file, "Snd", "8", data)
+    same((len(file.read_bytes()), done("get", file, "Snd", "8")), (LIMIT, data.read_bytes()), "an AIFF file up to exactly the limit")
+    done("undo", file)
+    file.write_bytes(SAMPLE_A)
     same(file.read_bytes(), SAMPLE_A, "data over the limit")
 
 
@@ -591,6 +646,6 @@ def two_at_once(work):
     expect("waiting for another blorb" in said and said.count("\n") == 1, f"after a second it says so, once: {said!r}")
 
 
-PARTS = (help_and_misuse, names_with_dashes, samples_of_01, media, refused_files, broken_off, out_of_order, refused_edits, cut_and_damaged,
+PARTS = (help_and_misuse, names_with_dashes, samples_of_01, media, played_back, refused_files, broken_off, out_of_order, refused_edits, cut_and_damaged,
          chains, at_the_limit, new_and_names, no_journal_covered, links_and_permissions, outputs, size_limit, full_disk, permissions,
          other_groups, two_at_once)

@@ -25,6 +25,8 @@ const DEFAULT_SEED: u64 = 20_040_204;
 const DEFAULT_COUNT: u64 = 400_000;
 /// So many inputs are asked to show all that can occur.
 const ENOUGH: u64 = DEFAULT_COUNT / 4;
+/// The type 'FORM' as a lookup gives it.
+const BLORB_FORM: u64 = u32::from_be_bytes(*b"FORM") as u64;
 /// So many of 100 files and single calls are tried under another profile too.
 const AGAIN: usize = 20;
 
@@ -169,6 +171,9 @@ pub fn check_file_under(tally: &mut Tally, rng: &mut Rng, file: &[u8], profile: 
         let found = archive::lookup(&mut lent, profile, &usage, number);
         let arguments = format!("usage=\"{}\" number={number}", usage.escape_ascii());
         let expected = [&read.view, &read.known].map(|view| reference::lookup_answer(file, view, &usage, number));
+        if let Ok([BLORB_FORM, _, length]) = expected[0] {
+            tally.count("lookup FORM", length % 2);
+        }
         check_reading(tally, ["lookup", "lookup 52"], &arguments, &read, expected, found);
     }
     tables::check(tally, rng, &mut lent, &read);
@@ -215,7 +220,28 @@ fn check_call_on(tally: &mut Tally, buffers: &mut Buffers, call: &Call, state: &
         tally.count("undone", state.journal[after.used] as u64);
     }
     count_large(tally, call, expected.refusal, state, &after);
+    check_whole(tally, call, expected.refusal, state, &after);
     (expected, after)
+}
+
+/// An add or replacement of type 'FORM': what a call with a wrong head was answered (but for reasons of the file), and that what was put in
+/// reads back.
+fn check_whole(tally: &mut Tally, call: &Call, refusal: u64, state: &State, after: &State) {
+    let Call::Edit(Edit::Add { usage, number, tag, data } | Edit::Replace { usage, number, tag, data }) = call else { return };
+    if tag != b"FORM" {
+        return;
+    }
+    let row = if call.name() == "add" { "add wrong head" } else { "replace wrong head" };
+    if reference::held(tag, data).is_err() && refusal >= 20 && !(27..=29).contains(&refusal) {
+        tally.count(row, refusal);
+    }
+    if refusal == 0 {
+        let file = &after.file[..after.length];
+        let found = reference::lookup_answer(file, &reference::read(file, state.profile), usage, *number);
+        if !matches!(found, Ok([_, start, length]) if &file[start as usize..][..length as usize] == &data[..]) {
+            tally.fail(&describe(call, state), &format!("what was put in does not read back: {found:?}"));
+        }
+    }
 }
 
 fn data_size(call: &Call) -> usize {
@@ -263,10 +289,16 @@ fn chunks(profile: u32, file: &[u8]) -> Vec<(usize, &[u8])> {
     view.spans.iter().map(|span| (span.start, &file[span.start..span.start + size(span)])).collect()
 }
 
-/// One editing call on fresh buffers. Now and then the same call is made on others under another profile too.
+/// One editing call on fresh buffers. One that 30 refuses is made with the right head too: that tells what 30 came before. Now and then
+/// the same call is made on others under another profile too.
 pub fn check_call(tally: &mut Tally, rng: &mut Rng, call: &Call, state: &State) -> (Answer, State) {
     let mut buffers = Buffers::new(state, rng.below(16));
     let (answer, after) = check_call_on(tally, &mut buffers, call, state);
+    if answer.refusal == 30 {
+        let mut buffers = Buffers::new(state, rng.below(16));
+        let (behind, _) = check_call_on(tally, &mut buffers, &generate::mended(call), state);
+        tally.count(if call.name() == "add" { "add 30" } else { "replace 30" }, behind.refusal);
+    }
     if rng.chance(AGAIN) {
         let other = rng.other_profile(state.profile);
         check_again(tally, rng, call, state, other, answer);
@@ -596,7 +628,7 @@ fn against_ledger(ledger: &mut Ledger, call: &Call, answer: Answer, after: &Stat
 fn rows() -> Vec<(&'static str, Vec<u64>)> {
     let file: Vec<u64> = (0..=19).chain(27..=29).collect();
     let with = |more: &[u64]| [&file, more].concat();
-    let in_runs = vec![0, 22, 23, 24, 25, 26, 101, 109, 111, 112, 114, 115, 116, 119];
+    let in_runs = vec![0, 22, 23, 24, 25, 26, 30, 101, 109, 111, 112, 114, 115, 116, 119];
     // A call that takes a profile: its numbers, 52 among them, and behind 52 all the others.
     let taking = |rows: [&'static str; 2], more: &[u64]| [(rows[0], with(&[more, &[52]].concat())), (rows[1], with(more))];
     let calls = [
@@ -606,8 +638,8 @@ fn rows() -> Vec<(&'static str, Vec<u64>)> {
         taking(["table_build", "table_build 52"], &[34]),
         taking(["table_check", "table_check 52"], &[35]),
         taking(["columns_check", "columns_check 52"], &[35]),
-        taking(["add", "add 52"], &[20, 24, 25, 101, 109, 111, 112, 114, 115, 116]),
-        taking(["replace", "replace 52"], &[20, 22, 23, 24, 25, 101, 109, 114, 119]),
+        taking(["add", "add 52"], &[20, 24, 25, 30, 101, 109, 111, 112, 114, 115, 116]),
+        taking(["replace", "replace 52"], &[20, 22, 23, 24, 25, 30, 101, 109, 114, 119]),
         taking(["remove", "remove 52"], &[20, 22, 25, 119]),
         taking(["undo", "undo 52"], &[20, 21, 24, 26]),
     ];
@@ -617,6 +649,12 @@ fn rows() -> Vec<(&'static str, Vec<u64>)> {
         ("table_to_rows", vec![0, 34]),
         ("columns_search", vec![0, 22]),
         ("blank", vec![0, 24]),
+        // Both parities of what a lookup of a 'FORM' gives; then 30 with its neighbours, those before it and those behind it.
+        ("lookup FORM", vec![0, 1]),
+        ("add wrong head", vec![20, 30, 52]),
+        ("replace wrong head", vec![20, 22, 23, 30, 52]),
+        ("add 30", vec![0, 24, 25, 101, 111, 112, 114, 116]),
+        ("replace 30", vec![0, 24, 25, 101, 114]),
         ("ADRIFT as plain", vec![0, 14]),
         ("add as plain", vec![0, 14, 114]),
         ("replace as plain", vec![0, 14, 114]),
@@ -654,7 +692,8 @@ fn print_large(tally: &Tally, count: u64) -> bool {
 /// Prints the table. False where a number was seen that cannot be, or (if asked) one that must be was not.
 fn print_table(tally: &Tally, complete: bool) -> bool {
     println!("how often each number was seen (built: refusals by construction, pairs: k with the next in order in one file,");
-    println!("ledger: answers in runs, undone: kinds of records; 52: what 52 came before; as plain: of what was good under ADRIFT):");
+    println!("ledger: answers in runs, undone: kinds of records; 52 and 30: what 52 and 30 came before; as plain: of what was good under");
+    println!("ADRIFT; lookup FORM: whole chunks of even and odd length; wrong head: answers to data of type 'FORM' with a wrong head):");
     let mut good = true;
     for (row, numbers) in rows() {
         let seen: BTreeMap<u64, u64> =

@@ -102,6 +102,7 @@ static void run(uint32_t profile)
     reads(&e, "Pict", 1);
     reads(&e, "Data", 8);
     replace(&e, "Data", 7, "BINA", "conger eel", BLORB_DONE);
+    replace(&e, "Data", 7, "FORM", "AIFF without its head", BLORB_WHOLE_FORM);
     removal(&e, "Data", 8, BLORB_NOT_THERE);
     removal(&e, "Data", 7, BLORB_DONE);
     reads(&e, "Data", 7);

@@ -3,7 +3,7 @@
 mod faults;
 mod journals;
 
-use crate::reference::{self, Call, Edit, State, Tag, ADRIFT, PLAIN, USAGES};
+use crate::reference::{self, Answer, Call, Edit, State, Tag, ADRIFT, PLAIN, USAGES};
 pub use faults::{faulty, next_in_order, ORDER};
 pub use journals::undo_state;
 
@@ -610,16 +610,65 @@ pub fn target(rng: &mut Rng, file: &[u8]) -> (Tag, u32) {
     }
 }
 
-/// Type and data for an edit: mostly right ones.
-fn edit_content(rng: &mut Rng, usage: &Tag) -> (Tag, Vec<u8>) {
+/// Type and data of a chunk: mostly right ones.
+fn chunk_content(rng: &mut Rng, usage: &Tag) -> (Tag, Vec<u8>) {
     match rng.below(100) {
-        0..=84 => suited(rng, usage),
-        85..=93 => unsuited(rng, usage),
-        94..=96 => (*b"RIdx", data(rng)),
-        97 => (*b"RelN", rng.bytes(2)),
-        98 => (*b"Fspc", rng.bytes(4)),
+        0..=83 => suited(rng, usage),
+        84..=92 => unsuited(rng, usage),
+        93..=95 => (*b"RIdx", data(rng)),
+        96 => (*b"RelN", rng.bytes(2)),
+        97 => (*b"Fspc", rng.bytes(4)),
+        98 => (*b"FORM", [&b"AIFF"[..], &data(rng)].concat()),
         _ => (rng.tag(), data(rng)),
     }
+}
+
+/// Type and data for an edit: of type 'FORM' a whole file, three times in four with the right head.
+fn edit_content(rng: &mut Rng, usage: &Tag) -> (Tag, Vec<u8>) {
+    let (tag, content) = chunk_content(rng, usage);
+    match &tag {
+        b"FORM" if rng.chance(25) => (tag, with_wrong_head(rng, content)),
+        b"FORM" => (tag, with_head(&content)),
+        _ => (tag, content),
+    }
+}
+
+/// The whole file of a 'FORM' chunk with this data.
+pub fn with_head(content: &[u8]) -> Vec<u8> {
+    [b"FORM", &(content.len() as u32).to_be_bytes(), content].concat()
+}
+
+/// The head missing, cut, or wrong in its type or length; or with the padding byte or any other byte behind the file.
+fn with_wrong_head(rng: &mut Rng, content: Vec<u8>) -> Vec<u8> {
+    let mut whole = with_head(&content);
+    let right = content.len() as u32;
+    match rng.below(8) {
+        0 => whole.truncate(rng.below(8)),
+        1 => return content,
+        2 => whole[..4].copy_from_slice(&rng.pick(&[*b"form", *b"FORN", *b"LIST", *b"RIFF", *b"AIFF", [0; 4]])),
+        3 => whole[rng.below(4)] ^= 1 << rng.below(8),
+        4 => whole.push(if rng.chance(70) { 0 } else { rng.next() as u8 }),
+        5 => {
+            let wrong = [right + 8, right.wrapping_sub(8), right + right % 2 + 1, right ^ 1 << 24, right ^ 1 << 31, u32::MAX];
+            set_number(&mut whole, 4, rng.pick(&wrong));
+        }
+        6 => set_number(&mut whole, 4, right.swap_bytes()),
+        _ => {
+            let wrong = other_value(rng, right);
+            set_number(&mut whole, 4, wrong);
+        }
+    }
+    whole
+}
+
+/// The same call with the right head, for an add or replacement that 30 refuses.
+pub fn mended(call: &Call) -> Call {
+    let mut call = call.clone();
+    if let Call::Edit(Edit::Add { data, .. } | Edit::Replace { data, .. }) = &mut call {
+        let content = data.get(8..).unwrap_or_default().to_vec();
+        *data = with_head(&content);
+    }
+    call
 }
 
 fn add_call(rng: &mut Rng, file: &[u8]) -> Edit {
@@ -677,9 +726,12 @@ pub fn room(rng: &mut Rng, usual: usize) -> usize {
     }
 }
 
-/// Buffers just large enough for the call, or up to two bytes short of it; else as they were.
+/// Buffers just large enough for the call (with the right head, if that is wrong), or up to two bytes short of it; else as they were.
 pub fn tighten(rng: &mut Rng, call: &Call, state: State) -> State {
-    let (answer, after) = reference::call(call, &state);
+    let (answer, after) = match reference::call(call, &state) {
+        (Answer { refusal: 30, .. }, _) => reference::call(&mended(call), &state),
+        answered => answered,
+    };
     if answer.refusal != 0 {
         return state;
     }

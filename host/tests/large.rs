@@ -103,6 +103,10 @@ fn at_limit(tally: &mut Tally, rng: &mut Rng) {
     expect(tally, rng, &replace(b"Data", 2, b"TEXT", vec![7; 5]), &state, 101);
     expect(tally, rng, &replace(b"Data", 2, b"RIdx", vec![7; 5]), &state, 101);
     expect(tally, rng, &replace(b"Data", 2, b"BINA", vec![7; 4]), &state, 0);
+    // 30 comes before 101: with the right head these are 101.
+    let wrong_head = b"FORM\0\0\0\x05AIFF".to_vec();
+    expect(tally, rng, &add(b"Snd ", 9, b"FORM", wrong_head.clone()), &state, 30);
+    expect(tally, rng, &replace(b"Data", 2, b"FORM", [wrong_head, vec![0; 4]].concat()), &state, 30);
     expect(tally, rng, &remove(b"Pict", 3), &state, 119);
     for call in [remove(b"Data", 1), remove(b"Data", 2), replace(b"Data", 1, b"BINA", vec![])] {
         let after = expect(tally, rng, &call, &state, 0);
@@ -128,7 +132,7 @@ fn over_limit(tally: &mut Tally, rng: &mut Rng) {
 }
 
 fn add_to_limit(tally: &mut Tally, rng: &mut Rng) {
-    let data_size = 2 * rng.between(1, 400);
+    let data_size = 2 * rng.between(3, 400);
     let file = filled(rng, LIMIT - 20 - data_size).write();
     let roomy = generate::lend(rng, file, vec![9; 5], data_size + 60, 29);
     let sized = |more: usize| State { file: roomy.file[..LIMIT - 1 + more].to_vec(), ..roomy.clone() };
@@ -140,8 +144,11 @@ fn add_to_limit(tally: &mut Tally, rng: &mut Rng) {
         (data_size + 1, roomy.clone(), 101),
         (data_size + 2, sized(0), 101),
     ] {
-        let call = call(size, rng);
-        expect(tally, rng, &call, &state, number);
+        let sound = call(size, rng);
+        expect(tally, rng, &sound, &state, number);
+        // A whole AIFF file takes the same room as data of eight bytes less.
+        let whole = generate::with_head(&[&b"AIFF"[..], &rng.bytes(size - 1)[3..]].concat());
+        expect(tally, rng, &add(b"Snd ", 4, b"FORM", whole), &state, number);
     }
 }
 
@@ -194,6 +201,7 @@ fn most_entries(tally: &mut Tally, rng: &mut Rng) {
         expect(tally, rng, &add(b"Data", 9, b"TEXT", vec![]), &state, 111);
         expect(tally, rng, &add(b"Data", 9, b"RIdx", vec![]), &state, 109);
         expect(tally, rng, &add(b"Dat?", 9, b"TEXT", vec![]), &state, 111);
+        expect(tally, rng, &add(b"Snd ", 9, b"FORM", b"FORM\0\0\0\x05AIFF".to_vec()), &state, 30);
         let last = MOST_ENTRIES as u32 - 1;
         let after = expect(tally, rng, &remove(b"Pict", last), &state, 0);
         expect(tally, rng, &Call::Undo, &after, 0);

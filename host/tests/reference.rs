@@ -255,7 +255,12 @@ pub fn lookup_answer(file: &[u8], view: &Result<View, Refusal>, usage: &Tag, num
         return refuse(22, 0);
     };
     let span = view.spans[entry.chunk];
-    Ok([number_at(file, span.start) as u64, span.start as u64 + 8, span.length as u64])
+    let tag = tag_at(file, span.start);
+    let [start, length] = match &tag {
+        b"FORM" => [span.start, 8 + span.length],
+        _ => [span.start + 8, span.length],
+    };
+    Ok([u32::from_be_bytes(tag) as u64, start as u64, length as u64])
 }
 
 // ---- A file as lists -----------------------------------------------------------------------------------------------
@@ -445,11 +450,24 @@ impl Call {
     }
 }
 
-/// The edit carried out, without asking whether the result is a good file. The entry to be replaced or removed is there.
+/// The data as a chunk of this type holds it. Of type 'FORM' a whole file is given: 30 where it has under 8 bytes, or its head is not 'FORM'
+/// and its size less 8.
+pub fn held<'a>(tag: &Tag, given: &'a [u8]) -> Result<&'a [u8], Refusal> {
+    if tag != b"FORM" {
+        return Ok(given);
+    }
+    if given.len() < 8 || &tag_at(given, 0) != b"FORM" || number_at(given, 4) as usize != given.len() - 8 {
+        return refuse(30, 0);
+    }
+    Ok(&given[8..])
+}
+
+/// The edit carried out, without asking whether the result is a good file. `check_target` accepts it.
 fn carry_out(edit: &Edit, present: &File) -> (File, Record) {
+    let held = |tag, data| held(tag, data).expect("a whole file");
     match edit {
-        Edit::Add { usage, number, tag, data } => add(present, *usage, *number, *tag, data),
-        Edit::Replace { usage, number, tag, data } => replace(present, *usage, *number, *tag, data),
+        Edit::Add { usage, number, tag, data } => add(present, *usage, *number, *tag, held(tag, data)),
+        Edit::Replace { usage, number, tag, data } => replace(present, *usage, *number, *tag, held(tag, data)),
         Edit::Remove { usage, number } => remove(present, *usage, *number),
     }
 }
@@ -487,20 +505,20 @@ fn remove(present: &File, usage: Tag, number: u32) -> (File, Record) {
     (file, record)
 }
 
-/// 22 and 23, where they apply.
+/// 22, 23 and 30, where they apply.
 fn check_target(edit: &Edit, present: &File) -> Result<(), Refusal> {
-    let (usage, number, replaces) = match edit {
-        Edit::Add { .. } => return Ok(()),
-        Edit::Replace { usage, number, .. } => (usage, *number, true),
-        Edit::Remove { usage, number } => (usage, *number, false),
-    };
-    let Some(place) = present.find(usage, number) else {
-        return refuse(22, 0);
-    };
-    if replaces && present.shared(present.entries[place].chunk) {
-        return refuse(23, 0);
+    if let Edit::Replace { usage, number, .. } | Edit::Remove { usage, number } = edit {
+        let Some(place) = present.find(usage, *number) else {
+            return refuse(22, 0);
+        };
+        if matches!(edit, Edit::Replace { .. }) && present.shared(present.entries[place].chunk) {
+            return refuse(23, 0);
+        }
     }
-    Ok(())
+    match edit {
+        Edit::Add { tag, data, .. } | Edit::Replace { tag, data, .. } => held(tag, data).map(|_| ()),
+        Edit::Remove { .. } => Ok(()),
+    }
 }
 
 /// The buffers' lengths, how much of the journal is in use, and the profile that the resulting file is judged under.
@@ -512,7 +530,7 @@ pub struct Room {
     pub used: usize,
 }
 
-/// An edit of an accepted file: 22, 23, 100 + k, 24, 25, or the resulting file and the record.
+/// An edit of an accepted file: 22, 23, 30, 100 + k, 24, 25, or the resulting file and the record.
 fn decide(edit: &Edit, present: &File, room: Room) -> Result<(File, Record), Refusal> {
     check_target(edit, present)?;
     let (result, record) = carry_out(edit, present);

@@ -11,6 +11,10 @@ pub fn samples(tally: &mut Tally, rng: &mut Rng) {
         plain_samples(tally, rng);
     }
     profile_samples(tally, rng);
+    for profile in [PLAIN, ADRIFT] {
+        rng.profile = profile;
+        whole_samples(tally, rng);
+    }
 }
 
 fn plain_samples(tally: &mut Tally, rng: &mut Rng) {
@@ -127,5 +131,43 @@ fn profile_samples(tally: &mut Tally, rng: &mut Rng) {
     (state.length, state.used) = (state.file.len() + 1, state.journal.len() + 1);
     for call in [add(b"Pict", 2, b"GIF ", vec![]), replace(b"Pict", 1, b"GIF ", vec![]), remove(b"Pict", 1), Call::Undo] {
         expect(tally, rng, &call, &state, 20);
+    }
+}
+
+/// The samples of the request for whole 'FORM' chunks.
+fn whole_samples(tally: &mut Tally, rng: &mut Rng) {
+    let aiff = b"FORM\0\0\0\x05AIFF!".to_vec();
+    let blank = generate::lend(rng, reference::blank_file(), Vec::new(), 200, 300);
+    let a = expect(tally, rng, &add(b"Snd ", 3, b"FORM", aiff.clone()), &blank, 0);
+    numbers(tally, &a, &[(4, 42), (32, 36), (40, 5)], 50);
+    let found = reference::lookup_answer(file_of(&a), &reference::read(file_of(&a), rng.profile), b"Snd ", 3);
+    if found != Ok([u32::from_be_bytes(*b"FORM") as u64, 36, 13]) || a.file[36..49] != aiff[..] {
+        tally.fail("lookup", &format!("the same 13 bytes must come out, found {found:?}"));
+    }
+    check_file(tally, rng, file_of(&a));
+    // A replacement's record keeps what the chunk held, and its undo gives that back.
+    let b = expect(tally, rng, &replace(b"Snd ", 3, b"FORM", b"FORM\0\0\0\x04AIFF".to_vec()), &a, 0);
+    if b.used - a.used != 34 || file_of(&expect(tally, rng, &Call::Undo, &b, 0)) != file_of(&a) {
+        tally.fail("replace", "the record has 29 bytes and the old five");
+    }
+    let shared = File { chunks: vec![Chunk { tag: *b"FORM", data: b"AIFF".to_vec() }], entries: vec![
+        Entry { usage: *b"Snd ", number: 1, chunk: 0 }, Entry { usage: *b"Snd ", number: 2, chunk: 0 },
+    ] };
+    let shared = generate::lend(rng, shared.write(), Vec::new(), 100, 100);
+    let padded = [&aiff[..], &[0]].concat();
+    for (call, state, number) in [
+        (add(b"Snd ", 4, b"FORM", aiff[..7].to_vec()), &a, 30),
+        (add(b"Snd ", 4, b"FORM", b"FORM\0\0\0\0".to_vec()), &a, 114),
+        (add(b"Pict", 4, b"FORM", padded.clone()), &a, 30),
+        (add(b"Pict", 4, b"FORM", aiff.clone()), &a, 114),
+        (add(b"Pic?", 4, b"FORM", padded.clone()), &a, 30),
+        (add(b"Pic?", 4, b"FORM", aiff.clone()), &a, 112),
+        (add(b"Snd ", 4, b"FORM", padded.clone()), &a, 30),
+        (add(b"Snd ", 4, b"FORM", aiff[8..].to_vec()), &a, 30),
+        (replace(b"Snd ", 9, b"FORM", padded.clone()), &a, 22),
+        (replace(b"Snd ", 1, b"FORM", padded.clone()), &shared, 23),
+        (replace(b"Snd ", 3, b"FORM", padded), &a, 30),
+    ] {
+        expect(tally, rng, &call, state, number);
     }
 }

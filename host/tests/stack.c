@@ -11,8 +11,8 @@
 
 #include "blorb.h"
 
-enum { PAGE = 4096, STACK = 2 * PAGE, ROOM = 200000, DATA = 40001 };
-static uint8_t file[ROOM], wrong[ROOM], journal[ROOM], data[DATA];
+enum { PAGE = 4096, STACK = 2 * PAGE, ROOM = 200000, DATA = 40001, WHOLE = 10000 };
+static uint8_t file[ROOM], wrong[ROOM], journal[ROOM], data[DATA], whole[WHOLE];
 static uint32_t table[6], columns[6];
 static ucontext_t outside, inside;
 static int calls;
@@ -86,6 +86,18 @@ static void every_call(void)
     done(a.refusal);
     a = blorb_remove(file, ROOM, a.length, journal, ROOM, a.used, profile, "Data", 1);
     done(a.refusal);
+    memcpy(whole + 8, "AIFF", 4);
+    a = blorb_replace(file, ROOM, a.length, journal, ROOM, a.used, profile, "Data", 0, "FORM", whole, WHOLE);
+    gives(a.refusal, BLORB_WHOLE_FORM);
+    memcpy(whole, "FORM\0\0\x27\x08", 8); /* 9,992 */
+    a = blorb_add(file, ROOM, a.length, journal, ROOM, a.used, profile, "Snd ", 3, "FORM", whole, WHOLE);
+    done(a.refusal);
+    gives(blorb_lookup(file, a.length, profile, "Snd ", 3).length, WHOLE);
+    a = blorb_replace(file, ROOM, a.length, journal, ROOM, a.used, profile, "Snd ", 3, "FORM", whole, WHOLE);
+    done(a.refusal);
+    a = blorb_remove(file, ROOM, a.length, journal, ROOM, a.used, profile, "Snd ", 3);
+    done(a.refusal);
+    memset(whole, 0, WHOLE);
     done(blorb_read(file, a.length, profile).refusal);
     done(blorb_entry(file, a.length, profile, 1).refusal);
     done(blorb_lookup(file, a.length, profile, "Data", 2).refusal);

@@ -11,3 +11,4 @@ pub mod Profiles
 pub mod Exactly
 pub mod Parts
 pub mod UsageLaws
+pub mod ShownLaws

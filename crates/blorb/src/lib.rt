@@ -7,6 +7,7 @@ ghost use lib.ListN.{length, drop};
 ghost use Rattle.blorb.specs.Bytes.{rd32};
 ghost use Rattle.blorb.specs.Little.{Little, swapped};
 ghost use Rattle.blorb.specs.Format.{chunkOf};
+ghost use Rattle.blorb.specs.Lookup.{leftOut};
 ghost use Rattle.blorb.specs.Rules.{plainAllows, adriftAllows, allows};
 ghost use Rattle.blorb.specs.declared.Usage.the-variants.{Snd};
 ghost use Rattle.blorb.specs.Usages.{codeOf, usageOf, pictType, gifType, wavType, sndType, dataType, execType};
@@ -120,6 +121,16 @@ const MAGS: u64 = 0x4d414753;
 const ADVS: u64 = 0x41445653;
 
 const EXEC: u64 = 0x45584543;
+
+// How many bytes of a chunk's front a lookup leaves out: its header, and nothing of a 'FORM', which is a whole file.
+pub fn left_out(kind: u32) -> usize
+    ensures { λ r. ⌜ (r ≡ leftOut kind) × (r ≤ 8) ⌝ }
+{
+    if kind as u64 == FORM {
+        return 0;
+    }
+    8
+}
 
 fn pict_type(t: u64, m: u64) -> bool
     ensures { λ r. ⌜ r ≡ pictType t m ⌝ }

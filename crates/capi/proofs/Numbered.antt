@@ -13,7 +13,7 @@ use Rattle.blorb.specs.Tags.{RelN, Fspc}
 use Rattle.blorb.specs.Verdict.{Rules, Verdict, accept, refuse, _then_, check, headFault, chunkFault, walkFault, secondIndex, indexFault, refFault, entriesFault, restFault, layoutFault, verdict, reading}
 use Rattle.blorb.specs.Rules.{rulesOf, profileVerdict, picture, single, chunkRule, chunkRules, optional}
 use Rattle.edits.specs.Edit.{Edit, add, replace, remove}
-use Rattle.edits.specs.Run.{State, Call, edit, undo, hundred, targetFault, editedFile, editFault, undoFault, fault}
+use Rattle.edits.specs.Run.{State, Call, edit, undo, hundred, wholeFault, targetFault, editedFile, editFault, undoFault, fault}
 use Rattle.blorb.specs.Model.{Model}
 use Rattle.reader.specs.Reading.{indexOf, noEntry, readBy, readOf, entryBy, askedBy, askedOf, foundBy, lookedBy, lookupOf}
 use Rattle.index.specs.Hits.{hitIn}
@@ -118,10 +118,14 @@ unfolding Numbered
 raised accept = tt
 raised (refuse k p) = omega arith
 
+whole : (t : ℕ) (d : List ℕ) → Numbered (wholeFault t d)
+unfolding wholeFault
+whole t d = one _ _ _ (omega arith)
+
 target : (m : Model) (e : Edit) → Numbered (targetFault m e)
 unfolding targetFault
-target m (add u n t d) = none
-target m (replace u n t d) = more _ _ _ _ (omega arith) (one _ _ _ (omega arith))
+target m (add u n t d) = whole t d
+target m (replace u n t d) = more _ _ _ _ (omega arith) (more _ _ _ _ (omega arith) (whole t d))
 target m (remove u n) = one _ _ _ (omega arith)
 
 called : (profile : ℕ) (s : State) (c : Call) → Numbered (fault (rulesOf profile) s c)

@@ -137,7 +137,7 @@ pub extern "C" fn blorb_entry(file: &[u8], profile: u32, i: usize) -> EntryAnswe
     }
 }
 
-// The chunk of the entry (usage, number): its type, and where its data is.
+// The chunk of the entry (usage, number): its type, and where its data is; of a 'FORM' where the whole chunk is, without padding.
 #[no_mangle]
 pub extern "C" fn blorb_lookup(
     file: &[u8],
@@ -198,7 +198,7 @@ pub extern "C" fn blorb_blank(file: &mut [u8]) -> EditAnswer
     numbers(editor::blank(file))
 }
 
-// Adds a resource to the first `length` bytes; its record goes to the journal at `used`.
+// Adds a resource to the first `length` bytes; its record goes to the journal at `used`. Of type 'FORM' the data is a whole file.
 #[no_mangle]
 pub extern "C" fn blorb_add(
     file: &mut [u8],

@@ -2,25 +2,26 @@
 use mathlib.Core.Path.{_≡_, refl, sym, ap, _∙_}
 use Prim.Native.Nat.{ℕ, _+_, _-_, _≤_, _%_}
 use mathlib.Core.List.{List, []}
-use mathlib.Core.Bool.{_&&_}
+use mathlib.Core.Bool.{true, false, _&&_, _||_, not}
 use native.Mathlib.Omega.{arith}
 use lib.ListN.{length, take}
 use lib.Seq.{length-take-le}
-use lib.Dec.{leb}
+use lib.Dec.{eqb, leb}
 use borrow.Author.Tests.{leb-true}
-use Rattle.blorb.specs.Verdict.{Verdict, accept, _then_, check, verdict}
+use Rattle.blorb.specs.Verdict.{Verdict, accept, refuse, _then_, check, verdict}
+use Rattle.blorb.specs.Tags.{FORM}
 use Rattle.blorb.specs.Rules.{rulesOf}
 use Rattle.blorb.specs.Model.{model, file}
 use Rattle.blorb.specs.Format.{chunkOf}
-use Rattle.edits.specs.Edit.{Edit, add, added, edited, givenChunk}
+use Rattle.edits.specs.Edit.{Edit, add, added, edited, held, givenChunk, isWhole}
 use Rattle.edits.specs.Journal.{recOf, recBytes}
 use Rattle.edits.proofs.JournalLaws.{length-recBytes}
 use Rattle.blorb.specs.All.{All}
 use Rattle.blorb.specs.Bytes.{Byte}
-use Rattle.blorb.proofs.Checks.{then-accept, check-accept, accepts}
+use Rattle.blorb.proofs.Checks.{then-accept, check-accept, accepts, holds-last}
 use Rattle.blorb.proofs.Accept.{accept-short}
 use Rattle.edits.proofs.Lengths.{length-added}
-use Rattle.edits.specs.Run.{hundred, targetFault, editFault, editedFile, editRecord, noted}
+use Rattle.edits.specs.Run.{hundred, wholeFault, targetFault, editFault, editedFile, editRecord, noted}
 use Rattle.moves.specs.Moves.{recordOf}
 use Rattle.judging.specs.declared.Outcome.{Outcome}
 use Rattle.judging.specs.declared.Outcome.the-variants as outcome
@@ -34,7 +35,7 @@ use Rattle.rewrite.specs.Rewriting.{Stands}
 use Rattle.editor.specs.Post.{editRefusal, planOf}
 use Rattle.judging.proofs.OpenLaws.{asked, asked-refused, asked-whole}
 use Rattle.edits.proofs.Lengths.{size-given}
-use Rattle.editor.proofs.CallLaws.{plan-go, hundred-fine, open-stands, opened-fine, stands-counted, edit-unopened, edit-told}
+use Rattle.editor.proofs.CallLaws.{plan-go, hundred-fine, open-stands, opened-fine, stands-counted, edit-unopened, edit-off-target, edit-told}
 
 module _ (profile : ℕ) (b : List ℕ) (l J U u n t : ℕ) (d : List ℕ) (bytes : All Byte (take l b)) where
   abbrev pub f : List ℕ
@@ -52,15 +53,15 @@ module _ (profile : ℕ) (b : List ℕ) (l J U u n t : ℕ) (d : List ℕ) (byte
   abbrev pub O : Verdict
   O = check (leb profile 1) 52 0 then (check (leb l (length b) && leb U J) 20 0 then verdict (rulesOf profile) f)
 
-  on-target : targetFault (model f) E ≡ accept
-  unfolding targetFault
-  on-target = refl
+  -- the data as the chunk holds it
+  abbrev pub D : List ℕ
+  D = held t d
 
   record-29 : length (editRecord f E) ≡ 29
   unfolding editRecord recOf
   record-29 = length-recBytes _
 
-  pub add-length : O ≡ accept → length (editedFile f E) ≡ l + (20 + (length d + length d % 2))
+  pub add-length : O ≡ accept → length (editedFile f E) ≡ l + (20 + (length D + length D % 2))
   unfolding editedFile edited
   add-length h =
       let st = open-stands profile b l U J K bytes h refl in
@@ -84,11 +85,25 @@ module _ (profile : ℕ) (b : List ℕ) (l J U u n t : ℕ) (d : List ℕ) (byte
     pub told-pair : (verdict (rulesOf profile) f ≡ accept) × (Counted f (fs .count) × (fs .target ≡ targetOf (model f) u n))
     told-pair = (opened-fine profile (length b) J f l U E ok, (stands-counted b l (fs .count) (told-stands .0), ap (λ (z : Facts). z .target) (asked-whole profile b l J U u n x fs op .1)))
 
-    module _ (j r : Outcome) (judged : verdictOf j ≡ hundred (verdict (rulesOf profile) (file (added (model f) u n (chunkOf t d)))))
-        (e : verdictOf r ≡ verdictOf j then (check (leb (l + (20 + (length d + length d % 2))) (length b)) 24 0 then check (leb 29 (J - U)) 25 0)) where
+    pub plan-30 : (not (eqb t FORM) || isWhole d) ≡ false → No 30 0 ≡ planOf Vd K
+    plan-30 e =
+        let q : targetFault (model f) E ≡ refuse 30 0 = (unfold targetFault wholeFault check in rw e) in
+        ap (λ (v : Verdict). planOf v K) (sym (edit-off-target profile (length b) J f l U E 30 0 ok q))
+
+    -- h: the data as the chunk holds it, as the code has it
+    module _ (whole : (not (eqb t FORM) || isWhole d) ≡ true) (h : List ℕ) (eh : h ≡ held t d) (j r : Outcome)
+        (judged : verdictOf j ≡ hundred (verdict (rulesOf profile) (file (added (model f) u n (chunkOf t h)))))
+        (e : verdictOf r ≡ verdictOf j then (check (leb (l + (20 + (length h + length h % 2))) (length b)) 24 0 then check (leb 29 (J - U)) 25 0)) where
+      on-target : targetFault (model f) E ≡ accept
+      unfolding targetFault wholeFault
+      on-target = holds-last _ _ _ whole
+
       told : Vd ≡ verdictOf r
-      unfolding editedFile edited givenChunk
-      told = edit-told profile (length b) J f l U E j r _ _ ok on-target (told-stands .1) judged (sym (add-length ok)) (sym record-29) e
+      unfolding editedFile edited
+      told =
+          edit-told profile (length b) J f l U E j r _ _ ok on-target (told-stands .1)
+          (judged ∙ ap (λ (z : List ℕ). hundred (verdict (rulesOf profile) (file (added (model f) u n (chunkOf t z))))) eh)
+          (ap (λ (z : List ℕ). l + (20 + (length z + length z % 2))) eh ∙ sym (add-length ok)) (sym record-29) e
 
       pub plan-refused : (k p : ℕ) → r ≡ outcome.Refused k p → No k p ≡ planOf Vd K
       plan-refused k p q = ap (λ (v : Verdict). planOf v K) (sym (told ∙ ap verdictOf q))
@@ -99,11 +114,11 @@ module _ (profile : ℕ) (b : List ℕ) (l J U u n t : ℕ) (d : List ℕ) (byte
   -- what a plan to go on tells
   pub record Ready (k : ℕ) : Type 0 where
     pub stands : Stands b l k
-    pub room : l + (20 + (length d + length d % 2)) ≤ length b
-    pub short : l + (20 + (length d + length d % 2)) ≤ 16777216
+    pub room : l + (20 + (length D + length D % 2)) ≤ length b
+    pub short : l + (20 + (length D + length D % 2)) ≤ 16777216
     pub journal-room : U + 29 ≤ J
     pub fine : Vd ≡ accept
-    pub new-length : l + (20 + (length d + length d % 2)) ≡ length (editedFile f E)
+    pub new-length : l + (20 + (length D + length D % 2)) ≡ length (editedFile f E)
     pub new-record : 29 ≡ length (editRecord f E)
 
   pub ready : (k : ℕ) → planOf Vd K ≡ Go k → Ready k

@@ -1,39 +1,51 @@
 -- What a file holds for a pair, told by its model; what a successful edit tells of the models before and after it.
 use mathlib.Core.Path.{_≡_, refl, sym, ap, _∙_}
-use Prim.Native.Nat.{ℕ, _<_}
-use mathlib.Core.List.{List}
+use Prim.Native.Nat.{ℕ, suc, _+_, _-_, _%_, _<_}
+use mathlib.Core.List.{List, _++_, append-assoc}
 use mathlib.Core.Bool.{Bool, true, false, _&&_}
 use native.Mathlib.Omega.{arith}
-use lib.ListN.{length}
-use lib.Dec.{eqb, leb}
-use borrow.Author.Tests.{eq-eqb, eqb-true, not-true}
-use Rattle.blorb.specs.Bytes.{Byte}
+use lib.ListN.{length, take, drop, replicate, length-append, length-drop}
+use lib.Seq.{drop-drop, take-at}
+use lib.Dec.{eqb, leb, ltb}
+use borrow.Author.Tests.{eq-eqb, eqb-true, ltb-true, not-true}
+use Rattle.blorb.specs.Bytes.{Byte, be32}
 use Rattle.blorb.specs.All.{All}
-use Rattle.blorb.specs.Format.{Chunk}
+use Rattle.blorb.specs.Tags.{FORM}
+use Rattle.blorb.specs.Format.{Chunk, chunkBytes, chunksBytes}
 use Rattle.blorb.specs.Verdict.{accept, verdict, refFault, pairIn}
 use Rattle.blorb.specs.Rules.{rulesOf, profileVerdict}
 use Rattle.blorb.specs.Model.{Model, model, file}
-use Rattle.blorb.specs.Queries.{find, refAt, noRef}
-use Rattle.blorb.specs.Lookup.{Look, missing, here, lookup}
+use Rattle.blorb.specs.Queries.{find, refAt, noRef, chunkAt, start}
+use Rattle.blorb.specs.Lookup.{Look, missing, here, lookup, leftOut, shown}
 use Rattle.blorb.proofs.AllLaws.{all-getD}
-use Rattle.blorb.specs.Sound.{RefOk, Sound}
+use Rattle.blorb.proofs.ByteLaws.{length-be32}
+use Rattle.blorb.specs.Sound.{W, RefOk, Sound}
 use Rattle.blorb.proofs.Checks.{then-accept, check-accept, both-true}
 use Rattle.blorb.proofs.Accept.{accept-back, accept-short}
 use Rattle.blorb.proofs.ModelLaws.{model-file}
 use Rattle.blorb.proofs.Profiles.{profile-known}
 use Rattle.blorb.proofs.VerdictLaws.{modelFault, file-judged}
 use Rattle.reader.specs.Reading.{lookupOf, partOf}
+use Rattle.reader.specs.declared.Looked.{Looked}
 use Rattle.reader.specs.declared.Looked.the-variants.{Found, Refused}
 use Rattle.reader.proofs.Promises.{lookup-here, lookup-nowhere}
 use Rattle.edits.specs.Edit.{Edit, add, replace, remove, added, edited, givenChunk}
-use Rattle.edits.specs.Run.{ArgsOk, editedFile, editFault}
+use Rattle.edits.specs.Run.{ArgsOk, wholeFault, targetFault, editedFile, editFault}
 use Rattle.edits.proofs.Applies.{Applies}
+use Rattle.edits.proofs.FaultLaws.{pair-found}
+use Rattle.edits.proofs.LastLaws.{drop-take}
+use Rattle.edits.proofs.WholeForms.{given-shown}
+use Rattle.undoing.proofs.ChunkAt.{drop-start}
 use Rattle.edits.proofs.AddVerdict.{added-verdict}
-use Rattle.edits.proofs.RunLaws.{target-applies}
+use Rattle.edits.proofs.RunLaws.{Good, target-applies}
 use Rattle.edits.proofs.FitLaws.{edit-sound, find-pair}
-use Rattle.edits.proofs.ReadBack.{same, add-reads, add-keeps, replace-reads, replace-keeps, remove-gone, remove-keeps}
-use Rattle.editor.specs.ReadsBack.{Content, nothing, holds, contentOf, Holds, OwnPair, Apart, OtherPair}
+use Rattle.edits.proofs.ReadBack.{same, look-missing, look-find, add-reads, add-keeps, replace-reads, replace-keeps, remove-gone, remove-keeps}
+use Rattle.editor.specs.ReadsBack.{Content, nothing, holds, contentOf, Holds, DataBytes, OwnPair, Apart, OtherPair}
 use Rattle.editor.proofs.CallLaws.{hundred-fine}
+
+-- an entry's chunk is there
+chunk-there : (m : Model) (i : ℕ) → Sound m → i < length (m .refs) → refAt m i .chunk < length (m .chunks)
+chunk-there m i s h = all-getD (RefOk (length (m .chunks))) (m .refs) i noRef (s .refs-ok) h .chunk-there
 
 -- the two answers of a lookup
 content-found : (profile : ℕ) (f : List ℕ) (u n t x m : ℕ) → lookupOf profile f u n ≡ Found t x m
@@ -45,30 +57,96 @@ content-refused : (profile : ℕ) (f : List ℕ) (u n k p : ℕ) → lookupOf pr
 unfolding contentOf
 content-refused profile f u n k p e = rw e
 
--- an accepted file holds for a pair what its model has
+-- what is shown of a chunk stands at its bytes' front
+shown-part : (c : Chunk) (rest : List ℕ) → take (8 + length (c .body) - leftOut (c .type)) (drop (leftOut (c .type)) (chunkBytes c ++ rest)) ≡ shown c
+unfolding chunkBytes shown
+shown-part c rest =
+    let k : ℕ = leftOut (c .type) in
+    let m : ℕ = length (c .body) in
+    let w : List ℕ = be32 (c .type) ++ (be32 m ++ c .body) in
+    let z : List ℕ = replicate (m % 2) 0 ++ rest in
+    let e : be32 (c .type) ++ (be32 m ++ (c .body ++ replicate (m % 2) 0)) ++ rest ≡ w ++ z = simp append-assoc in
+    let l : length w ≡ 8 + m = simp (length-append, length-be32) (omega arith) in
+    ap (λ (x : List ℕ). take (8 + m - k) (drop k x)) e ∙ sym (drop-take k (8 + m) (w ++ z)) ∙ ap (drop k) (take-at w z (8 + m) l)
+
+shown-length : (c : Chunk) → length (shown c) ≡ 8 + length (c .body) - leftOut (c .type)
+unfolding shown
+shown-length c = simp (length-drop, length-append, length-be32) (omega arith)
+
+-- an accepted file that is its model's: nothing is in it but its header, its index and its chunks
+pub record Own (profile : ℕ) (f : List ℕ) : Type 0 where
+  pub fine : profileVerdict profile f ≡ accept
+  pub good : Good (rulesOf profile) f
+
+module _ (profile : ℕ) (f : List ℕ) (u n : ℕ) (o : Own profile f) where
+  abbrev m : Model
+  m = model f
+
+  abbrev i : ℕ
+  i = find u n (model f .refs)
+
+  abbrev k : ℕ
+  k = refAt (model f) (find u n (model f .refs)) .chunk
+
+  -- the part that a lookup of such a file names is what is shown of the chunk that the model has
+  module _ (l : i < length (m .refs)) where
+    there : lookup m u n ≡ here (chunkAt m k)
+    unfolding lookup
+    there = look-find (m .chunks) u n (m .refs) l
+
+    part-is : partOf (lookupOf profile f u n) f ≡ shown (chunkAt m k)
+    part-is =
+        let c : Chunk = chunkAt m k in
+        let x : ℕ = start m k in
+        let left : ℕ = leftOut (c .type) in
+        let size : ℕ = 8 + length (c .body) - left in
+        let small : length (file m) < W = omega (arith, ap length (o .good .whole), o .good .short) in
+        ap (λ (a : Looked). partOf a f) (lookup-here profile f u n (o .fine) c there .0)
+        ∙ ap (take size) (sym (drop-drop left x f))
+        ∙ ap (λ (g : List ℕ). take size (drop left (drop x g))) (sym (o .good .whole))
+        ∙ ap (λ (g : List ℕ). take size (drop left g)) (drop-start m k (o .good .sound) (chunk-there m i (o .good .sound) l) small)
+        ∙ shown-part c (chunksBytes (drop (suc k) (m .chunks)))
+
+  pub part-here : (c : Chunk) → lookup m u n ≡ here c → partOf (lookupOf profile f u n) f ≡ shown c
+  unfolding lookup
+  part-here c e = go (ltb i (length (m .refs))) refl
+    where
+      go : (b : Bool) → ltb (find u n (model f .refs)) (length (model f .refs)) ≡ b → partOf (lookupOf profile f u n) f ≡ shown c
+      go true q = let l = ltb-true _ _ q in let s : chunkAt (model f) k ≡ c = cc (there l, e) in part-is l ∙ ap shown s
+      go false q =
+          let none = look-missing (model f .chunks) u n (model f .refs) (pair-found u n (model f .refs) ∙ q) in
+          let z : _≡_ {A = ℕ} 0 1 = cc (none, e) in
+          absurd (omega arith)
+
+-- it holds for a pair what its model has
 abbrev pub contentIn : Look → Content
 contentIn missing = nothing
-contentIn (here c) = holds (c .type) (c .body)
+contentIn (here c) = holds (c .type) (shown c)
 
-pub content-is : (profile : ℕ) (f : List ℕ) (u n : ℕ) → profileVerdict profile f ≡ accept → contentOf profile f u n ≡ contentIn (lookup (model f) u n)
-content-is profile f u n h = go (lookup (model f) u n) refl
+pub content-is : (profile : ℕ) (f : List ℕ) (u n : ℕ) → Own profile f → contentOf profile f u n ≡ contentIn (lookup (model f) u n)
+content-is profile f u n o = go (lookup (model f) u n) refl
   where
     go : (l : Look) → lookup (model f) u n ≡ l → contentOf profile f u n ≡ contentIn l
-    go missing e = content-refused profile f u n 22 0 (lookup-nowhere profile f u n h e)
-    go (here c) e = let p = lookup-here profile f u n h c e in content-found profile f u n _ _ _ (p .0) ∙ ap (holds (c .type)) (p .1)
+    go missing e = content-refused profile f u n 22 0 (lookup-nowhere profile f u n (o .fine) e)
+    go (here c) e = content-found profile f u n _ _ _ (lookup-here profile f u n (o .fine) c e .0) ∙ ap (holds (c .type)) (part-here profile f u n o c e)
 
-pub holds-given : (profile : ℕ) (f : List ℕ) (u n t : ℕ) (d : List ℕ) → profileVerdict profile f ≡ accept → lookup (model f) u n ≡ here (givenChunk t d)
-    → Holds profile f u n t d
-unfolding givenChunk
-holds-given profile f u n t d h e =
-    let p = lookup-here profile f u n h (record { type = t; body = d }) e in
-    record { start = _; found = p .0; content = content-found profile f u n _ _ _ (p .0) ∙ ap (holds t) (p .1) }
+-- of data that was given to an add or a replacement the lookup gives all again, the head of a 'FORM' included
+pub holds-given : (profile : ℕ) (f : List ℕ) (u n t : ℕ) (d : List ℕ) → Own profile f → (t ≡ FORM → All Byte d) → wholeFault t d ≡ accept
+    → lookup (model f) u n ≡ here (givenChunk t d) → Holds profile f u n t d
+holds-given profile f u n t d o bytes w e =
+    let c : Chunk = givenChunk t d in
+    let p = lookup-here profile f u n (o .fine) c e .0 in
+    let back : shown c ≡ d = given-shown t d bytes w in
+    let l : 8 + length (c .body) - leftOut t ≡ length d = sym (shown-length c) ∙ ap length back in
+    let x : ℕ = start (model f) (refAt (model f) (find u n (model f .refs)) .chunk) + leftOut t in
+    record { start = x; found = p ∙ ap (Found t x) l; content = content-found profile f u n _ _ _ p ∙ ap (holds t) (part-here profile f u n o c e ∙ back) }
 
 -- a successful edit of the file f: both files are accepted, and the new one's model is the edited model
 pub record Told (profile : ℕ) (f : List ℕ) (e : Edit) : Type 0 where
-  pub old : profileVerdict profile f ≡ accept
-  pub new : profileVerdict profile (editedFile f e) ≡ accept
+  pub old : Own profile f
+  pub new : Own profile (editedFile f e)
   pub sound : Sound (model f)
+  pub on-target : targetFault (model f) e ≡ accept
   pub judged : modelFault (rulesOf profile) (model f) ≡ accept
   pub judged-new : modelFault (rulesOf profile) (edited (model f) e) ≡ accept
   pub applies : Applies (model f) e
@@ -84,14 +162,20 @@ edit-told profile N J f L U e bytes args known h =
     let ap : Applies (model f) e = target-applies (model f) e (h3 .0) in
     let new : verdict (rulesOf profile) (file (edited (model f) e)) ≡ accept = hundred-fine _ (then-accept _ _ (h3 .1) .0) in
     let sd : Sound (edited (model f) e) = edit-sound (model f) e (g .1) args ap in
+    let short = accept-short (rulesOf profile) (file (edited (model f) e)) new in
+    let same : model (file (edited (model f) e)) ≡ edited (model f) e = model-file (edited (model f) e) sd (omega arith) in
     record {
-      old = profile-known profile f known ∙ h2 .0;
-      new = profile-known profile (file (edited (model f) e)) known ∙ new;
+      old = record { fine = profile-known profile f known ∙ h2 .0; good = record { fine = h2 .0; whole = g .0; sound = g .1; short = g .2 } };
+      new = record {
+        fine = profile-known profile (file (edited (model f) e)) known ∙ new;
+        good = record { fine = new; whole = (λ i. file (same i)); sound = rw same sd; short = short };
+      };
       sound = g .1;
+      on-target = h3 .0;
       judged = file-judged (rulesOf profile) (model f) (g .1) (rw (g .0) (h2 .0));
       judged-new = file-judged (rulesOf profile) (edited (model f) e) sd new;
       applies = ap;
-      same = model-file (edited (model f) e) sd (omega (arith, accept-short (rulesOf profile) (file (edited (model f) e)) new));
+      same = same;
     }
 
 -- the pair of an accepted add was in no entry before: 16 would have refused it
@@ -102,10 +186,6 @@ not-there profile m u n c s h k =
     let b = then-accept _ _ (then-accept _ _ (a .1) .1) in
     let d = then-accept _ _ (then-accept _ _ (b .0) .1) in
     not-true _ (check-accept _ _ _ (then-accept _ _ (d .1) .1))
-
--- an entry's chunk is there
-chunk-there : (m : Model) (i : ℕ) → Sound m → i < length (m .refs) → refAt m i .chunk < length (m .chunks)
-chunk-there m i s h = all-getD (RefOk (length (m .chunks))) (m .refs) i noRef (s .refs-ok) h .chunk-there
 
 -- the entry that find gives has the pair sought, so no other
 found-same : (m : Model) (u n : ℕ) → find u n (m .refs) < length (m .refs) → same (refAt m (find u n (m .refs))) u n ≡ true
@@ -127,19 +207,19 @@ found-apart m u n v k h o =
     apart-eqb _ _ v k (λ e. o (sym (p .0) ∙ e .0, sym (p .1) ∙ e .1))
 
 -- the edit's own pair in the new file
-pub own-pair : (profile : ℕ) (f : List ℕ) (e : Edit) → Told profile f e → OwnPair profile e (editedFile f e)
-unfolding edited modelFault
-own-pair profile f (add u n t d) k =
+pub own-pair : (profile : ℕ) (f : List ℕ) (e : Edit) → DataBytes e → Told profile f e → OwnPair profile e (editedFile f e)
+unfolding edited modelFault targetFault
+own-pair profile f (add u n t d) bytes k =
     let fresh : pairIn u n (model f .refs) ≡ false = not-there profile (model f) u n (givenChunk t d) (k .sound) (k .judged) (k .judged-new) in
-    holds-given profile (editedFile f (add u n t d)) u n t d (k .new)
+    holds-given profile (editedFile f (add u n t d)) u n t d (k .new) bytes (k .on-target)
     (ap (λ (m : Model). lookup m u n) (k .same) ∙ add-reads (model f) u n (givenChunk t d) (k .sound) fresh)
-own-pair profile f (replace u n t d) k =
-    holds-given profile (editedFile f (replace u n t d)) u n t d (k .new)
+own-pair profile f (replace u n t d) bytes k =
+    holds-given profile (editedFile f (replace u n t d)) u n t d (k .new) bytes (then-accept _ _ (then-accept _ _ (k .on-target) .1) .1)
     (ap (λ (m : Model). lookup m u n) (k .same) ∙ replace-reads (model f) u n (givenChunk t d) (k .applies .0) (chunk-there (model f) (find u n (model f .refs)) (k .sound) (k .applies .0)))
-own-pair profile f (remove u n) k =
+own-pair profile f (remove u n) bytes k =
     let i : ℕ = find u n (model f .refs) in
     let refs = then-accept _ _ (then-accept _ _ (then-accept _ _ (k .judged) .1) .1) .0 in
-    lookup-nowhere profile (editedFile f (remove u n)) u n (k .new)
+    lookup-nowhere profile (editedFile f (remove u n)) u n (k .new .fine)
     (ap (λ (m : Model). lookup m u n) (k .same) ∙ remove-gone (rulesOf profile) (model f) i u n refs (k .applies) (found-same (model f) u n (k .applies)))
 
 -- every other pair

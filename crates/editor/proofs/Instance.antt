@@ -25,11 +25,13 @@ use Rattle.blorb.specs.Verdict.{restFault, layoutFault, verdict}
 use Rattle.blorb.specs.Rules.{oneOf, plainAllows, adriftAllows, allows, picture, typeIn, single, chunkRule, chunkRules, optional, rulesOf}
 use Rattle.blorb.specs.Model.{base, startOf, entryOf, file, modelOf, model}
 use Rattle.blorb.specs.Queries.{without, find, uses, shared, start, frontPlace}
-use Rattle.edits.specs.Edit.{add, with-at, lower, raise, added, givenChunk, edited}
+use Rattle.blorb.specs.Lookup.{leftOut}
+use Rattle.edits.specs.Edit.{add, with-at, lower, raise, added, held, isWhole, edited}
 use Rattle.edits.specs.Blank.{blankFile}
 use Rattle.edits.specs.Journal.{recBody, recBytes, recOf, trailer, recIn, lastBody, lastRec, zeros, wellFormed}
 use Rattle.edits.specs.Journal.{fits1, fits, undo1, undone}
-use Rattle.edits.specs.Run.{State, Call, edit, undo, step, fault, targetFault, editedFile, editRecord, undoneFile, editFault, undoFault}
+use Rattle.edits.specs.Run.{State, Call, edit, undo, step, fault, wholeFault, targetFault, editedFile, editRecord, undoneFile, editFault}
+use Rattle.edits.specs.Run.{undoFault}
 use Rattle.edits.specs.Run.{written, noted, afterEdit, afterUndo, after}
 use Rattle.edits.specs.Demand3.{Begins}
 use Rattle.editor.specs.declared.Answer.{Answer}
@@ -132,11 +134,11 @@ unfolding layoutFault verdict oneOf plainAllows adriftAllows allows picture type
 rules = 0
 
 edits : ℕ
-unfolding without find uses shared start frontPlace with-at lower raise added givenChunk edited blankFile recBody recBytes recOf trailer recIn lastBody lastRec
+unfolding without find uses shared start frontPlace with-at lower raise added held edited blankFile recBody recBytes recOf trailer recIn lastBody lastRec
 edits = 0
 
 calls : ℕ
-unfolding zeros wellFormed fits1 fits undo1 undone targetFault editedFile editRecord undoneFile editFault undoFault
+unfolding zeros wellFormed fits1 fits undo1 undone leftOut isWhole wholeFault targetFault editedFile editRecord undoneFile editFault undoFault
 calls = 0
 
 states : ℕ

@@ -1,4 +1,5 @@
 pub mod CallLaws
+pub mod GivenLaws
 pub mod AddCall
 pub mod RemoveCall
 pub mod ReplaceCall

@@ -22,7 +22,7 @@ use Rattle.edits.proofs.RunLaws.{length-written, take-written, length-noted, ta
 use Rattle.editor.specs.declared.Outcome.the-variants.{Done, Refused}
 use Rattle.editor.specs.declared.Answer.{Answer}
 use Rattle.editor.specs.Called.{verdictOf, Called}
-use Rattle.editor.specs.ReadsBack.{contentOf, fileOf, fileAfter, ReadsBack}
+use Rattle.editor.specs.ReadsBack.{contentOf, fileOf, fileAfter, DataBytes, ReadsBack}
 use Rattle.editor.proofs.ContentLaws.{edit-told, own-pair, other-pair}
 
 -- the state and the file after a successful edit
@@ -40,15 +40,15 @@ edit-fault : (profile : ℕ) (s : State) (e : Edit) → fault (rulesOf profile) 
 unfolding fault
 edit-fault profile s e h = let a = then-accept _ _ h in (check-accept _ _ _ (a .0), a .1)
 
--- A successful add or replace leaves exactly its type and data for its pair, a successful remove leaves no entry; every other pair keeps
--- what it had.
-pub reads-back : (profile : ℕ) (s : State) (e : Edit) → All Byte (s .buffer) → ArgsOk e → fault (rulesOf profile) s (edit e) ≡ accept
+-- A successful add or replace leaves exactly its type and data for its pair, head included, a successful remove leaves no entry; every other
+-- pair keeps what it had.
+pub reads-back : (profile : ℕ) (s : State) (e : Edit) → All Byte (s .buffer) → ArgsOk e → DataBytes e → fault (rulesOf profile) s (edit e) ≡ accept
     → ReadsBack profile e (fileOf s) (fileAfter profile s (edit e))
-reads-back profile s e bytes args h =
+reads-back profile s e bytes args given h =
     let a = edit-fault profile s e h in
     let t = edit-told profile (length (s .buffer)) (length (s .journal)) (fileOf s) (s .L) (s .U) e (all-take Byte (s .L) (s .buffer) bytes) args (a .0) (a .1) in
     subst (λ (g : List ℕ). ReadsBack profile e (fileOf s) g) (sym (ap fileOf (edit-state profile s e h) ∙ file-edited s e))
-    (record { own = own-pair profile (fileOf s) e t; others = λ v k o. other-pair profile (fileOf s) e v k t o })
+    (record { own = own-pair profile (fileOf s) e given t; others = λ v k o. other-pair profile (fileOf s) e v k t o })
 
 -- a refused call, edit or undo, leaves every pair as it was
 pub refused-keeps : (profile : ℕ) (s : State) (c : Call) (k p : ℕ) → fault (rulesOf profile) s c ≡ refuse k p → (u n : ℕ)
@@ -103,12 +103,11 @@ undo-gives-back profile s e bytes args h =
     rw (edit-state profile s e h, d .0) (refl, d .1)
 
 -- The same for the buffers and the answer of a call: this is what its contract (`Called`) and reader::lookup's tell together.
-pub call-reads-back : (profile : ℕ) (s : State) (e : Edit) (r : Answer) (b j : List ℕ) → All Byte (s .buffer) → ArgsOk e → Called profile s (edit e) r b j
-    → r .outcome ≡ Done
-    → ReadsBack profile e (fileOf s) (take (r .len) b)
-call-reads-back profile s e r b j bytes args c done =
+pub call-reads-back : (profile : ℕ) (s : State) (e : Edit) (r : Answer) (b j : List ℕ) → All Byte (s .buffer) → ArgsOk e → DataBytes e
+    → Called profile s (edit e) r b j → r .outcome ≡ Done → ReadsBack profile e (fileOf s) (take (r .len) b)
+call-reads-back profile s e r b j bytes args given c done =
     subst (λ (g : List ℕ). ReadsBack profile e (fileOf s) g) (λ i. take (sym (c .len) i) (sym (c .file) i))
-    (reads-back profile s e bytes args (sym (c .outcome) ∙ ap verdictOf done))
+    (reads-back profile s e bytes args given (sym (c .outcome) ∙ ap verdictOf done))
 
 pub call-refused-keeps : (profile : ℕ) (s : State) (x : Call) (r : Answer) (b j : List ℕ) (k p : ℕ) → Called profile s x r b j → r .outcome ≡ Refused k p
     → (u n : ℕ) → contentOf profile (take (r .len) b) u n ≡ contentOf profile (fileOf s) u n

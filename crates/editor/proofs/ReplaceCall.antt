@@ -2,17 +2,18 @@
 use mathlib.Core.Path.{_≡_, refl, sym, ap, _∙_}
 use Prim.Native.Nat.{ℕ, _+_, _-_, _≤_, _<_, _%_}
 use mathlib.Core.List.{List}
-use mathlib.Core.Bool.{true, false, _&&_, not}
+use mathlib.Core.Bool.{true, false, _&&_, _||_, not}
 use native.Mathlib.Omega.{arith}
 use lib.ListN.{length, take, drop}
 use lib.Seq.{length-take-le}
-use lib.Dec.{leb}
+use lib.Dec.{eqb, leb}
 use borrow.Author.Tests.{leb-true, lt-ltb, ltb-true}
 use Rattle.blorb.specs.Format.{chunkOf, size, sized}
+use Rattle.blorb.specs.Tags.{FORM}
 use Rattle.blorb.specs.Verdict.{Verdict, accept, refuse, _then_, check, verdict}
 use Rattle.blorb.specs.Rules.{rulesOf}
 use Rattle.blorb.specs.Model.{Model, model, file}
-use Rattle.edits.specs.Edit.{Edit, replace, replaced, givenChunk, edited}
+use Rattle.edits.specs.Edit.{Edit, replace, replaced, held, givenChunk, isWhole, edited}
 use Rattle.blorb.specs.Queries.{find, refAt, chunkAt, shared, start}
 use Rattle.edits.specs.Journal.{recOf, recBytes, Rec}
 use Rattle.edits.proofs.JournalLaws.{length-recBytes}
@@ -20,7 +21,7 @@ use Rattle.blorb.specs.All.{All}
 use Rattle.blorb.specs.Bytes.{Byte}
 use Rattle.blorb.proofs.Checks.{then-accept, check-accept, accepts, holds-last, pass}
 use Rattle.blorb.proofs.Accept.{accept-short}
-use Rattle.edits.specs.Run.{edit, hundred, targetFault, editFault, editedFile, editRecord, noted, written, fault, after, afterEdit}
+use Rattle.edits.specs.Run.{edit, hundred, wholeFault, targetFault, editFault, editedFile, editRecord, noted, written, fault, after, afterEdit}
 use Rattle.moves.specs.Moves.{recordOf}
 use Rattle.judging.specs.declared.Outcome.{Outcome}
 use Rattle.judging.specs.declared.Outcome.the-variants as outcome
@@ -73,8 +74,9 @@ module _ (profile : ℕ) (b : List ℕ) (l J U u n t : ℕ) (d : List ℕ) (byte
   abbrev pub O : Verdict
   O = check (leb profile 1) 52 0 then (check (leb l (length b) && leb U J) 20 0 then verdict (rulesOf profile) (take l b))
 
+  -- the chunk's new size, by the data as the chunk holds it
   abbrev pub new : ℕ
-  new = 8 + (length d + length d % 2)
+  new = 8 + (length (held t d) + length (held t d) % 2)
 
   pub plan-unopened : (x k p : ℕ) → asked profile b l J U u n x ≡ Refused k p → Keep k p ≡ changeOf Vd m u n
   plan-unopened x k p e =
@@ -106,8 +108,9 @@ module _ (profile : ℕ) (b : List ℕ) (l J U u n t : ℕ) (d : List ℕ) (byte
       pub inside : a ≤ l
       inside = omega (arith, size-now, w .ends)
 
-      pub length-now : l - a + new ≡ length (editedFile f E)
-      length-now = ap (λ (z : ℕ). l - z + new) size-now ∙ sym (new-length w)
+      -- h: the data as the chunk holds it, as the code has it
+      pub length-now : (h : List ℕ) → h ≡ held t d → l - a + (8 + (length h + length h % 2)) ≡ length (editedFile f E)
+      length-now h eh = (λ z. l - size-now z + (8 + (length (eh z) + length (eh z) % 2))) ∙ sym (new-length w)
 
   module _ (fs : Facts) (p : Piece) (w : Told profile b l J U u n bytes fs p) where
     pub plan-23 : p .shared ≡ true → Keep 23 0 ≡ changeOf Vd m u n
@@ -136,15 +139,29 @@ module _ (profile : ℕ) (b : List ℕ) (l J U u n t : ℕ) (d : List ℕ) (byte
             ),
           )
 
-      on-target : targetFault m E ≡ accept
+      -- neither 22 nor 23
+      there-alone : targetFault m E ≡ wholeFault t d
       unfolding targetFault
-      on-target = pass _ _ _ _ (lt-ltb _ _ (w .found .listed)) ∙ holds-last _ _ _ (ap not (sym (shared-is m i p (w .piece-is)) ∙ alone))
+      there-alone = pass _ _ _ _ (lt-ltb _ _ (w .found .listed)) ∙ pass _ _ _ _ (ap not (sym (shared-is m i p (w .piece-is)) ∙ alone))
 
-      module _ (a : ℕ) (ea : a ≡ 8 + (p .length + p .length % 2)) (j r : Outcome) (judged : verdictOf j ≡ hundred (verdict (rulesOf profile) (file (replaced m kc (chunkOf t d)))))
-          (e : verdictOf r ≡ verdictOf j then (check (leb (l - a + (8 + (length d + length d % 2))) (length b)) 24 0 then check (leb (29 + p .length) (J - U)) 25 0)) where
+      pub plan-30 : (not (eqb t FORM) || isWhole d) ≡ false → Keep 30 0 ≡ changeOf Vd m u n
+      plan-30 e =
+          let q : wholeFault t d ≡ refuse 30 0 = (unfold wholeFault check in rw e) in
+          ap (λ (v : Verdict). changeOf v m u n) (sym (edit-off-target profile (length b) J f l U E 30 0 (w .opened) (there-alone ∙ q)))
+
+      module _ (whole : (not (eqb t FORM) || isWhole d) ≡ true) (h : List ℕ) (eh : h ≡ held t d) (a : ℕ) (ea : a ≡ 8 + (p .length + p .length % 2))
+          (j r : Outcome) (judged : verdictOf j ≡ hundred (verdict (rulesOf profile) (file (replaced m kc (chunkOf t h)))))
+          (e : verdictOf r ≡ verdictOf j
+          then (check (leb (l - a + (8 + (length h + length h % 2))) (length b)) 24 0 then check (leb (29 + p .length) (J - U)) 25 0)) where
+        on-target : targetFault m E ≡ accept
+        on-target = there-alone ∙ (unfold wholeFault in holds-last _ _ _ whole)
+
         judged-is : Vd ≡ verdictOf r
-        unfolding editedFile edited givenChunk
-        judged-is = edit-told profile (length b) J f l U E j r _ _ (w .opened) on-target (w .found .used-in) judged (length-now p (w .found) (w .piece-is) a ea) (record-now p (w .found) (w .piece-is)) e
+        unfolding editedFile edited
+        judged-is =
+            edit-told profile (length b) J f l U E j r _ _ (w .opened) on-target (w .found .used-in)
+            (judged ∙ ap (λ (z : List ℕ). hundred (verdict (rulesOf profile) (file (replaced m kc (chunkOf t z))))) eh)
+            (length-now p (w .found) (w .piece-is) a ea h eh) (record-now p (w .found) (w .piece-is)) e
 
         pub plan-refused : (k q : ℕ) → r ≡ outcome.Refused k q → Keep k q ≡ changeOf Vd m u n
         plan-refused k q h = ap (λ (v : Verdict). changeOf v m u n) (sym (judged-is ∙ ap verdictOf h))
@@ -196,11 +213,13 @@ module _ (profile : ℕ) (b : List ℕ) (l J U u n t : ℕ) (d : List ℕ) (byte
     pub body-in : p .start + 8 + p .length ≤ l
     body-in = omega (arith, start-is m i p (r .piece-is), length-is m i p (r .piece-is), body-sized (chunkAt m kc), r .found .ends)
 
-    pub replaceable : (a : ℕ) → a ≡ 8 + (p .length + p .length % 2) → Stands b l k × (Replaceable b l k (p .place) (p .start) a × ((l - a + new ≤ length b) × (l - a + new ≤ 16777216)))
-    replaceable a ea =
+    pub replaceable : (h : List ℕ) → h ≡ held t d → (a : ℕ) → a ≡ 8 + (p .length + p .length % 2)
+        → Stands b l k × (Replaceable b l k (p .place) (p .start) a
+        × ((l - a + (8 + (length h + length h % 2)) ≤ length b) × (l - a + (8 + (length h + length h % 2)) ≤ 16777216)))
+    replaceable h eh a ea =
         let w = r .found in
         let sz = size-now p w (r .piece-is) a ea in
-        let ln = length-now p w (r .piece-is) a ea in
+        let ln = length-now p w (r .piece-is) a ea h eh in
         let es = start-is m i p (r .piece-is) in
         let ep = place-is m i p (r .piece-is) in (
           stands-as b l k K (r .count-is) (w .stands),
@@ -234,15 +253,18 @@ module _ (profile : ℕ) (b j : List ℕ) (l U u n t : ℕ) (d : List ℕ) (byte
   pub record-room : U + (29 + length (take (p .start + 8 + p .length - (p .start + 8)) (drop (p .start + 8) b))) ≤ length j
   record-room = let h = part-length b (p .start + 8) (p .length) part-in in omega (arith, used-room)
 
-  pub made : (a : ℕ) (c : Answer) (b′ j′ : List ℕ) → a ≡ 8 + (p .length + p .length % 2)
-      → c ≡ doneWith (l - a + (8 + (length d + length d % 2))) (U + (29 + p .length))
-      → b′ ≡ written b l (file (replaced (model (take l b)) (refAt (model (take l b)) (p .place) .chunk) (chunkOf t d)))
+  pub made : (h : List ℕ) → h ≡ held t d → (a : ℕ) (c : Answer) (b′ j′ : List ℕ) → a ≡ 8 + (p .length + p .length % 2)
+      → c ≡ doneWith (l - a + (8 + (length h + length h % 2))) (U + (29 + p .length))
+      → b′ ≡ written b l (file (replaced (model (take l b)) (refAt (model (take l b)) (p .place) .chunk) (chunkOf t h)))
       → j′ ≡ noted j U (recBytes (recordOf 2 (record { usage = u; number = n; start = p .start }) (p .place) (p .kind) (take (p .start + 8 + p .length - (p .start + 8)) (drop (p .start + 8) b))))
       → Called profile (state b l j U) (edit (replace u n t d)) c b′ j′
-  unfolding fault after afterEdit editedFile edited givenChunk editRecord
-  made a c b′ j′ ea ec eb ej =
-      gave-done profile (state b l j U) (edit (replace u n t d)) c _ _ b′ j′ ec (r .fine) (length-now profile b l (length j) U u n t d bytes p (r .found) (r .piece-is) a ea)
+  unfolding fault after afterEdit editedFile edited editRecord
+  made h eh a c b′ j′ ea ec eb ej =
+      gave-done profile (state b l j U) (edit (replace u n t d)) c _ _ b′ j′ ec (r .fine)
+      (length-now profile b l (length j) U u n t d bytes p (r .found) (r .piece-is) a ea h eh)
       (ap (λ (z : ℕ). U + z) (used-now profile b l (length j) U u n t d bytes k p r))
-      (eb ∙ ap (λ (z : ℕ). written b l (file (replaced (model (take l b)) (refAt (model (take l b)) z .chunk) (chunkOf t d)))) (place-is (model (take l b)) (find u n (model (take l b) .refs)) p (r .piece-is)))
+      (eb
+      ∙ (λ z. written b l (file (replaced (model (take l b))
+      (refAt (model (take l b)) (place-is (model (take l b)) (find u n (model (take l b) .refs)) p (r .piece-is) z) .chunk) (chunkOf t (eh z))))))
       (ej ∙ ap (λ (z : ℕ). noted j U (recBytes (recordOf 2 (record { usage = u; number = n; start = p .start }) (p .place) (p .kind) (take z (drop (p .start + 8) b))))) (part-size (p .start + 8) (p .length))
       ∙ ap (λ (z : Rec). noted j U (recBytes z)) (record-is profile b l (length j) U u n t d bytes k p r))

@@ -3,9 +3,12 @@ use mathlib.Core.Path.{_≡_}
 use Prim.Native.Nat.{ℕ}
 use mathlib.Core.List.{List}
 use lib.ListN.{length, take}
+use Rattle.blorb.specs.Tags.{FORM}
 use Rattle.reader.specs.Reading.{lookupOf, partOf}
 use Rattle.reader.specs.declared.Looked.{Looked}
 use Rattle.reader.specs.declared.Looked.the-variants.{Found, Refused}
+use Rattle.blorb.specs.All.{All}
+use Rattle.blorb.specs.Bytes.{Byte}
 use Rattle.blorb.specs.Rules.{rulesOf}
 use Rattle.edits.specs.Edit.{Edit, add, replace, remove}
 use Rattle.edits.specs.Run.{State, Call, step}
@@ -15,8 +18,8 @@ pub data Content : Type 0 where
   nothing : Content
   holds : ℕ → List ℕ → Content
 
--- "A lookup gives the chunk's type and the part of the caller's slice that is its data" (01, Found resources): both, for the answer of
--- reader::lookup and the part that reader::data gives; a refused lookup gives nothing
+-- "A lookup gives the chunk's type and the part of the caller's slice that is its data" (01, Found resources), of type 'FORM' the whole chunk without
+-- padding (02, P3): both, for the answer of reader::lookup and the part that reader::data gives; a refused lookup gives nothing
 abbrev pub contentBy : Looked → List ℕ → Content
 contentBy (Found t a m) f = holds t (partOf (Found t a m) f)
 contentBy (Refused k p) f = nothing
@@ -33,15 +36,21 @@ fileOf s = take (s .L) (s .buffer)
 abbrev pub fileAfter : (profile : ℕ) → State → Call → List ℕ
 fileAfter profile s c = fileOf (step (rulesOf profile) s c)
 
--- the file f holds type t and data d for the pair: its lookup isn't refused, but finds type t and as many data bytes as d has, and these
--- bytes are d
+-- the file f holds type t and data d for the pair: its lookup isn't refused, but finds type t and as many bytes as d has, and these bytes are d
 pub record Holds (profile : ℕ) (f : List ℕ) (u n t : ℕ) (d : List ℕ) : Type 0 where
   pub start : ℕ
   pub found : lookupOf profile f u n ≡ Found t start (length d)
   pub content : contentOf profile f u n ≡ holds t d
 
+-- the data of type 'FORM' given to an edit are bytes; of other types nothing is asked
+abbrev pub DataBytes : Edit → Type 0
+DataBytes (add u n t d) = t ≡ FORM → All Byte d
+DataBytes (replace u n t d) = t ≡ FORM → All Byte d
+DataBytes (remove u n) = Unit {0}
+
 -- what an edit leaves for its own pair in the file f after it: the type and data that were given, exactly ("the chunk in the same
--- position takes the new type and data"), or no entry ("the entry goes"; "22 no such entry")
+-- position takes the new type and data"), of a 'FORM' its head included ("take the whole file likewise", 02, P3), or no entry ("the entry goes";
+-- "22 no such entry")
 abbrev pub OwnPair : (profile : ℕ) → Edit → List ℕ → Type 0
 OwnPair profile (add u n t d) f = Holds profile f u n t d
 OwnPair profile (replace u n t d) f = Holds profile f u n t d

@@ -19,6 +19,9 @@ ghost use Rattle.judging.specs.Outcomes.{verdictOf};
 ghost use Rattle.edits.specs.Run.{state};
 ghost use Rattle.editor.specs.Called.{Called, blankAnswer};
 ghost use Rattle.editor.specs.Post.{refusedWith, doneWith, editRefusal, planOf, removalOf, changeOf};
+
+mod given;
+
 use judging::judge;
 use reader::Inspection;
 use reader::Piece;
@@ -137,6 +140,10 @@ fn add_plan(
     match opened(buf, len, room, used, profile, usage, number, 0) {
         Inspection::Refused { number: k, place } => Plan::No(k, place),
         Inspection::Whole(facts) => {
+            if !given::is_whole(kind, d) {
+                return Plan::No(30, 0);
+            }
+            let body = given::held(kind, d);
             let count = facts.count;
             let target = facts.target;
             let judged = judge::add_fault(
@@ -147,9 +154,9 @@ fn add_plan(
                 usage,
                 number,
                 kind,
-                d,
+                body,
             );
-            let m = d.len();
+            let m = body.len();
             match with_room(judged, len + (20 + (m + m % 2)), buf.len(), 29, room - used) {
                 judging::Outcome::Refused { number: k, place } => Plan::No(k, place),
                 judging::Outcome::Done => Plan::Go { count },
@@ -175,8 +182,9 @@ fn add_entry(
     match add_plan(buf, len, jrn.len(), used, profile, usage, number, kind, d) {
         Plan::No(k, place) => Answer::refused(k, place, len, used),
         Plan::Go { count } => {
-            let m = d.len();
-            rewrite::add_bytes(buf, len, count, usage, number, kind, d);
+            let body = given::held(kind, d);
+            let m = body.len();
+            rewrite::add_bytes(buf, len, count, usage, number, kind, body);
             moves::put_record(
                 jrn,
                 used,
@@ -346,6 +354,10 @@ fn replace_plan(
             if piece.shared {
                 return Change::Keep(23, 0);
             }
+            if !given::is_whole(kind, d) {
+                return Change::Keep(30, 0);
+            }
+            let body = given::held(kind, d);
             let old = gone_size(false, piece.length);
             let front = facts.front;
             let judged = judge::replace_fault(
@@ -356,9 +368,9 @@ fn replace_plan(
                 usage,
                 number,
                 kind,
-                d,
+                body,
             );
-            let m = d.len();
+            let m = body.len();
             let size = len - old as usize + (8 + (m + m % 2));
             let more = 29 + piece.length as usize;
             match with_room(judged, size, buf.len(), more, room - used) {
@@ -391,7 +403,8 @@ fn replace_chunk(
         Change::Put { count, piece } => {
             let start = piece.start;
             let old = gone_size(false, piece.length) as usize;
-            let m = d.len();
+            let body = given::held(kind, d);
+            let m = body.len();
             let from = start as usize + 8;
             let to = from + piece.length as usize;
             moves::put_record(
@@ -407,7 +420,16 @@ fn replace_chunk(
                 piece.kind as u64,
                 &buf[from..to],
             );
-            rewrite::replace_bytes(buf, len, count, piece.place, start as usize, old, kind, d);
+            rewrite::replace_bytes(
+                buf,
+                len,
+                count,
+                piece.place,
+                start as usize,
+                old,
+                kind,
+                body,
+            );
             let size = len - old + (8 + (m + m % 2));
             Answer::done(size, used + (29 + piece.length as usize))
         }
@@ -421,7 +443,7 @@ fn code_of(b: [u8; 4]) -> u32
     blorb::be32_at(&b, 0) as u32
 }
 
-// Add: an entry at the end of the index, a chunk at the end of the file.
+// Add: an entry at the end of the index, a chunk at the end of the file. Of type 'FORM' the data is a whole file, as a lookup gives it.
 pub fn add(
     buf: &mut [u8],
     len: usize,
@@ -440,7 +462,7 @@ pub fn add(
     add_entry(buf, len, jrn, used, profile, u, number, t, d)
 }
 
-// Replace: the chunk in the same position takes the new type and data.
+// Replace: the chunk in the same position takes the new type and data, given as for an add.
 pub fn replace(
     buf: &mut [u8],
     len: usize,

@@ -20,17 +20,21 @@ use Rattle.blorb.specs.All.{All}
 use Rattle.blorb.specs.Sound.{Sound}
 use Rattle.blorb.proofs.Accept.{accept-back}
 use Rattle.blorb.proofs.VerdictLaws.{refsFault, modelFault, inOrder, verdict-file, file-ordered}
-use Rattle.edits.specs.Edit.{Edit, add, replace, remove, edited, added, replaced, removed, removedBoth, removedEntry}
-use Rattle.edits.specs.Run.{ArgsOk, hundred, targetFault, editedFile, editRecord, editFault}
+use Rattle.edits.specs.Edit.{Edit, add, replace, remove, edited, added, replaced, removed, removedBoth, removedEntry, givenChunk}
+use Rattle.edits.specs.Run.{ArgsOk, hundred, wholeFault, targetFault, editedFile, editRecord, editFault}
 use Rattle.edits.proofs.Applies.{Applies}
 use Rattle.edits.proofs.FitLaws.{edit-sound}
 use Rattle.edits.proofs.RunLaws.{target-applies}
 use Rattle.edits.proofs.OrderLaws.{order-added, order-without, order-removed}
 
 -- "01's edits keep the order"
+pub added-in-order : (m : Model) (u n : ℕ) (c : Chunk) → Sound m → inOrder 0 (m .refs) ≡ true → inOrder 0 (added m u n c .refs) ≡ true
+unfolding added
+added-in-order m u n c s o = order-added 0 (length (m .chunks)) (m .refs) _ (omega arith) (s .refs-ok) refl o
+
 pub edits-keep-order : (m : Model) (e : Edit) → Sound m → inOrder 0 (m .refs) ≡ true → inOrder 0 (edited m e .refs) ≡ true
 unfolding edited added replaced removed removedEntry removedBoth
-edits-keep-order m (add u n t d) s o = order-added 0 (length (m .chunks)) (m .refs) _ (omega arith) (s .refs-ok) refl o
+edits-keep-order m (add u n t d) s o = added-in-order m u n (givenChunk t d) s o
 edits-keep-order m (replace u n t d) s o = o
 edits-keep-order m (remove u n) s o = go (shared m (find u n (m .refs)))
   where
@@ -91,15 +95,15 @@ unfolding modelFault optional
 left profile m =
     both 27 _ _ (second _ (m .chunks)) (more _ 27 11 20 _ refl (both 27 _ _ (entries profile (m .chunks) [] 24 (m .refs)) (chunks _ _ [] _ (m .chunks))))
 
--- the answer: 20, 22, 23, 100 + k, 24, 25
+-- the answer: 20, 22, 23, 30, 100 + k, 24, 25
 hundred-never : (v : Verdict) → Never 27 v → Never 127 (hundred v)
 hundred-never accept h = tt
 hundred-never (refuse k p) h = ne-eqb (100 + k) 127 (λ (q : 100 + k ≡ 127). eqb-false k 27 h (omega (arith, q)))
 
 target-never : (m : Model) (e : Edit) → Never 127 (targetFault m e)
-unfolding targetFault
-target-never m (add u n t d) = tt
-target-never m (replace u n t d) = more _ 127 22 0 _ refl (other _ 127 23 0 refl)
+unfolding targetFault wholeFault
+target-never m (add u n t d) = other _ 127 30 0 refl
+target-never m (replace u n t d) = more _ 127 22 0 _ refl (more _ 127 23 0 _ refl (other _ 127 30 0 refl))
 target-never m (remove u n) = other _ 127 22 0 refl
 
 -- f: an accepted file

@@ -174,23 +174,26 @@ sound-removed m i false e s h =
     }
 
 given-ok : (t : ℕ) (d : List ℕ) → t < W → ChunkOk (givenChunk t d)
-unfolding givenChunk
 given-ok t d h = record { type-fits = h }
+
+pub added-sound : (m : Model) (u n : ℕ) (c : Chunk) → Sound m → u < W → n < W → ChunkOk c → Sound (added m u n c)
+unfolding added
+added-sound m u n c s hu hn ok =
+    let l : length (m .chunks ++ (c ∷ [])) ≡ suc (length (m .chunks)) = simp length-append (omega arith) in
+    record {
+      refs-ok = rw l (all-append (RefOk (suc (length (m .chunks)))) (m .refs) (record { usage = u; number = n; chunk = length (m .chunks) } ∷ [])
+          (all-imp (RefOk (length (m .chunks))) (RefOk (suc (length (m .chunks)))) (more-ok (length (m .chunks)) (suc (length (m .chunks))) (omega arith))
+          (m .refs) (s .refs-ok))
+          (record { usage-fits = hu; number-fits = hn; chunk-there = omega arith }, tt));
+      chunks-ok = all-append ChunkOk (m .chunks) (c ∷ []) (s .chunks-ok) (ok, tt);
+    }
 
 pub replaced-sound : (m : Model) (k : ℕ) (c : Chunk) → Sound m → ChunkOk c → Sound (replaced m k c)
 unfolding replaced
 replaced-sound m k c s ok = record { refs-ok = rw length-set (s .refs-ok); chunks-ok = all-set ChunkOk (m .chunks) k c (s .chunks-ok) ok }
 
 pub edit-sound : (m : Model) (e : Edit) → Sound m → ArgsOk e → Applies m e → Sound (edited m e)
-unfolding edited added removed
-edit-sound m (add u n t d) s a ap =
-    let c : Chunk = givenChunk t d in
-    let l : length (m .chunks ++ (c ∷ [])) ≡ suc (length (m .chunks)) = simp length-append (omega arith) in
-    record {
-      refs-ok = rw l (all-append (RefOk (suc (length (m .chunks)))) (m .refs) (record { usage = u; number = n; chunk = length (m .chunks) } ∷ [])
-          (all-imp (RefOk (length (m .chunks))) (RefOk (suc (length (m .chunks)))) (more-ok (length (m .chunks)) (suc (length (m .chunks))) (omega arith)) (m .refs) (s .refs-ok))
-          (record { usage-fits = a .0; number-fits = a .1; chunk-there = omega arith }, tt));
-      chunks-ok = all-append ChunkOk (m .chunks) (c ∷ []) (s .chunks-ok) (given-ok t d (a .2), tt);
-    }
+unfolding edited removed
+edit-sound m (add u n t d) s a ap = added-sound m u n (givenChunk t d) s (a .0) (a .1) (given-ok t d (a .2))
 edit-sound m (replace u n t d) s a ap = replaced-sound m (refAt m (find u n (m .refs)) .chunk) (givenChunk t d) s (given-ok t d (a .2))
 edit-sound m (remove u n) s a ap = sound-removed m (find u n (m .refs)) (shared m (find u n (m .refs))) refl s ap

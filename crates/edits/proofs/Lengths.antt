@@ -8,15 +8,14 @@ use lib.ListN.{length, getD, set, length-append}
 use Rattle.blorb.specs.Format.{Ref, Chunk, size, total}
 use Rattle.blorb.specs.Verdict.{noChunk}
 use Rattle.blorb.specs.Model.{Model, base, file}
-use Rattle.edits.specs.Edit.{added, replaced, removedBoth, givenChunk}
+use Rattle.edits.specs.Edit.{added, replaced, removedBoth, held, givenChunk}
 use Rattle.blorb.specs.Queries.{chunkAt, without}
 use Rattle.blorb.proofs.ModelLaws.{length-file}
 use Rattle.blorb.proofs.Parts.{size-of}
 use Rattle.edits.proofs.UndoLaws.{length-remaining}
 
-pub size-given : (t : ℕ) (d : List ℕ) → size (givenChunk t d) ≡ 8 + length d + length d % 2
-unfolding givenChunk
-size-given t d = size-of t d
+pub size-given : (t : ℕ) (d : List ℕ) → size (givenChunk t d) ≡ 8 + length (held t d) + length (held t d) % 2
+size-given t d = size-of t (held t d)
 
 pub total-append : (a b : List Chunk) → total (a ++ b) ≡ total a + total b
 unfolding total

@@ -32,3 +32,4 @@ pub mod InsertStarts
 pub mod AddInserts
 pub mod BlankLaws
 pub mod TooLong
+pub mod WholeForms

@@ -48,7 +48,7 @@ unfolding targetFault
 target-applies m (add u n t d) h = tt
 target-applies m (replace u n t d) h =
     let p = then-accept _ _ h in
-    (ltb-true _ _ (check-accept _ _ _ (p .0)), not-true _ (check-accept _ _ _ (p .1)))
+    (ltb-true _ _ (check-accept _ _ _ (p .0)), not-true _ (check-accept _ _ _ (then-accept _ _ (p .1) .0)))
 target-applies m (remove u n) h = ltb-true _ _ (check-accept _ _ _ h)
 
 hundred-accept : (v : Verdict) → hundred v ≡ accept → v ≡ accept

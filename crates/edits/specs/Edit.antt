@@ -1,11 +1,14 @@
 -- The edits (01, The edits): what a file holds after each. Starts, lengths and count follow from it (`file`); that starts move as 01 says, all by
 -- 12, only those behind, by 12 and the chunk's size, is proved in proofs/Starts.antt.
-use Prim.Native.Nat.{ℕ, suc, _-_}
+use Prim.Native.Nat.{ℕ, suc, _+_, _-_}
 use mathlib.Core.List.{List, [], _∷_, _++_, map}
-use mathlib.Core.Bool.{cond}
+use mathlib.Core.Bool.{Bool, cond, _&&_}
 use lib.ListN.{length, take, drop, set}
-use lib.Dec.{leb, ltb}
+use lib.Dec.{eqb, leb, ltb}
+use Rattle.blorb.specs.Bytes.{rd32}
+use Rattle.blorb.specs.Tags.{FORM}
 use Rattle.blorb.specs.Format.{Ref, Chunk, chunkOf}
+use Rattle.blorb.specs.Lookup.{leftOut}
 use Rattle.blorb.specs.Model.{Model}
 use Rattle.blorb.specs.Queries.{without, find, refAt, shared}
 
@@ -57,9 +60,18 @@ inserted m i k u n c = record {
   chunks = with-at k c (m .chunks);
 }
 
+-- The data as the chunk holds it, of the data given to add or replace: "add and replace of type 'FORM' take the whole file likewise", so the
+-- header that a lookup gives with such a chunk is not in it (02, P3).
+unfoldable pub held : ℕ → List ℕ → List ℕ
+held t d = drop (8 - leftOut t) d
+
 -- the chunk that the arguments of add and replace describe
-unfoldable pub givenChunk : ℕ → List ℕ → Chunk
-givenChunk t d = chunkOf t d
+abbrev pub givenChunk : ℕ → List ℕ → Chunk
+givenChunk t d = chunkOf t (held t d)
+
+-- "the data starts with 'FORM' and a length of its size less 8" (02, P3)
+unfoldable pub isWhole : List ℕ → Bool
+isWhole d = leb 8 (length d) && eqb (rd32 d) FORM && eqb (8 + rd32 (drop 4 d)) (length d)
 
 -- what the file holds after an edit: "All other chunks keep their bytes and order."
 unfoldable pub edited : Model → Edit → Model

@@ -1,12 +1,13 @@
 -- The calls on the lent buffers, the ledger, and whole runs (01, Whole runs).
 use Prim.Native.Nat.{ℕ, _+_, _-_, _<_, max}
 use mathlib.Core.List.{List, [], _∷_, _++_}
-use mathlib.Core.Bool.{Bool, true, false, _&&_, not}
+use mathlib.Core.Bool.{Bool, true, false, _&&_, _||_, not}
 use lib.ListN.{length, take, drop, replicate}
 use lib.Dec.{eqb, leb, ltb}
 use Rattle.blorb.specs.Verdict.{Rules, Verdict, accept, refuse, _then_, check, verdict}
 use Rattle.blorb.specs.Model.{Model, model, file}
-use Rattle.edits.specs.Edit.{Edit, add, replace, remove, edited}
+use Rattle.blorb.specs.Tags.{FORM}
+use Rattle.edits.specs.Edit.{Edit, add, replace, remove, isWhole, edited}
 use Rattle.blorb.specs.Queries.{find, shared}
 use Rattle.edits.specs.Journal.{recOf, recBytes, lastRec, wellFormed, fits, undone}
 
@@ -59,10 +60,17 @@ written buffer L f = f ++ (replicate (L - length f) 0 ++ drop (max L (length f))
 unfoldable pub noted : List ℕ → ℕ → List ℕ → List ℕ
 noted journal U r = take U journal ++ (r ++ drop (U + length r) journal)
 
--- 22: "no such entry"; 23: "the chunk to be replaced is shared"
+-- 30: "such data is under 8 bytes or its head disagrees" (02, P3)
+unfoldable pub wholeFault : ℕ → List ℕ → Verdict
+wholeFault t d = check (not (eqb t FORM) || isWhole d) 30 0
+
+-- 22: "no such entry"; 23: "the chunk to be replaced is shared"; 30: "after 23 and before 100 + k"
 unfoldable pub targetFault : Model → Edit → Verdict
-targetFault m (add u n t d) = accept
-targetFault m (replace u n t d) = check (ltb (find u n (m .refs)) (length (m .refs))) 22 0 then check (not (shared m (find u n (m .refs)))) 23 0
+targetFault m (add u n t d) = wholeFault t d
+targetFault m (replace u n t d) =
+    check (ltb (find u n (m .refs)) (length (m .refs))) 22 0
+    then check (not (shared m (find u n (m .refs)))) 23 0
+    then wholeFault t d
 targetFault m (remove u n) = check (ltb (find u n (m .refs)) (length (m .refs))) 22 0
 
 -- the file after an edit, and the edit's record

@@ -13,7 +13,7 @@ use Rattle.blorb.specs.Tags.{RIdx, Exec}
 use Rattle.blorb.specs.Verdict.{Verdict, accept, refuse, _then_, check, noChunk, knownUsage, refFault, verdict}
 use Rattle.blorb.specs.Rules.{allows, optional, rulesOf}
 use Rattle.blorb.specs.Model.{Model, base, file, model}
-use Rattle.edits.specs.Edit.{add, added, edited, givenChunk}
+use Rattle.edits.specs.Edit.{added}
 use Rattle.blorb.specs.Queries.{find}
 use Rattle.blorb.specs.All.{All}
 use Rattle.blorb.specs.Sound.{W, Sound}
@@ -22,8 +22,8 @@ use Rattle.blorb.proofs.Checks.{then-accept}
 use Rattle.blorb.proofs.Accept.{accept-back}
 use Rattle.edits.proofs.AddVerdict.{then-assoc, added-verdict}
 use Rattle.blorb.proofs.VerdictLaws.{modelFault, inOrder, verdict-file, file-judged, file-ordered}
-use Rattle.edits.proofs.EditsKeepOrder.{edits-keep-order}
-use Rattle.edits.proofs.FitLaws.{edit-sound}
+use Rattle.edits.proofs.EditsKeepOrder.{added-in-order}
+use Rattle.edits.proofs.FitLaws.{added-sound}
 use Rattle.edits.proofs.Lengths.{length-added}
 use Rattle.edits.specs.Run.{hundred}
 use Rattle.reader.specs.declared.Piece.{Piece}
@@ -99,9 +99,8 @@ module _ (profile : ℕ) (m : Model) (u n t : ℕ) (d : List ℕ) (s : Sound m) 
   add-judged ord =
       let k1 : suc K ≡ K + 1 = omega arith in
       let l1 : length (file (added m u n c)) ≡ length (file m) + (20 + (length d + length d % 2)) = length-added m u n c ∙ omega (arith, size-of t d) in
-      let sd : Sound (added m u n c) = (unfold edited givenChunk in edit-sound m (add u n t d) s (hu, hn, ht) tt) in
-      let o : inOrder 0 (added m u n c .refs) ≡ true = (unfold edited givenChunk in edits-keep-order m (add u n t d) s ord) in
-      ap hundred (verdict-file (rulesOf profile) (added m u n c) sd o ∙ (λ i. check (leb (l1 i) 16777216) 1 0 then model-judged i))
+      let sd : Sound (added m u n c) = added-sound m u n c s hu hn (record { type-fits = ht }) in
+      ap hundred (verdict-file (rulesOf profile) (added m u n c) sd (added-in-order m u n c s ord) ∙ (λ i. check (leb (l1 i) 16777216) 1 0 then model-judged i))
       ∙ hundreds (leb (length (file m) + (20 + (length d + length d % 2))) 16777216) (not (eqb t RIdx)) (leb (suc K) 4096) (knownUsage u) (allows profile u c) (not (eqb u Exec) || eqb n 0) (not (ltb (find u n (m .refs)) K)) (length (file m) + 12) (24 + 12 * K)
       ∙ ap (λ (z : ℕ). check (leb (length (file m) + (20 + (length d + length d % 2))) 16777216) 101 0 then (check (not (eqb t RIdx)) 109 (length (file m) + 12) then (check (leb z 4096) 111 20
       then (check (knownUsage u) 112 (24 + 12 * K) then (check (allows profile u c) 114 (24 + 12 * K) then (check (not (eqb u Exec) || eqb n 0) 115 (24 + 12 * K + 4) then check (not (ltb (find u n (m .refs)) K)) 116 (24 + 12 * K))))))) k1

@@ -13,7 +13,7 @@ use Rattle.blorb.specs.Tags.{RIdx, Pict, Rect, Fspc}
 use Rattle.blorb.specs.Verdict.{Verdict, accept, refuse, _then_, check, noChunk, secondIndex, verdict}
 use Rattle.blorb.specs.Rules.{allows, typeIn, optional, rulesOf}
 use Rattle.blorb.specs.Model.{Model, base, startOf, file, model}
-use Rattle.edits.specs.Edit.{replace, edited, replaced, givenChunk}
+use Rattle.edits.specs.Edit.{replaced}
 use Rattle.blorb.specs.Queries.{find, noRef, refAt, chunkAt, shared, start, frontPlace, frontNumber}
 use Rattle.blorb.specs.All.{All}
 use Rattle.blorb.proofs.AllLaws.{all-getD}
@@ -23,9 +23,8 @@ use Rattle.blorb.proofs.Checks.{then-accept, check-accept, pass}
 use Rattle.blorb.proofs.Accept.{accept-back}
 use Rattle.edits.proofs.AddVerdict.{second-any, then-end}
 use Rattle.blorb.proofs.VerdictLaws.{refsFault, modelFault, verdict-file, file-judged, file-ordered}
-use Rattle.edits.proofs.EditsKeepOrder.{edits-keep-order}
 use Rattle.edits.proofs.ReplaceVerdict.{refs-replaced}
-use Rattle.edits.proofs.FitLaws.{edit-sound, find-pair}
+use Rattle.edits.proofs.FitLaws.{replaced-sound, find-pair}
 use Rattle.edits.specs.Starts.{behind}
 use Rattle.edits.proofs.Starts.{shifted}
 use Rattle.edits.proofs.Lengths.{length-replaced}
@@ -132,15 +131,15 @@ pub replace-fault : (profile : ℕ) (f : List ℕ) (u n t : ℕ) (d : List ℕ) 
     then (check (allows profile u (chunkOf t d)) 114 (24 + 12 * find u n (model f .refs))
     then cond (typeIn Fspc (model f .chunks)) (check (not ((eqb u Pict && eqb n (frontNumber (model f .chunks))) && eqb t Rect)) 119
     (behind (start (model f) (refAt (model f) (find u n (model f .refs)) .chunk)) (size (chunkAt (model f) (refAt (model f) (find u n (model f .refs)) .chunk))) (size (chunkOf t d)) (start (model f) (frontPlace (model f .chunks))) + 8)) accept))
-unfolding edited givenChunk
+unfolding replaced
 replace-fault profile f u n t d bytes fine hu hn ht found alone =
     let m : Model = model f in
     let k : ℕ = refAt m (find u n (m .refs)) .chunk in
     let g = accept-back (rulesOf profile) f bytes fine in
     let old : verdict (rulesOf profile) (file m) ≡ accept = ap (verdict (rulesOf profile)) (g .0) ∙ fine in
     let mf = file-judged (rulesOf profile) m (g .1) old in
-    let ord = edits-keep-order m (replace u n t d) (g .1) (file-ordered (rulesOf profile) m (g .1) old) in
-    let sd : Sound (replaced m k (chunkOf t d)) = edit-sound m (replace u n t d) (g .1) (hu, hn, ht) (found, alone) in
+    let ord = file-ordered (rulesOf profile) m (g .1) old in
+    let sd : Sound (replaced m k (chunkOf t d)) = replaced-sound m k (chunkOf t d) (g .1) (record { type-fits = ht }) in
     let th = there profile m u n t d (g .1) mf found alone in
     let len : length (file (replaced m k (chunkOf t d))) ≡ length f - size (chunkAt m k) + size (chunkOf t d) = omega (arith, length-replaced m k (chunkOf t d) th, ap length (g .0), size-getD (m .chunks) k noChunk th, file-length m) in
     ap hundred (verdict-file (rulesOf profile) (replaced m k (chunkOf t d)) sd ord

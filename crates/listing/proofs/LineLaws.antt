@@ -6,13 +6,14 @@ use native.Mathlib.Omega.{arith}
 use lib.ListN.{length, take, drop, length-drop}
 use Rattle.blorb.specs.Bytes.{be32, rd32, Byte}
 use Rattle.blorb.specs.All.{All}
+use Rattle.blorb.specs.Lookup.{leftOut}
 use Rattle.blorb.proofs.AllLaws.{all-drop}
 use Rattle.blorb.proofs.Accept.{again}
 use Rattle.index.specs.Entries.{usageAt, numberAt, startAt}
 use Rattle.listing.specs.Text.{text, decimal}
 use Rattle.listing.specs.Listing.{headLine, refusedLine, entryLine}
-use Rattle.listing.specs.InPlace.{Wrote, fieldsAt, chunkText, lineAt}
-use Rattle.listing.proofs.TextLaws.{decimal-20, decimal-10}
+use Rattle.listing.specs.InPlace.{Wrote, fieldsAt, givenSize, chunkText, lineAt}
+use Rattle.listing.proofs.TextLaws.{decimal-20, decimal-10, decimal-size}
 use Rattle.listing.proofs.WriteLaws.{more, more-two}
 
 -- four bytes of the file are those of the number that they hold
@@ -50,17 +51,19 @@ module _ (f : List ℕ) (p n x : ℕ) (en : (n ≡ numberAt f p) × (n < 2 ^ 32)
       let v3 = more-two out at (be32 (usageAt f p) ++ text " " ++ decimal n) b o2 v2 (text " at ") (decimal x) e o3 w3 in
       (rw (← (en .0), ← (ex .0)) v3, omega (arith, w1 .1, w2 .0, w3 .0, decimal-10 n (en .1), decimal-10 x (ex .1)))
 
--- its chunk's type and length
-module _ (f : List ℕ) (x m : ℕ) (em : (m ≡ rd32 (drop (x + 4) f)) × (m < 2 ^ 32)) (out : List ℕ) (at a b d e : ℕ) (o1 o2 o3 o4 : List ℕ) where
-  pub chunk-text : Wrote out at (text " ") a o1 → Wrote o1 a (be32 (rd32 (drop x f))) b o2 × (b ≡ a + 4) → Wrote o2 b (text " " ++ decimal m) d o3 → Wrote o3 d (text "\n") e o4
+-- its chunk's type and the length of what a lookup gives of it
+module _ (f : List ℕ) (x m k : ℕ) (em : (m ≡ rd32 (drop (x + 4) f)) × (m < 2 ^ 32)) (ek : k ≡ leftOut (rd32 (drop x f)))
+    (out : List ℕ) (at a b d e : ℕ) (o1 o2 o3 o4 : List ℕ) where
+  pub chunk-text : Wrote out at (text " ") a o1 → Wrote o1 a (be32 (rd32 (drop x f))) b o2 × (b ≡ a + 4)
+      → Wrote o2 b (text " " ++ decimal (8 + m - k)) d o3 → Wrote o3 d (text "\n") e o4
       → Wrote out at (chunkText f x) e o4 × (e ≤ at + 17)
   unfolding chunkText
   chunk-text w1 w2 w3 w4 =
       let t : List ℕ = be32 (rd32 (drop x f)) in
       let v2 = more out at (text " ") a o1 w1 t b o2 (w2 .0) in
-      let v3 = more-two out at (text " " ++ t) b o2 v2 (text " ") (decimal m) d o3 w3 in
-      let v4 = more out at (text " " ++ t ++ text " " ++ decimal m) d o3 v3 (text "\n") e o4 w4 in
-      (rw (← (em .0)) v4, omega (arith, w1 .0, w2 .1, w3 .0, w4 .0, decimal-10 m (em .1)))
+      let v3 = more-two out at (text " " ++ t) b o2 v2 (text " ") (decimal (8 + m - k)) d o3 w3 in
+      let v4 = more out at (text " " ++ t ++ text " " ++ decimal (8 + m - k)) d o3 v3 (text "\n") e o4 w4 in
+      (rw (← (em .0), ← ek) v4, omega (arith, w1 .0, w2 .1, w3 .0, w4 .0, decimal-size m k (em .1)))
 
 pub entry-text : (f out mid after : List ℕ) (p x at to end : ℕ) → x ≡ startAt f p → Wrote out at (fieldsAt f p) to mid × (to ≤ at + 29) → Wrote mid to (chunkText f x) end after × (end ≤ to + 17)
     → Wrote out at (lineAt f p) end after × (end ≤ at + 48)
@@ -68,6 +71,6 @@ unfolding lineAt
 entry-text f out mid after p x at to end ex w v = (rw (← ex) (more out at (fieldsAt f p) to mid (w .0) (chunkText f x) end after (v .0)), omega (arith, w .1, v .1))
 
 -- the line is the definition's
-pub line-is : (f : List ℕ) (p : ℕ) → lineAt f p ≡ entryLine (usageAt f p) (numberAt f p) (startAt f p) (rd32 (drop (startAt f p) f)) (rd32 (drop (startAt f p + 4) f))
+pub line-is : (f : List ℕ) (p : ℕ) → lineAt f p ≡ entryLine (usageAt f p) (numberAt f p) (startAt f p) (rd32 (drop (startAt f p) f)) (givenSize f (startAt f p))
 unfolding lineAt fieldsAt chunkText entryLine
 line-is f p = simp append-assoc

@@ -1,11 +1,12 @@
--- 01's sample files: what the lister prints of them, computed.
+-- 01's sample files, and one of 02's P3: what the lister prints of them, computed.
 use mathlib.Core.Path.{_≡_, refl}
 use Prim.Native.Nat.{ℕ}
 use mathlib.Core.List.{List, [], _∷_, _++_}
 use lib.ListN.{set}
 use Rattle.blorb.specs.Bytes.{be32, rd32}
 use Rattle.blorb.specs.Format.{refOf, Chunk, size, sized, total, chunkBytes, chunksBytes, fileBytes, chunkIn, chunksIn, chunksOf, entryIn, entriesIn, entryBytes, entriesBytes, indexChunk, entriesOf, isStart, placeOf}
-use Rattle.blorb.specs.Tags.{tag, Pict, Data, Rect}
+use Rattle.blorb.specs.Lookup.{leftOut}
+use Rattle.blorb.specs.Tags.{tag, FORM, Pict, Snd, Data, Rect}
 use Rattle.blorb.specs.Verdict.{headFault, _then_, check, verdict, reading, chunkFault, walkFault, secondIndex, indexFault, refFault, entriesFault, restFault, layoutFault, pairIn, lastPlace}
 use Rattle.blorb.specs.Rules.{plainAllows, allows, adriftAllows, optional, profileVerdict, oneOf, picture, typeIn, single, chunkRule, chunkRules}
 use Rattle.reader.specs.Reading.{readOf, indexOf, lookupOf}
@@ -14,7 +15,7 @@ use Rattle.listing.specs.Text.{text, decimal}
 use Rattle.listing.specs.Listing.{headLine, refusedLine, entryLine, linesOf, listingOf}
 
 computed : ℕ
-unfolding listingOf linesOf headLine refusedLine entryLine decimal readOf indexOf lookupOf hitIn refOf profileVerdict reading plainAllows adriftAllows allows optional oneOf picture typeIn single chunkRule chunkRules headFault verdict _then_ check chunkFault walkFault secondIndex indexFault refFault entriesFault restFault layoutFault pairIn lastPlace rd32 be32 chunksOf chunksIn chunkIn sized size total entriesOf entriesIn entryIn isStart placeOf fileBytes chunkBytes chunksBytes indexChunk entriesBytes entryBytes
+unfolding listingOf linesOf headLine refusedLine entryLine decimal readOf indexOf lookupOf leftOut hitIn refOf profileVerdict reading plainAllows adriftAllows allows optional oneOf picture typeIn single chunkRule chunkRules headFault verdict _then_ check chunkFault walkFault secondIndex indexFault refFault entriesFault restFault layoutFault pairIn lastPlace rd32 be32 chunksOf chunksIn chunkIn sized size total entriesOf entriesIn entryIn isStart placeOf fileBytes chunkBytes chunksBytes indexChunk entriesBytes entryBytes
 computed = 0
 
 eel : Chunk
@@ -48,3 +49,12 @@ lists-B = refl
 lists-blank : listingOf (fileBytes (indexChunk [] ∷ [])) ≡ text "blorb 24 bytes 0 resources\n"
 unfolding computed
 lists-blank = refl
+
+-- an AIFF of 13 bytes: "The lister prints the length of what a lookup gives" (02, P3); the number after `at` is the entry's start
+aiff : Chunk
+aiff = record { type = FORM; body = text "AIFFx" }
+
+lists-aiff : listingOf (fileBytes (indexChunk (record { usage = Snd; number = 3; start = 36 } ∷ []) ∷ (aiff ∷ [])))
+    ≡ text "blorb 50 bytes 1 resources\nSnd  3 at 36 FORM 13\n"
+unfolding computed aiff
+lists-aiff = refl

@@ -11,6 +11,7 @@ use lib.Dec.{ltb}
 use borrow.Author.Tests.{lt-ltb, ltb-false}
 use Rattle.blorb.specs.Bytes.{rd32, Byte}
 use Rattle.blorb.specs.All.{All}
+use Rattle.blorb.specs.Lookup.{leftOut}
 use Rattle.blorb.proofs.AllLaws.{all-drop}
 use Rattle.blorb.proofs.ByteLaws.{length-be32}
 use Rattle.blorb.proofs.Accept.{rd32-small}
@@ -22,7 +23,7 @@ use Rattle.reader.proofs.Promises.{accepted-is, counted}
 use Rattle.listing.specs.Text.{text, digit, lastDigit, digitsOf, decimal}
 use Rattle.listing.specs.Listing.{headLine, refusedLine, linesOf, listingBy, listingOf, pickReading, inputReading, inputListing, roomBy, roomFor, inputRoom}
 use Rattle.listing.specs.InPlace.{fieldsAt, chunkText, lineAt}
-use Rattle.listing.proofs.TextLaws.{tenth, decimal-20, decimal-10}
+use Rattle.listing.proofs.TextLaws.{tenth, decimal-20, decimal-10, decimal-size}
 use Rattle.listing.proofs.ListLaws.{lines-on}
 
 -- the number that digits print, behind the number that those before them do
@@ -92,12 +93,18 @@ unfolding refusedLine
 refused-room number place = simp length-append (omega (arith, decimal-20 number, decimal-20 place))
 
 module _ (f : List ℕ) (bytes : All Byte f) where
+  small : (p : ℕ) → rd32 (drop p f) < 2 ^ 32
+  small p = rd32-small (drop p f) (all-drop Byte p f bytes)
+
   digits : (p : ℕ) → length (decimal (rd32 (drop p f))) ≤ 10
-  digits p = decimal-10 (rd32 (drop p f)) (rd32-small (drop p f) (all-drop Byte p f bytes))
+  digits p = decimal-10 (rd32 (drop p f)) (small p)
 
   line-room : (p : ℕ) → length (lineAt f p) ≤ 48
   unfolding lineAt fieldsAt chunkText
-  line-room p = simp (length-append, length-be32) (omega (arith, digits (p + 4), digits (p + 8), digits (startAt f p + 4)))
+  line-room p =
+      simp (length-append, length-be32)
+      (omega
+      (arith, digits (p + 4), digits (p + 8), decimal-size (rd32 (drop (startAt f p + 4) f)) (leftOut (rd32 (drop (startAt f p) f))) (small (startAt f p + 4))))
 
   lines-room : (l count : ℕ) → readOf 0 f ≡ Accepted l count → (i : ℕ) → i ≤ count → length (linesOf f (take i (indexOf f))) ≤ 48 * i
   unfolding linesOf

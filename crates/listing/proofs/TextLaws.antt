@@ -1,6 +1,6 @@
 -- Numbers in decimal: one digit more, how many there are, and what they mean.
 use mathlib.Core.Path.{_≡_, refl, ap, _∙_}
-use Prim.Native.Nat.{ℕ, zero, suc, _+_, _*_, _/_, _%_, _^_, _≤_, _<_}
+use Prim.Native.Nat.{ℕ, zero, suc, _+_, _*_, _-_, _/_, _%_, _^_, _≤_, _<_}
 use mathlib.Core.List.{List, [], _∷_, _++_}
 use mathlib.Core.Bool.{Bool, true, false}
 use native.Mathlib.Omega.{arith}
@@ -58,6 +58,11 @@ decimal-20 n = no-more 20 n
 pub decimal-10 : (n : ℕ) → n < 2 ^ 32 → length (decimal n) ≤ 10
 unfolding decimal
 decimal-10 n h = few 20 9 n (omega arith)
+
+-- the length of a chunk with its header, or without
+pub decimal-size : (m k : ℕ) → m < 2 ^ 32 → length (decimal (8 + m - k)) ≤ 10
+unfolding decimal
+decimal-size m k h = few 20 9 (8 + m - k) (omega arith)
 
 -- room for a number is room for its last digit, and for the digits before it
 pub room-one : (n at l : ℕ) → n < 10 → at + length (decimal n) ≤ l → at < l

@@ -28,7 +28,8 @@ unfoldable pub entryLine : ℕ → ℕ → ℕ → ℕ → ℕ → List ℕ
 entryLine usage number start type size =
     be32 usage ++ text " " ++ decimal number ++ text " at " ++ decimal start ++ text " " ++ be32 type ++ text " " ++ decimal size ++ text "\n"
 
--- an entry's line: type and length are what a lookup of its usage and number gives. An accepted file's entries are all found (reader/proofs/Promises, entry-at).
+-- an entry's line: type and length are what a lookup of its usage and number gives ("The lister prints the length of what a lookup gives", 02, P3),
+-- the number after `at` is the entry's start. An accepted file's entries are all found (reader/proofs/Promises, entry-at).
 abbrev pub lineBy : Entry → Looked → List ℕ
 lineBy e (Found type start size) = entryLine (e .usage) (e .number) (e .start) type size
 lineBy e (Missing number place) = []

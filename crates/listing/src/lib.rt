@@ -75,12 +75,13 @@ fn put_fields(out: &mut [u8], at: usize, file: &[u8], p: usize) -> usize
     put_number(out, to2, b" at ", start)
 }
 
-// Type and length of the chunk at `start`, and the line's end.
+// Type of the chunk at `start`, the length of what a lookup gives of it, and the line's end.
 fn put_chunk(out: &mut [u8], at: usize, file: &[u8], start: usize) -> usize
     requires { ⌜ (start + 8 ≤ length (now file)) × (at + 17 ≤ length (now out)) ⌝ }
     ensures { λ r. ⌜ Wrote (now (out .entry)) at (chunkText (now (file .entry)) start) r (now (out .exit)) × (r ≤ at + 17) ⌝ }
 {
-    let length = blorb::be32_at(file, start + 4);
+    let kind = blorb::be32_at(file, start) as u32;
+    let length = 8 + blorb::be32_at(file, start + 4) - blorb::left_out(kind) as u64;
     let to1 = put_text(out, at, b" ");
     let to2 = put_tag(out, to1, file, start);
     let to3 = put_number(out, to2, b" ", length);

@@ -1,6 +1,6 @@
 -- What an accepted file's entries and lookups give.
 use mathlib.Core.Path.{_≡_, refl, sym, ap, _∙_}
-use Prim.Native.Nat.{ℕ, zero, suc, _+_, _≤_, _<_}
+use Prim.Native.Nat.{ℕ, zero, suc, _+_, _-_, _≤_, _<_}
 use mathlib.Core.List.{List, [], _∷_, _++_}
 use mathlib.Core.Bool.{true, false}
 use native.Mathlib.Omega.{arith}
@@ -16,6 +16,8 @@ use Rattle.chunks.specs.Walk.{chunkFrom, skipAt, chunksFrom}
 use Rattle.blorb.proofs.Checks.{then-accept, check-accept}
 use Rattle.chunks.proofs.ChunkLaws.{fine}
 use Rattle.blorb.proofs.UsageLaws.{known-not}
+use Rattle.blorb.specs.Lookup.{leftOut}
+use Rattle.blorb.proofs.ShownLaws.{left-most}
 use Rattle.index.specs.Entries.{usageAt, numberAt, startAt, place, earlier}
 use Rattle.blorb.specs.Usages.{usageOf}
 use Rattle.blorb.specs.declared.Usage.{Usage}
@@ -118,21 +120,22 @@ module _ (profile : ℕ) (f : List ℕ) (u n : ℕ) where
     pub look-22 : hitIn u n (entriesIn count (drop 24 f)) ≡ Nothing → Missing 22 0 ≡ lookupOf profile f u n
     look-22 e = sym (look-on ∙ rw e)
 
-    pub look-found : (x t m : ℕ) → hitIn u n (entriesIn count (drop 24 f)) ≡ At x → t ≡ rd32 (drop x f) → m ≡ rd32 (drop (x + 4) f) → Found t (x + 8) m ≡ lookupOf profile f u n
+    pub look-found : (x t m k : ℕ) → hitIn u n (entriesIn count (drop 24 f)) ≡ At x → t ≡ rd32 (drop x f) → m ≡ rd32 (drop (x + 4) f) → k ≡ leftOut t
+        → Found t (x + k) (8 + m - k) ≡ lookupOf profile f u n
     unfolding chunkIn
-    look-found x t m e et em =
+    look-found x t m k e et em ek =
         let b = hit-begun f count u n x (g .passed .judged) e in
         let l : length (chunkFrom f x .body) ≡ m = fine f x (b .0) (b .1) .bodied ∙ sym em in
-        sym (look-on ∙ rw (e, l, ← et))
+        sym (look-on ∙ rw (e, l, ← et, ← ek))
 
 -- the part that a lookup names lies in the file
 part-go : (profile : ℕ) (f : List ℕ) (u n count t a m : ℕ) (g : Good profile f count) (x : Hit) → hitIn u n (entriesIn count (drop 24 f)) ≡ x → foundBy f x ≡ Found t a m → a + m ≤ length f
 part-go profile f u n count t a m g (At x) e q =
     let b = hit-begun f count u n x (g .passed .judged) e in
     let i = fine f x (b .0) (b .1) in
-    let ea : x + 8 ≡ a = cc in
-    let em : length (chunkFrom f x .body) ≡ m = cc in
-    omega (arith, i .inside, i .next, i .bodied)
+    let ea : x + leftOut (chunkFrom f x .type) ≡ a = cc in
+    let em : 8 + length (chunkFrom f x .body) - leftOut (chunkFrom f x .type) ≡ m = cc in
+    omega (arith, left-most (chunkFrom f x .type), i .inside, i .next, i .bodied)
 part-go profile f u n count t a m g Nothing e q = let z : _≡_ {A = ℕ} 0 1 = cc in absurd (omega arith)
 
 look-go : (profile : ℕ) (f : List ℕ) (u n t a m : ℕ) (v : Verdict) → profileVerdict profile f ≡ v → lookedBy v (foundBy f (hitIn u n (indexOf f))) ≡ Found t a m → a + m ≤ length f

@@ -1,32 +1,35 @@
 -- The lookup of an accepted file and the lookup over its model.
 use mathlib.Core.Path.{_≡_, refl, sym, ap, _∙_}
-use Prim.Native.Nat.{ℕ, zero, suc, _+_, _≤_, _<_}
+use Prim.Native.Nat.{ℕ, zero, suc, _+_, _-_, _≤_, _<_}
 use mathlib.Core.List.{List, [], _∷_, _++_}
 use mathlib.Core.Bool.{Bool, true, false, cond, _&&_, _||_}
 use native.Mathlib.Omega.{arith}
 use native.Mathlib.Nat.{not-suc-le-zero, le-of-suc-le-suc}
-use lib.ListN.{length, getD, take, drop}
+use lib.ListN.{length, getD, drop, length-drop}
 use lib.Seq.{drop-drop}
 use lib.Dec.{eqb, ltb}
 use borrow.Author.Tests.{eq-eqb, lt-ltb, le-ltb, ltb-true, ltb-false}
-use Rattle.blorb.specs.Bytes.{rd32}
+use Rattle.blorb.specs.All.{All}
+use Rattle.blorb.specs.Bytes.{rd32, Byte}
 use Rattle.blorb.specs.Format.{Entry, Ref, refOf, Chunk, chunkIn, entriesIn, placeOf}
 use Rattle.blorb.specs.Verdict.{Rules, accept, noChunk, entriesFault, pairIn}
 use Rattle.blorb.specs.Rules.{profileVerdict}
 use Rattle.blorb.specs.Model.{Model, base, model}
 use Rattle.blorb.specs.Queries.{find, noRef, refAt, start}
-use Rattle.blorb.specs.Lookup.{missing, here, lookIn, lookup}
+use Rattle.blorb.specs.Lookup.{missing, here, lookIn, lookup, leftOut, shown}
+use Rattle.blorb.proofs.AllLaws.{all-drop}
 use Rattle.blorb.proofs.Places.{startOf-placeOf}
+use Rattle.blorb.proofs.ShownLaws.{left-most, shown-in}
 use Rattle.chunks.specs.Walk.{chunkFrom, chunksFrom, walkFrom}
 use Rattle.index.specs.Entries.{startAt, place, pairPlace}
-use Rattle.reader.specs.Reading.{foundBy, lookupOf, partOf}
+use Rattle.reader.specs.Reading.{foundAt, foundBy, lookupOf, partOf}
 use Rattle.index.specs.Hits.{hitIn}
 use Rattle.index.specs.declared.entries.Hit.the-variants.{At}
 use Rattle.reader.specs.declared.Looked.{Looked}
-use Rattle.reader.specs.declared.Looked.the-variants.{Found, Refused as Missing}
+use Rattle.reader.specs.declared.Looked.the-variants.{Refused as Missing}
 use Rattle.chunks.proofs.ChunkLaws.{fine, neither}
 use Rattle.index.proofs.EntryLaws.{pair-snoc}
-use Rattle.index.proofs.IndexLaws.{find-at, find-none, first-entry}
+use Rattle.index.proofs.IndexLaws.{drop-take, find-at, find-none, first-entry}
 use Rattle.reader.proofs.AskLaws.{good, look-on}
 use Rattle.reader.proofs.PartLaws.{refs-count, entry-begun, begins-there, chunk-of, find-pair}
 
@@ -67,15 +70,22 @@ pair-found u n (r ∷ rs) = go (eqb (r .usage) u && eqb (r .number) n) (pair-fou
     go true ih = sym (lt-ltb 0 (suc (length rs)) (omega arith))
     go false ih = ih ∙ sym (ltb-suc (find u n rs) (length rs))
 
--- the data of the chunk at x
-pub body-at : (f : List ℕ) (x m : ℕ) → m ≡ rd32 (drop (x + 4) f) → take m (drop (x + 8) f) ≡ chunkFrom f x .body
+-- the part that a lookup names of the chunk at x, as what is shown of the chunk
+pub part-at : (f : List ℕ) (x : ℕ) → x < length f → walkFrom f x ≡ accept → All Byte f → partOf (foundAt (chunkFrom f x) x) f ≡ shown (chunkFrom f x)
 unfolding chunkIn
-body-at f x m e = rw (e, drop-drop 4 x f, drop-drop 8 x f)
+part-at f x below walks bytes =
+    let i = fine f x below walks in
+    let c : Chunk = chunkFrom f x in
+    let k : ℕ = leftOut (c .type) in
+    let e : length (c .body) ≡ rd32 (drop 4 (drop x f)) = i .bodied ∙ ap rd32 (sym (drop-drop 4 x f)) in
+    let q : 8 + length (c .body) ≡ k + (8 + length (c .body) - k) = omega (arith, left-most (c .type)) in
+    rw (← drop-drop k x f) (sym (drop-take k _ _ (drop x f) q))
+    ∙ sym (shown-in (drop x f) (length (c .body)) e (all-drop Byte x f bytes) (simp length-drop (omega (arith, i .inside, i .next, i .bodied))))
 
 -- a lookup finds the chunk that starts at x, or nothing
 pub record There (profile : ℕ) (f : List ℕ) (u n x : ℕ) : Type 0 where
-  pub found : lookupOf profile f u n ≡ Found (chunkFrom f x .type) (x + 8) (length (chunkFrom f x .body))
-  pub part : partOf (lookupOf profile f u n) f ≡ chunkFrom f x .body
+  pub found : lookupOf profile f u n ≡ foundAt (chunkFrom f x) x
+  pub part : All Byte f → partOf (lookupOf profile f u n) f ≡ shown (chunkFrom f x)
   pub looked : lookup (model f) u n ≡ here (chunkFrom f x)
   pub begins : start (model f) (refAt (model f) (find u n (model f .refs)) .chunk) ≡ x
   pub pair : pairIn u n (model f .refs) ≡ true
@@ -102,14 +112,14 @@ module _ (profile : ℕ) (f : List ℕ) (u n : ℕ) (h : profileVerdict profile 
       let count : ℕ = rd32 (drop 20 f) in
       let x : ℕ = startAt f (place at-place) in
       let b = entry-begun f count at-place (g .passed) l in
-      let found : lookupOf profile f u n ≡ Found (chunkFrom f x .type) (x + 8) (length (chunkFrom f x .body))
+      let found : lookupOf profile f u n ≡ foundAt (chunkFrom f x) x
       = look-on profile f u n count g ∙ ap (foundBy f) (sym (find-at f u n count at-place refl l x refl)) in
       let r : find u n (model f .refs) < length (model f .refs) = rw (find-is, many-is) l in
       let k : refAt (model f) (find u n (model f .refs)) .chunk ≡ placeOf x (place count) (chunksFrom f (place count)) = rw (find-is, g .model) (chunk-of f count at-place (g .passed) l) in
       let cs : model f .chunks ≡ chunksFrom f (place count) = ap (λ (m : Model). m .chunks) (g .model) in
       record {
         found = found;
-        part = ap (λ (a : Looked). partOf a f) found ∙ body-at f x (length (chunkFrom f x .body)) (fine f x (b .below) (b .walks) .bodied);
+        part = λ bytes. ap (λ (a : Looked). partOf a f) found ∙ part-at f x (b .below) (b .walks) bytes;
         looked = look-at (model f .chunks) u n (model f .refs) r ∙ rw (k, cs) (ap here (b .chunk));
         begins = rw (k, cs, many-is) (startOf-placeOf x (place count) (chunksFrom f (place count)) (begins-there f count at-place (g .passed) l) .0);
         pair = pair-found u n (model f .refs) ∙ lt-ltb _ _ r;

@@ -1,6 +1,6 @@
 -- What the reader promises to whoever stands above it: laws over the definitions and the public contracts.
 use mathlib.Core.Path.{_≡_, refl, sym, ap, _∙_}
-use Prim.Native.Nat.{ℕ, _+_, _≤_, _<_}
+use Prim.Native.Nat.{ℕ, _+_, _-_, _≤_, _<_}
 use mathlib.Core.List.{List, [], map}
 use mathlib.Core.Bool.{false}
 use native.Mathlib.Omega.{arith}
@@ -14,7 +14,7 @@ use Rattle.blorb.proofs.Checks.{pass, stop, refuses}
 use Rattle.blorb.specs.Rules.{rulesOf, profileVerdict}
 use Rattle.blorb.specs.Model.{base, entryOf, file, model}
 use Rattle.blorb.specs.Queries.{find, refAt, start}
-use Rattle.blorb.specs.Lookup.{missing, here, lookup}
+use Rattle.blorb.specs.Lookup.{missing, here, lookup, leftOut, shown}
 use Rattle.blorb.specs.declared.Usage.{Usage}
 use Rattle.blorb.specs.All.{All}
 use Rattle.blorb.specs.Sound.{Sound}
@@ -27,7 +27,7 @@ use Rattle.chunks.specs.Walk.{chunkFrom, chunksFrom}
 use Rattle.index.specs.Entries.{usageAt, numberAt, startAt, place}
 use Rattle.index.specs.Optional.{EntriesPassed}
 use Rattle.reader.specs.Passed.{modelAt}
-use Rattle.reader.specs.Reading.{indexOf, readOf, noEntry, askedOf, lookupOf, partOf}
+use Rattle.reader.specs.Reading.{indexOf, readOf, noEntry, askedOf, foundAt, lookupOf, partOf}
 use Rattle.index.specs.Hits.{hitIn}
 use Rattle.reader.specs.Inspecting.{inspectionOf}
 use Rattle.reader.specs.declared.Inspection.the-variants as inspection
@@ -41,7 +41,7 @@ use Rattle.chunks.proofs.StartLaws.{begun}
 use Rattle.index.proofs.IndexLaws.{entry-getD, hit-start, hit-begun}
 use Rattle.reader.proofs.AskLaws.{good, accepted, look-found, read-go, refused, refused-as, known-at, not-unknown, given-as}
 use Rattle.reader.proofs.PartLaws.{refs-count, starts, unknown-profile}
-use Rattle.reader.proofs.LookLaws.{body-at, either, only-hit}
+use Rattle.reader.proofs.LookLaws.{part-at, either, only-hit}
 
 -- the reading of an accepted file: its length and the number of its model's entries; both within the limits
 pub accepted-is : (profile : ℕ) (f : List ℕ) (l n : ℕ) → readOf profile f ≡ Accepted l n
@@ -102,7 +102,8 @@ pub record EntryAt (profile : ℕ) (f : List ℕ) (i : ℕ) : Type 0 where
   pub inside : place i + 12 ≤ length f
   pub chunk : startAt f (place i) + 8 ≤ length f
   pub found : lookupOf profile f (usageAt f (place i)) (numberAt f (place i))
-      ≡ Found (rd32 (drop (startAt f (place i)) f)) (startAt f (place i) + 8) (rd32 (drop (startAt f (place i) + 4) f))
+      ≡ Found (rd32 (drop (startAt f (place i)) f)) (startAt f (place i) + leftOut (rd32 (drop (startAt f (place i)) f)))
+      (8 + rd32 (drop (startAt f (place i) + 4) f) - leftOut (rd32 (drop (startAt f (place i)) f)))
 
 fields : (f : List ℕ) (p : ℕ) → entryIn (drop p f) ≡ record { usage = usageAt f p; number = numberAt f p; start = startAt f p }
 unfolding entryIn
@@ -124,7 +125,7 @@ entry-at profile f l n i e h =
       listed = listed;
       inside = omega (arith, j .room);
       chunk = fine f x (b .0) (b .1) .header;
-      found = sym (look-found profile f u k n g x _ _ there refl refl);
+      found = sym (look-found profile f u k n g x _ _ _ there refl refl refl);
     }
 
 -- the index's entries are the model's
@@ -146,9 +147,9 @@ entry-given profile f i h l =
     let k = not-unknown (getD (indexOf f) i noEntry .usage) _ refl (known-at (g .passed .judged .rules) f (place (rd32 (drop 20 f))) (indexOf f) [] 24 i noEntry es l) in
     (k .0, given-as profile f i h l (k .0) (k .1))
 
--- an entry of the index with the pair (u, n) and the start x: the lookup gives the chunk at x, and the part is that chunk's data
+-- an entry of the index with the pair (u, n) and the start x: the lookup gives the chunk at x, and the part is what is shown of that chunk
 pub lookup-found : (profile : ℕ) (f : List ℕ) (u n i x : ℕ) → profileVerdict profile f ≡ accept → i < length (indexOf f) → getD (indexOf f) i noEntry ≡ record { usage = u; number = n; start = x }
-    → (lookupOf profile f u n ≡ Found (chunkFrom f x .type) (x + 8) (length (chunkFrom f x .body))) × (partOf (lookupOf profile f u n) f ≡ chunkFrom f x .body)
+    → (lookupOf profile f u n ≡ foundAt (chunkFrom f x) x) × (All Byte f → partOf (lookupOf profile f u n) f ≡ shown (chunkFrom f x))
 unfolding lookupOf
 lookup-found profile f u n i x h l e =
     let g = good profile f h in
@@ -157,15 +158,18 @@ lookup-found profile f u n i x h l e =
     let es : entriesFault (j .rules) (place count) (chunksFrom f (place count)) [] 24 (indexOf f) ≡ accept = rw (g .index) (j .entries) in
     let a : hitIn u n (indexOf f) ≡ At x = rw e at (only-hit (j .rules) f (place count) (j .walks) (indexOf f) [] 24 i noEntry es l) in
     let b = begun f x (place count) (j .walks) (hit-start (j .rules) f (place count) (j .walks) u n x (indexOf f) [] 24 es a) in
-    let found : lookupOf profile f u n ≡ Found (chunkFrom f x .type) (x + 8) (length (chunkFrom f x .body)) = rw (h, a) in
-    (found, ap (λ (r : Looked). partOf r f) found ∙ body-at f x (length (chunkFrom f x .body)) (fine f x (b .below) (b .walks) .bodied))
+    let found : lookupOf profile f u n ≡ foundAt (chunkFrom f x) x = rw (h, a) in
+    (found, λ bytes. ap (λ (r : Looked). partOf r f) found ∙ part-at f x (b .below) (b .walks) bytes)
 
--- a lookup over the model finds the chunk c: the reader's lookup gives its type, where its data starts and how long it is, and the part is its data
+-- a lookup over the model finds the chunk c: the reader's lookup gives its type, where what is shown of it starts and how long that is, and the part
+-- is what is shown of it
 pub lookup-here : (profile : ℕ) (f : List ℕ) (u n : ℕ) → profileVerdict profile f ≡ accept → (c : Chunk) → lookup (model f) u n ≡ here c
-    → (lookupOf profile f u n ≡ Found (c .type) (start (model f) (refAt (model f) (find u n (model f .refs)) .chunk) + 8) (length (c .body))) × (partOf (lookupOf profile f u n) f ≡ c .body)
+    → (lookupOf profile f u n ≡ foundAt c (start (model f) (refAt (model f) (find u n (model f .refs)) .chunk)))
+    × (All Byte f → partOf (lookupOf profile f u n) f ≡ shown c)
 lookup-here profile f u n h c e =
-    either profile f u n h ((lookupOf profile f u n ≡ Found (c .type) (start (model f) (refAt (model f) (find u n (model f .refs)) .chunk) + 8) (length (c .body))) × (partOf (lookupOf profile f u n) f ≡ c .body))
-    (λ x t. let q : chunkFrom f x ≡ c = cc (t .looked, e) in (rw (t .begins, ← q) (t .found), t .part ∙ ap (λ (k : Chunk). k .body) q))
+    either profile f u n h
+    ((lookupOf profile f u n ≡ foundAt c (start (model f) (refAt (model f) (find u n (model f .refs)) .chunk))) × (All Byte f → partOf (lookupOf profile f u n) f ≡ shown c))
+    (λ x t. let q : chunkFrom f x ≡ c = cc (t .looked, e) in (rw (t .begins, ← q) (t .found), λ bytes. t .part bytes ∙ ap shown q))
     (λ a. let z : _≡_ {A = ℕ} 0 1 = cc (a .looked, e) in absurd (omega arith))
 
 -- it finds nothing: the reader's lookup is refused with 22

@@ -1,5 +1,5 @@
 -- What the reader answers (01, Found resources), as functions of the profile (02, P12) and the file's bytes.
-use Prim.Native.Nat.{ℕ, _+_}
+use Prim.Native.Nat.{ℕ, _+_, _-_}
 use mathlib.Core.List.{List, [], _∷_}
 use mathlib.Core.Bool.{Bool, true, false, _&&_}
 use lib.ListN.{length, getD, take, drop}
@@ -8,6 +8,7 @@ use Rattle.blorb.specs.Format as format
 use Rattle.blorb.specs.Format.{chunksOf, entriesOf}
 use Rattle.blorb.specs.Verdict.{Verdict, accept, refuse, noChunk}
 use Rattle.blorb.specs.Rules.{profileVerdict}
+use Rattle.blorb.specs.Lookup.{leftOut}
 use Rattle.chunks.specs.Walk.{chunkFrom}
 use Rattle.blorb.specs.declared.Known.{Known}
 use Rattle.blorb.specs.declared.Known.the-variants.{Is, Unknown}
@@ -56,16 +57,20 @@ askedBy (refuse k p) es i = Withheld k p
 unfoldable pub askedOf : (profile : ℕ) → List ℕ → ℕ → Asked
 askedOf profile f i = askedBy (profileVerdict profile f) (indexOf f) i
 
--- the chunk that begins at x: its type, and where its data is
+-- what a lookup gives of the chunk c that begins at x: its type, and where the part begins and how long it is. "A lookup of type 'FORM' gives the
+-- whole chunk, header included and padding not" (02, P3), of other types the data (01)
+abbrev pub foundAt : format.Chunk → ℕ → Looked
+foundAt c x = Found (c .type) (x + leftOut (c .type)) (8 + length (c .body) - leftOut (c .type))
+
 abbrev pub foundBy : List ℕ → Hit → Looked
-foundBy f (At x) = Found (chunkFrom f x .type) (x + 8) (length (chunkFrom f x .body))
+foundBy f (At x) = foundAt (chunkFrom f x) x
 foundBy f Nothing = Missing 22 0
 
 abbrev pub lookedBy : Verdict → Looked → Looked
 lookedBy accept l = l
 lookedBy (refuse k p) l = Missing k p
 
--- "A lookup gives the chunk's type and the part of the caller's slice that is its data"; "Lookup: reader's number, 22"
+-- "A lookup gives the chunk's type and the part of the caller's slice that is its data", or the whole chunk; "Lookup: reader's number, 22"
 unfoldable pub lookupOf : (profile : ℕ) → List ℕ → ℕ → ℕ → Looked
 lookupOf profile f u n = lookedBy (profileVerdict profile f) (foundBy f (hitIn u n (indexOf f)))
 

@@ -199,7 +199,7 @@ fn code(usage: [u8; 4]) -> u64
     blorb::be32_at(&usage, 0)
 }
 
-// The chunk of the entry (usage, number): its type, and where its data is.
+// The chunk of the entry (usage, number): its type, and where what a lookup gives of it is.
 pub fn lookup(file: &[u8], profile: u32, usage: [u8; 4], number: u32) -> Looked
     ensures { λ r. ⌜ r ≡ lookupOf profile (now (file .entry)) (rd32 usage) number ⌝ }
 {
@@ -213,10 +213,13 @@ pub fn lookup(file: &[u8], profile: u32, usage: [u8; 4], number: u32) -> Looked
                 };
             };
             let kind = blorb::be32_at(file, at) as u32;
-            let length = blorb::be32_at(file, at + 4) as usize;
+            let m = blorb::be32_at(file, at + 4) as usize;
+            let skipped = blorb::left_out(kind);
+            let start = at + skipped;
+            let length = 8 + m - skipped;
             Looked::Found {
                 kind,
-                start: at + 8,
+                start,
                 length,
             }
         }

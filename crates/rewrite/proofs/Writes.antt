@@ -12,7 +12,6 @@ use Rattle.blorb.specs.Bytes.{be32, rd32}
 use Rattle.blorb.proofs.ByteLaws.{length-be32, rd32-be32}
 use Rattle.blorb.specs.Format.{Chunk, chunkOf, Entry, size, sized, entryBytes, entriesBytes, chunkBytes, chunksBytes, total}
 use Rattle.blorb.specs.Model.{Model, base, file}
-use Rattle.edits.specs.Edit.{givenChunk}
 use Rattle.blorb.proofs.ModelLaws.{length-file}
 use Rattle.blorb.specs.All.{All}
 use Rattle.blorb.proofs.Codec.{EntryOk}

@@ -3,7 +3,7 @@ use Prim.Native.Nat.{ℕ}
 use mathlib.Core.List.{List, [], _∷_, _++_}
 use lib.ListN.{take, drop, set}
 use Rattle.blorb.specs.Bytes.{be32}
-use Rattle.blorb.specs.Tags.{Data, Pict, Fspc, GIF}
+use Rattle.blorb.specs.Tags.{FORM, IFRS, RIdx, Data, Pict, Snd, Fspc, GIF, AIFF}
 
 -- 'FORM' 16 'IFRS' 'RIdx' 4 0
 abbrev pub blank : List ℕ
@@ -79,3 +79,11 @@ kindOf u t = take 24 A ++ (be32 u ++ (take 8 (drop 28 A) ++ (be32 t ++ drop 40 A
 -- and with a frontispiece behind it, which names Pict 7
 abbrev pub fronted : List ℕ
 fronted = set (kindOf Pict GIF) 7 52 ++ (be32 Fspc ++ (be32 4 ++ be32 7))
+
+-- 02, P3. A whole AIFF file of 13 bytes
+abbrev pub aiff : List ℕ
+aiff = be32 FORM ++ (be32 5 ++ (be32 AIFF ++ (120 ∷ [])))
+
+-- the file that has it as Snd 3: 50 bytes, its chunk with a padding byte
+abbrev pub sound : List ℕ
+sound = be32 FORM ++ (be32 42 ++ (be32 IFRS ++ (be32 RIdx ++ (be32 16 ++ (be32 1 ++ (entry Snd 3 36 ++ (aiff ++ (0 ∷ []))))))))

@@ -3,7 +3,7 @@ use mathlib.Core.Path.{_≡_}
 use Prim.Native.Nat.{ℕ}
 use mathlib.Core.List.{List}
 use lib.ListN.{length}
-use Rattle.blorb.specs.Verdict.{accept}
+use Rattle.blorb.specs.Verdict.{accept, refuse}
 use Rattle.blorb.specs.Rules.{rulesOf}
 use Rattle.edits.specs.Edit.{Edit}
 use Rattle.edits.specs.Blank.{blanked}
@@ -22,6 +22,8 @@ pub data Row : Type 0 where
   looks : (profile : ℕ) → List ℕ → ℕ → ℕ → Looked → List ℕ → Row
   -- a file, an edit, the file after it and its journal record; both buffers have 100 bytes
   edits : (profile : ℕ) → List ℕ → Edit → List ℕ → List ℕ → Row
+  -- a file, an edit, and the number and place of its refusal; both buffers have 100 bytes
+  refuses : (profile : ℕ) → List ℕ → Edit → ℕ → ℕ → Row
   -- a file, the journal's used bytes and the file after an undo; both buffers have 100 bytes
   undoes : (profile : ℕ) → List ℕ → List ℕ → List ℕ → Row
   -- a buffer, and what it is after a blank file has been made in it
@@ -34,6 +36,7 @@ RowHolds (reads p f r) = readOf p f ≡ r
 RowHolds (asks p f i a) = askedOf p f i ≡ a
 RowHolds (looks p f u n a d) = (lookupOf p f u n ≡ a) × (partOf a f ≡ d)
 RowHolds (edits p f e g r) = (editFault (rulesOf p) 100 100 f (length f) 0 e ≡ accept) × (editedFile f e ≡ g) × (editRecord f e ≡ r)
+RowHolds (refuses p f e k q) = editFault (rulesOf p) 100 100 f (length f) 0 e ≡ refuse k q
 RowHolds (undoes p f j g) = (undoFault (rulesOf p) 100 100 f (length f) (length j) j ≡ accept) × (undoneFile f j ≡ g)
 RowHolds (blanks b c) = blanked b ≡ c
 RowHolds (runs p s cs ans t) = (answers (rulesOf p) s cs ≡ ans) × (run (rulesOf p) s cs ≡ t)

@@ -9,6 +9,7 @@ use lib.ListN.{length, getD, take, drop}
 use lib.Dec.{eqb, ltb, leb}
 use borrow.Author.Tests.{ltb-true, ltb-false, eqb-true}
 use Rattle.blorb.specs.Format.{Entry}
+use Rattle.blorb.specs.Lookup.{leftOut}
 use Rattle.rows.specs.Order.{isPair, sorted}
 use Rattle.rows.specs.Halving.{rowOf, halving, noRow, twoTo}
 use Rattle.table.specs.Answers.{searchOf, tableOf, roomFor, buildBy, buildOf, written, agree, acceptIf, checkBy, checkOf, startFrom}
@@ -20,6 +21,7 @@ use Rattle.blorb.specs.Rules.{profileVerdict}
 use Rattle.blorb.proofs.Checks.{and-both}
 use Rattle.reader.specs.Reading.{indexOf, readOf, lookupOf}
 use Rattle.index.specs.Hits.{hitIn}
+use Rattle.chunks.specs.Walk.{chunkFrom}
 use Rattle.reader.specs.declared.Reading.{Reading}
 use Rattle.reader.specs.declared.Reading.the-variants.{Accepted, Refused}
 use Rattle.index.specs.declared.entries.Hit.the-variants.{Nothing}
@@ -184,7 +186,8 @@ module _ (profile : ℕ) (f : List ℕ) (u n : ℕ) (h : profileVerdict profile 
       let m = mem-at noRow (indexOf f) (perm-mem (sorted-perm (indexOf f)) (at-mem noRow (tableOf f) (halving (tableOf f) u n .row) (a .there g))) in
       let e : getD (indexOf f) (m .0) noRow ≡ record { usage = u; number = n; start = r .start } = m .2 ∙ same-entry _ _ (p .0) (p .1) refl in
       let k = lookup-found profile f u n (m .0) (r .start) h (m .1) e .0 in
-      let s : r .start + 8 - 8 ≡ r .start = omega arith in
+      let t : ℕ = leftOut (chunkFrom f (r .start) .type) in
+      let s : r .start + t - t ≡ r .start = omega arith in
       rw k (ap found.At (sym s))
 
   search-nowhere : halving (tableOf f) u n .found ≡ false → found.Refused 22 0 ≡ startFrom (lookupOf profile f u n)

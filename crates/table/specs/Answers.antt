@@ -5,6 +5,7 @@ use mathlib.Core.Bool.{Bool, true, false, _&&_, cond}
 use lib.ListN.{length, drop}
 use lib.Dec.{eqb, leb}
 use Rattle.blorb.specs.Format.{Entry}
+use Rattle.blorb.specs.Lookup.{leftOut}
 use Rattle.reader.specs.Reading.{indexOf, readOf}
 use Rattle.reader.specs.declared.Reading.{Reading}
 use Rattle.reader.specs.declared.Reading.the-variants as reading
@@ -79,7 +80,7 @@ searchOf rows u n = record {
   probes = halving rows u n .probes;
 }
 
--- what a lookup tells of where the chunk starts: 8 bytes before its data
+-- what a lookup tells of where the chunk starts: before the part by what is left out of the chunk's front, its header, or nothing of a 'FORM' (02, P3)
 abbrev pub startFrom : Looked → Found
-startFrom (looked.Found kind start length) = found.At (start - 8)
+startFrom (looked.Found kind start length) = found.At (start - leftOut kind)
 startFrom (looked.Refused k p) = found.Refused k p

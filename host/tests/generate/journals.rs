@@ -1,7 +1,7 @@
 //! Journals for undo: from edits, written by hand, damaged, and random bytes.
 
 use super::{
-    data, edit_call, edit_content, entry_count, lend, number, other_value, room, set_number, suited, tags_of, tighten,
+    chunk_content, data, edit_call, entry_count, lend, number, other_value, room, set_number, suited, tags_of, tighten,
     unknown_usage, unsuited, valid, Rng,
 };
 use crate::reference::{self, Call, File, Record, State, Tag, USAGES};
@@ -138,7 +138,7 @@ fn miss(rng: &mut Rng, file: &File, record: &mut Record) {
         4 => record.start = rng.pick(&[0, 11, 12, 24, 36, record.start.wrapping_sub(12), file.length() as u32 + 12]),
         5 => record.start = other_value(rng, record.start),
         6 => (record.tag, record.data) = unsuited(rng, &record.usage),
-        7 => (record.tag, record.data) = edit_content(rng, &record.usage),
+        7 => (record.tag, record.data) = chunk_content(rng, &record.usage),
         8 => (record.usage, record.number) = existing.map_or((*b"Exec", 1), |entry| (entry.usage, entry.number)),
         9 => record.data = if record.data.is_empty() { vec![0; rng.between(1, 4)] } else { Vec::new() },
         10 => record.tag = if record.tag == [0; 4] { *b"TEXT" } else { [0; 4] },

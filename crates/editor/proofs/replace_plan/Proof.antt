@@ -1,192 +1,165 @@
+-- The plan goes by the order of the refusals: what opening tells, 22, 23, 30, what replace_fault judges, 24 and 25. What is known of the entry's chunk
+-- once it is found is said once.
 use native.Mathlib.Omega.{arith}
 use mathlib.Core.Path.{sym, _∙_}
 use lib.ListN.{take}
 use lib.Seq.{length-take-le}
 use denote.Ref.{now}
+use borrow.Author.Tests.{not-true, not-false}
 use Rattle.blorb.specs.Bytes.{Byte}
 use Rattle.blorb.proofs.Accept.{bytes-all}
 use Rattle.blorb.specs.All.{All}
 use Rattle.blorb.proofs.AllLaws.{all-take}
-use Rattle.editor.proofs.RemoveCall.{told, body-short}
-use Rattle.editor.proofs.ReplaceCall.{plan-unopened, plan-22, plan-23, inside, own, plan-refused, plan-fine}
+use Rattle.editor.proofs.RemoveCall.{Told, told, body-short}
+use Rattle.editor.proofs.ReplaceCall.{plan-unopened, plan-22, plan-23, plan-30, inside, own, plan-refused, plan-fine}
 use borrow.Author.Needs.{needs}
 use Rattle.editor.proofs.replace_plan.Statement.{statement}
 use Rattle.editor.proofs.replace_plan.Tie as tie
 
--- src/lib.rt:223:11
-opened-requires : tie.Need-opened-requires
-opened-requires c κs = search needs
+bytes : (c : tie.After-facts) → All Byte (take (c .before .before .before .before .before .args .len) (now
+    (c .before .before .before .before .before .args .buf)))
+bytes c =
+    let a = c .before .before .before .before .before .args in
+    all-take Byte (a .len) (now (a .buf)) (bytes-all (now (a .buf)) (λ i. omega (arith, c .before .before .before .before .shared-slice-known .given i)))
 
--- src/lib.rt:224:39
-enum-known-k : tie.Need-enum-known-k
-enum-known-k c = search needs
+-- the entry is found
+there : (c : tie.After-target) → let a = c .before .before .before .before .before .before .before .before .args in
+    Told (a .profile) (now (a .buf)) (a .len) (a .room) (a .used) (a .usage) (a .number)
+    (bytes (c .before .before .before)) (c .before .before .before .facts .given .0 .0) (c .target .given .0 .0)
+there c =
+    let o = c .before .before .before in
+    let a = c .before .before .before .before .before .before .before .before .args in
+    told (a .profile) (now (a .buf)) (a .len) (a .room) (a .used) (a .usage) (a .number) (bytes o) 0 (o .facts .given .0 .0) (sym
+    (o .before .before .opened .ensures) ∙ o .facts .given .1) (c .target .given .0 .0) (c .target .given .1)
 
--- src/lib.rt:225:27
-enum-known-facts : tie.Need-enum-known-facts
-enum-known-facts c = search needs
-
--- src/lib.rt:227:28
-enum-known-target : tie.Need-enum-known-target
-enum-known-target c = search needs
-
--- src/lib.rt:228:17
-enum-told : tie.Need-enum-told
-enum-told c = search needs
-
--- src/lib.rt:228:17
 returns : tie.Need-returns
 returns c =
-    let a = c .before .before .before .before .before .before .before .before .args in
-    let b = now (a .buf) in
-    let bytes : All Byte (take (a .len) b) = all-take Byte (a .len) b (bytes-all b (λ i. omega (arith, c .before .before .before .before .before .before .before .shared-slice-known .given i))) in
-    plan-22 (a .profile) b (a .len) (a .room) (a .used) (a .usage) (a .number) (a .kind) (now (a .d)) bytes 0 (c .before .before .before .facts .given .0 .0) (sym (c .before .before .before .before .before .opened .ensures) ∙ c .before .before .before .facts .given .1) (c .enum-told .given .1)
+    let o = c .before .before .before in
+    let a = o .before .before .before .before .before .args in
+    plan-22 (a .profile) (now (a .buf)) (a .len) (a .room) (a .used) (a .usage) (a .number) (a .kind) (now (a .d)) (bytes o) 0 (o .facts .given .0 .0) (sym
+    (o .before .before .opened .ensures) ∙ o .facts .given .1) (c .enum-told .given .1)
 
--- src/lib.rt:231:17
 returns-2 : tie.Need-returns-2
 returns-2 c =
-    let a = c .before .before .before .before .before .before .before .before .before .before .args in
-    let b = now (a .buf) in
-    let bytes : All Byte (take (a .len) b) = all-take Byte (a .len) b (bytes-all b (λ i. omega (arith, c .before .before .before .before .before .before .before .before .before .shared-slice-known .given i))) in
-    let w = told (a .profile) b (a .len) (a .room) (a .used) (a .usage) (a .number) bytes 0 (c .before .before .before .before .before .facts .given .0 .0) (sym (c .before .before .before .before .before .before .before .opened .ensures) ∙ c .before .before .before .before .before .facts .given .1) (c .before .before .target .given .0 .0) (c .before .before .target .given .1) in
-    plan-23 (a .profile) b (a .len) (a .room) (a .used) (a .usage) (a .number) (a .kind) (now (a .d)) bytes (c .before .before .before .before .before .facts .given .0 .0) (c .before .before .target .given .0 .0) w (c .if1 .taken)
+    let t = c .before .before in
+    let o = t .before .before .before in
+    let a = o .before .before .before .before .before .args in
+    plan-23 (a .profile) (now (a .buf)) (a .len) (a .room) (a .used) (a .usage) (a .number) (a .kind) (now (a .d)) (bytes o) (o .facts .given .0 .0)
+    (t .target .given .0 .0) (there t) (c .if1 .taken)
 
--- src/lib.rt:233:17
-gone-size-requires : tie.Need-gone-size-requires
-gone-size-requires c κs =
-    let a = c .before .before .before .before .before .before .before .before .before .before .args in
-    let b = now (a .buf) in
-    let bytes : All Byte (take (a .len) b) = all-take Byte (a .len) b (bytes-all b (λ i. omega (arith, c .before .before .before .before .before .before .before .before .before .shared-slice-known .given i))) in
-    let w = told (a .profile) b (a .len) (a .room) (a .used) (a .usage) (a .number) bytes 0 (c .before .before .before .before .before .facts .given .0 .0) (sym (c .before .before .before .before .before .before .before .opened .ensures) ∙ c .before .before .before .before .before .facts .given .1) (c .before .before .target .given .0 .0) (c .before .before .target .given .1) in
-    body-short (a .profile) b (a .len) (a .room) (a .used) (a .usage) (a .number) bytes (c .before .before .target .given .0 .0) (w .found) (w .piece-is)
-
--- src/lib.rt:235:47
-slice-aggregate-replace-fault : tie.Need-slice-aggregate-replace-fault
-slice-aggregate-replace-fault c =
-    let a = c .before .before .before .before .before .before .before .before .before .before .before .before .args in
-    let b = now (a .buf) in
-    let bytes : All Byte (take (a .len) b) = all-take Byte (a .len) b (bytes-all b (λ i. omega (arith, c .before .before .before .before .before .before .before .before .before .before .before .shared-slice-known .given i))) in
-    let w = told (a .profile) b (a .len) (a .room) (a .used) (a .usage) (a .number) bytes 0 (c .before .before .before .before .before .before .before .facts .given .0 .0) (sym (c .before .before .before .before .before .before .before .before .before .opened .ensures) ∙ c .before .before .before .before .before .before .before .facts .given .1) (c .before .before .before .before .target .given .0 .0) (c .before .before .before .before .target .given .1) in
-    sym (length-take-le (a .len) b (w .found .stands .inside))
-
--- src/lib.rt:235:17
-replace-fault-requires : tie.Need-replace-fault-requires
-replace-fault-requires c κs =
-    let a = c .before .before .before .before .before .before .before .before .before .before .before .before .args in
-    let b = now (a .buf) in
-    let bytes : All Byte (take (a .len) b) = all-take Byte (a .len) b (bytes-all b (λ i. omega (arith, c .before .before .before .before .before .before .before .before .before .before .before .shared-slice-known .given i))) in
-    let w = told (a .profile) b (a .len) (a .room) (a .used) (a .usage) (a .number) bytes 0 (c .before .before .before .before .before .before .before .facts .given .0 .0) (sym (c .before .before .before .before .before .before .before .before .before .opened .ensures) ∙ c .before .before .before .before .before .before .before .facts .given .1) (c .before .before .before .before .target .given .0 .0) (c .before .before .before .before .target .given .1) in
-    own (a .profile) b (a .len) (a .room) (a .used) (a .usage) (a .number) (a .kind) (now (a .d)) bytes (c .before .before .before .before .before .before .before .facts .given .0 .0) (c .before .before .before .before .target .given .0 .0) w (c .before .before .if1 .left)
-
--- src/lib.rt:237:30
-cast-size : tie.Need-cast-size
-cast-size c = search needs
-
--- src/lib.rt:237:24
-sub-size : tie.Need-sub-size
-sub-size c =
-    let a = c .before .before .before .before .before .before .before .before .before .before .before .before .before .args in
-    let b = now (a .buf) in
-    let bytes : All Byte (take (a .len) b) = all-take Byte (a .len) b (bytes-all b (λ i. omega (arith, c .before .before .before .before .before .before .before .before .before .before .before .before .shared-slice-known .given i))) in
-    let w = told (a .profile) b (a .len) (a .room) (a .used) (a .usage) (a .number) bytes 0 (c .before .before .before .before .before .before .before .before .facts .given .0 .0) (sym (c .before .before .before .before .before .before .before .before .before .before .opened .ensures) ∙ c .before .before .before .before .before .before .before .before .facts .given .1) (c .before .before .before .before .before .target .given .0 .0) (c .before .before .before .before .before .target .given .1) in
-    inside (a .profile) b (a .len) (a .room) (a .used) (a .usage) (a .number) (a .kind) (now (a .d)) bytes (c .before .before .before .before .before .target .given .0 .0) (w .found) (w .piece-is) (c .before .before .gone-size .result) (c .before .before .gone-size .ensures)
-
--- src/lib.rt:237:51
-add-size : tie.Need-add-size
-add-size c = omega (arith, c .before .before .before .before .before .before .before .before .before .before .before .before .before .good, c .before .before .before .before .before .before .before .before .before .before .before .before .before .fits)
-
--- src/lib.rt:237:46
-add-size-2 : tie.Need-add-size-2
-add-size-2 c = omega (arith, c .before .before .before .before .before .before .before .before .before .before .before .before .before .good, c .before .before .before .before .before .before .before .before .before .before .before .before .before .fits)
-
--- src/lib.rt:237:24
-add-size-3 : tie.Need-add-size-3
-add-size-3 c =
-    let a = c .before .before .before .before .before .before .before .before .before .before .before .before .before .args in
-    let b = now (a .buf) in
-    let bytes : All Byte (take (a .len) b) = all-take Byte (a .len) b (bytes-all b (λ i. omega (arith, c .before .before .before .before .before .before .before .before .before .before .before .before .shared-slice-known .given i))) in
-    let w = told (a .profile) b (a .len) (a .room) (a .used) (a .usage) (a .number) bytes 0 (c .before .before .before .before .before .before .before .before .facts .given .0 .0) (sym (c .before .before .before .before .before .before .before .before .before .before .opened .ensures) ∙ c .before .before .before .before .before .before .before .before .facts .given .1) (c .before .before .before .before .before .target .given .0 .0) (c .before .before .before .before .before .target .given .1) in
-    omega (arith, w .found .stands .short, c .before .before .before .before .before .before .before .before .before .before .before .before .before .good, c .before .before .before .before .before .before .before .before .before .before .before .before .before .fits)
-
--- src/lib.rt:238:29
-cast-more : tie.Need-cast-more
-cast-more c = search needs
-
--- src/lib.rt:238:24
-add-more : tie.Need-add-more
-add-more c = search needs
-
--- src/lib.rt:239:60
-sub-with-room : tie.Need-sub-with-room
-sub-with-room c =
-    let a = c .before .before .before .before .before .before .before .before .before .before .before .before .before .before .args in
-    let b = now (a .buf) in
-    let bytes : All Byte (take (a .len) b) = all-take Byte (a .len) b (bytes-all b (λ i. omega (arith, c .before .before .before .before .before .before .before .before .before .before .before .before .before .shared-slice-known .given i))) in
-    let w = told (a .profile) b (a .len) (a .room) (a .used) (a .usage) (a .number) bytes 0 (c .before .before .before .before .before .before .before .before .before .facts .given .0 .0) (sym (c .before .before .before .before .before .before .before .before .before .before .before .opened .ensures) ∙ c .before .before .before .before .before .before .before .before .before .facts .given .1) (c .before .before .before .before .before .before .target .given .0 .0) (c .before .before .before .before .before .before .target .given .1) in
-    w .found .used-in
-
--- src/lib.rt:239:19
-with-room-requires : tie.Need-with-room-requires
-with-room-requires c κs = search needs
-
--- src/lib.rt:240:44
-enum-known-k-2 : tie.Need-enum-known-k-2
-enum-known-k-2 c = search needs
-
--- src/lib.rt:241:34
-enum-told-2 : tie.Need-enum-told-2
-enum-told-2 c = search needs
-
--- src/lib.rt:220:1
 returns-3 : tie.Need-returns-3
 returns-3 c =
-    let a = c .before .before .before .before .before .before .args in
-    let b = now (a .buf) in
-    let bytes : All Byte (take (a .len) b) = all-take Byte (a .len) b (bytes-all b (λ i. omega (arith, c .before .before .before .before .before .shared-slice-known .given i))) in
-    plan-unopened (a .profile) b (a .len) (a .room) (a .used) (a .usage) (a .number) (a .kind) (now (a .d)) bytes 0 (c .before .k .given .0 .0) (c .before .k .given .0 .1 .0) (sym (c .before .before .before .opened .ensures) ∙ c .before .k .given .1)
+    let t = c .before .before .before .before in
+    let o = t .before .before .before in
+    let a = o .before .before .before .before .before .args in
+    plan-30 (a .profile) (now (a .buf)) (a .len) (a .room) (a .used) (a .usage) (a .number) (a .kind) (now (a .d)) (bytes o) (o .facts .given .0 .0)
+    (t .target .given .0 .0) (there t) (c .before .before .if1 .left)
+    (sym (c .before .is-whole .ensures) ∙ not-true _ (c .if2 .taken))
 
--- src/lib.rt:220:1
+gone-size-requires : tie.Need-gone-size-requires
+gone-size-requires c κs =
+    let t = c .before .before .before .before .before in
+    let o = t .before .before .before in
+    let a = o .before .before .before .before .before .args in
+    body-short (a .profile) (now (a .buf)) (a .len) (a .room) (a .used) (a .usage) (a .number) (bytes o) (t .target .given .0 .0) (there t .found) (there
+    t .piece-is)
+
+slice-aggregate-replace-fault : tie.Need-slice-aggregate-replace-fault
+slice-aggregate-replace-fault c = sym (length-take-le _ _ (there (c .before .before .before .before .before .before .before) .found .stands .inside))
+
+replace-fault-requires : tie.Need-replace-fault-requires
+replace-fault-requires c κs =
+    let t = c .before .before .before .before .before .before .before in
+    let o = t .before .before .before in
+    let a = o .before .before .before .before .before .args in
+    own (a .profile) (now (a .buf)) (a .len) (a .room) (a .used) (a .usage) (a .number) (a .kind) (now (a .d)) (bytes o) (o .facts .given .0 .0)
+    (t .target .given .0 .0) (there t) (c .before .before .before .before .before .if1 .left)
+
+sub-size : tie.Need-sub-size
+sub-size c =
+    let t = c .before .before .before .before .before .before .before .before in
+    let o = t .before .before .before in
+    let a = o .before .before .before .before .before .args in
+    inside (a .profile) (now (a .buf)) (a .len) (a .room) (a .used) (a .usage) (a .number) (a .kind) (now (a .d)) (bytes o) (t .target .given .0 .0) (there
+    t .found) (there t .piece-is) (c .before .before .gone-size .result)
+    (c .before .before .gone-size .ensures)
+
+add-size-3 : tie.Need-add-size-3
+add-size-3 c = let s = there (c .before .before .before .before .before .before .before .before) .found .stands .short in search needs
+
+sub-with-room : tie.Need-sub-with-room
+sub-with-room c = there (c .before .before .before .before .before .before .before .before .before) .found .used-in
+
 returns-4 : tie.Need-returns-4
 returns-4 c =
-    let a = c .before .before .before .before .before .before .before .before .before .before .before .before .before .before .before .before .before .before .args in
+    let a = c .before .before .before .before .before .before .args in
     let b = now (a .buf) in
-    let bytes : All Byte (take (a .len) b) = all-take Byte (a .len) b (bytes-all b (λ i. omega (arith, c .before .before .before .before .before .before .before .before .before .before .before .before .before .before .before .before .before .shared-slice-known .given i))) in
-    let w = told (a .profile) b (a .len) (a .room) (a .used) (a .usage) (a .number) bytes 0 (c .before .before .before .before .before .before .before .before .before .before .before .before .before .facts .given .0 .0) (sym (c .before .before .before .before .before .before .before .before .before .before .before .before .before .before .before .opened .ensures) ∙ c .before .before .before .before .before .before .before .before .before .before .before .before .before .facts .given .1) (c .before .before .before .before .before .before .before .before .before .before .target .given .0 .0) (c .before .before .before .before .before .before .before .before .before .before .target .given .1) in
-    plan-refused (a .profile) b (a .len) (a .room) (a .used) (a .usage) (a .number) (a .kind) (now (a .d)) bytes (c .before .before .before .before .before .before .before .before .before .before .before .before .before .facts .given .0 .0) (c .before .before .before .before .before .before .before .before .before .before .target .given .0 .0) w (c .before .before .before .before .before .before .before .before .if1 .left) (c .before .before .before .before .before .before .before .gone-size .result) (c .before .before .before .before .before .before .before .gone-size .ensures) (c .before .before .before .before .before .replace-fault .result) (c .before .before .before .with-room .result) (c .before .before .before .before .before .replace-fault .ensures) (c .before .before .before .with-room .ensures) (c .before .k2 .given .0 .0) (c .before .k2 .given .0 .1 .0) (c .before .k2 .given .1)
+    let known = c .before .before .before .before .before .shared-slice-known .given in
+    let all : All Byte (take (a .len) b) = all-take Byte (a .len) b (bytes-all b (λ i. omega (arith, known i))) in
+    plan-unopened (a .profile) (now (a .buf)) (a .len) (a .room) (a .used) (a .usage) (a .number) (a .kind) (now (a .d)) all 0 (c .before .k .given .0 .0)
+    (c .before .k .given .0 .1 .0)
+    (sym (c .before .before .before .opened .ensures) ∙ c .before .k .given .1)
 
--- src/lib.rt:220:1
 returns-5 : tie.Need-returns-5
 returns-5 c =
-    let a = c .before .before .before .before .before .before .before .before .before .before .before .before .before .before .before .before .before .args in
-    let b = now (a .buf) in
-    let bytes : All Byte (take (a .len) b) = all-take Byte (a .len) b (bytes-all b (λ i. omega (arith, c .before .before .before .before .before .before .before .before .before .before .before .before .before .before .before .before .shared-slice-known .given i))) in
-    let w = told (a .profile) b (a .len) (a .room) (a .used) (a .usage) (a .number) bytes 0 (c .before .before .before .before .before .before .before .before .before .before .before .before .facts .given .0 .0) (sym (c .before .before .before .before .before .before .before .before .before .before .before .before .before .before .opened .ensures) ∙ c .before .before .before .before .before .before .before .before .before .before .before .before .facts .given .1) (c .before .before .before .before .before .before .before .before .before .target .given .0 .0) (c .before .before .before .before .before .before .before .before .before .target .given .1) in
-    plan-fine (a .profile) b (a .len) (a .room) (a .used) (a .usage) (a .number) (a .kind) (now (a .d)) bytes (c .before .before .before .before .before .before .before .before .before .before .before .before .facts .given .0 .0) (c .before .before .before .before .before .before .before .before .before .target .given .0 .0) w (c .before .before .before .before .before .before .before .if1 .left) (c .before .before .before .before .before .before .gone-size .result) (c .before .before .before .before .before .before .gone-size .ensures) (c .before .before .before .before .replace-fault .result) (c .before .before .with-room .result) (c .before .before .before .before .replace-fault .ensures) (c .before .before .with-room .ensures) (c .enum-told2 .given .1)
+    let t = c .before .before .before .before .before .before .before .before .before .before .before .before .before in
+    let o = t .before .before .before in
+    let a = o .before .before .before .before .before .args in
+    plan-refused (a .profile) (now (a .buf)) (a .len) (a .room) (a .used) (a .usage) (a .number) (a .kind) (now (a .d)) (bytes o) (o .facts .given .0 .0)
+    (t .target .given .0 .0) (there t) (c .before .before .before .before .before .before .before .before .before .before .before .if1 .left)
+    (sym (c .before .before .before .before .before .before .before .before .before .before .is-whole .ensures) ∙ not-false _
+    (c .before .before .before .before .before .before .before .before .before .if2 .left))
+    (now (c .before .before .before .before .before .before .before .before .held .result))
+    (c .before .before .before .before .before .before .before .before .held .ensures)
+    (c .before .before .before .before .before .before .before .gone-size .result)
+    (c .before .before .before .before .before .before .before .gone-size .ensures)
+    (c .before .before .before .before .before .replace-fault .result) (c .before .before .before .with-room .result)
+    (c .before .before .before .before .before .replace-fault .ensures)
+    (c .before .before .before .with-room .ensures) (c .before .k2 .given .0 .0) (c .before .k2 .given .0 .1 .0) (c .before .k2 .given .1)
+
+returns-6 : tie.Need-returns-6
+returns-6 c =
+    let t = c .before .before .before .before .before .before .before .before .before .before .before .before in
+    let o = t .before .before .before in
+    let a = o .before .before .before .before .before .args in
+    plan-fine (a .profile) (now (a .buf)) (a .len) (a .room) (a .used) (a .usage) (a .number) (a .kind) (now (a .d)) (bytes o) (o .facts .given .0 .0)
+    (t .target .given .0 .0) (there t) (c .before .before .before .before .before .before .before .before .before .before .if1 .left)
+    (sym (c .before .before .before .before .before .before .before .before .before .is-whole .ensures) ∙ not-false _
+    (c .before .before .before .before .before .before .before .before .if2 .left))
+    (now (c .before .before .before .before .before .before .before .held .result)) (c .before .before .before .before .before .before .before .held .ensures)
+    (c .before .before .before .before .before .before .gone-size .result) (c .before .before .before .before .before .before .gone-size .ensures)
+    (c .before .before .before .before .replace-fault .result) (c .before .before .with-room .result)
+    (c .before .before .before .before .replace-fault .ensures)
+    (c .before .before .with-room .ensures) (c .enum-told2 .given .1)
 
 pub replace-plan-spec : {M : Type 1} → statement M
 replace-plan-spec =
     tie.close
     (tie.spec
-    opened-requires
-    enum-known-k
-    enum-known-facts
-    enum-known-target
-    enum-told
+    (λ c κs. search needs)
+    (λ c. search needs)
+    (λ c. search needs)
+    (λ c. search needs)
+    (λ c. search needs)
     returns
     returns-2
+    (λ c κs. search needs)
+    returns-3
+    (λ c κs. search needs)
     gone-size-requires
     slice-aggregate-replace-fault
     replace-fault-requires
-    cast-size
+    (λ c. search needs)
     sub-size
-    add-size
-    add-size-2
+    (λ c. search needs)
+    (λ c. search needs)
     add-size-3
-    cast-more
-    add-more
+    (λ c. search needs)
+    (λ c. search needs)
     sub-with-room
-    with-room-requires
-    enum-known-k-2
-    enum-told-2
-    returns-3
+    (λ c κs. search needs)
+    (λ c. search needs)
+    (λ c. search needs)
     returns-4
-    returns-5)
+    returns-5
+    returns-6)

@@ -1,94 +1,74 @@
+-- The reading says that the file is accepted; then the entry found starts at a chunk that lies in the file, and the numbers read there are the chunk's.
 use native.Mathlib.Omega.{arith}
 use mathlib.Core.Path.{sym, _∙_}
-use Rattle.chunks.proofs.ChunkLaws.{fine}
+use denote.Ref.{now}
+use Rattle.chunks.proofs.ChunkLaws.{Whole, fine}
 use Rattle.index.proofs.IndexLaws.{hit-begun}
-use Rattle.reader.proofs.AskLaws.{accepted, refused-as, look-no, look-22, look-found}
+use Rattle.reader.proofs.AskLaws.{Good, accepted, refused-as, look-no, look-22, look-found}
 use borrow.Author.Needs.{needs}
 use Rattle.reader.proofs.lookup.Statement.{statement}
 use Rattle.reader.proofs.lookup.Tie as tie
-use Rattle.reader.proofs.lookup.Reads as reads
-use Rattle.reader.proofs.lookup.Lts as lts
-use Rattle.blorb.proofs.be32_at.Reads as be32-at-reads
-use Rattle.reader.proofs.code.Reads as code-reads
-use Rattle.index.proofs.entries.find.Reads as find-reads
-use Rattle.reader.proofs.read.Reads as read-reads
 
--- src/lib.rt:117:11
-read-requires : tie.Need-read-requires
-read-requires c κs = search needs
+-- the file is accepted, with as many entries
+good-file : (c : tie.After-count) → Good (c .before .before .before .before .args .profile) (now (c .before .before .before .before .args .file))
+    (c .count .given .0 .1 .0)
+good-file c = accepted _ _ _ _ (sym (c .before .before .read .ensures) ∙ c .count .given .1)
 
--- src/lib.rt:118:28
-enum-known-number : tie.Need-enum-known-number
-enum-known-number c = search needs
+-- a chunk begins where the entry found starts, and lies in the file
+chunk : (c : tie.After-at) → Whole (now (c .before .before .before .before .before .before .before .before .before .args .file)) (c .at .given .0 .0)
+chunk c = let b = hit-begun _ _ _ _ _ (good-file (c .before .before .before .before .before) .passed .judged) (sym (c .before .before .find .ensures) ∙
+    c .at .given .1) in fine _ _ (b .0) (b .1)
 
--- src/lib.rt:119:40
-enum-known-count : tie.Need-enum-known-count
-enum-known-count c = search needs
-
--- src/lib.rt:120:58
-code-requires : tie.Need-code-requires
-code-requires c κs = search needs
-
--- src/lib.rt:120:31
 find-requires : tie.Need-find-requires
-find-requires c κs = let g = (accepted _ _ _ _ (sym (c .before .before .before .before .read .ensures) ∙ c .before .before .count .given .1)) in (g .passed .judged .few, g .passed .judged .room)
+find-requires c κs = let g = good-file (c .before .before) in (g .passed .judged .few, g .passed .judged .room)
 
--- src/lib.rt:120:25
-enum-known-at : tie.Need-enum-known-at
-enum-known-at c = search needs
-
--- src/lib.rt:121:17
-enum-told : tie.Need-enum-told
-enum-told c = search needs
-
--- src/lib.rt:121:17
 returns : tie.Need-returns
-returns c = rw (← c .before .before .before .code .ensures) (look-22 _ _ _ _ _ (accepted _ _ _ _ (sym (c .before .before .before .before .before .before .before .read .ensures) ∙ c .before .before .before .before .before .count .given .1)) (sym (c .before .before .find .ensures) ∙ c .enum-told .given .1))
+returns c =
+    rw (← c .before .before .before .code .ensures)
+    (look-22 _ _ _ _ _ (good-file (c .before .before .before .before .before)) (sym (c .before .before .find .ensures) ∙ c .enum-told .given .1))
 
--- src/lib.rt:126:24
 be32-at-requires : tie.Need-be32-at-requires
-be32-at-requires c κs = let b = (hit-begun _ _ _ _ _ ((accepted _ _ _ _ (sym (c .before .before .before .before .before .before .before .before .read .ensures) ∙ c .before .before .before .before .before .before .count .given .1)) .passed .judged) (sym (c .before .before .before .find .ensures) ∙ c .before .at .given .1)) in omega (arith, fine _ _ (b .0) (b .1) .header)
+be32-at-requires c κs = omega (arith, chunk (c .before) .header)
 
--- src/lib.rt:126:24
-cast-kind : tie.Need-cast-kind
-cast-kind c = search needs
-
--- src/lib.rt:127:47
 add-be32-at : tie.Need-add-be32-at
-add-be32-at c = let b = (hit-begun _ _ _ _ _ ((accepted _ _ _ _ (sym (c .before .before .before .before .before .before .before .before .before .read .ensures) ∙ c .before .before .before .before .before .before .before .count .given .1)) .passed .judged) (sym (c .before .before .before .before .find .ensures) ∙ c .before .before .at .given .1)) in omega (arith, fine _ _ (b .0) (b .1) .header)
+add-be32-at c = omega (arith, chunk (c .before .before) .header)
 
--- src/lib.rt:127:26
 be32-at-requires-2 : tie.Need-be32-at-requires-2
-be32-at-requires-2 c κs = let b = (hit-begun _ _ _ _ _ ((accepted _ _ _ _ (sym (c .before .before .before .before .before .before .before .before .before .read .ensures) ∙ c .before .before .before .before .before .before .before .count .given .1)) .passed .judged) (sym (c .before .before .before .before .find .ensures) ∙ c .before .before .at .given .1)) in omega (arith, fine _ _ (b .0) (b .1) .header)
+be32-at-requires-2 c κs = omega (arith, chunk (c .before .before) .header)
 
--- src/lib.rt:130:24
-add-t16 : tie.Need-add-t16
-add-t16 c = let b = (hit-begun _ _ _ _ _ ((accepted _ _ _ _ (sym (c .before .before .before .before .before .before .before .before .before .before .read .ensures) ∙ c .before .before .before .before .before .before .before .before .count .given .1)) .passed .judged) (sym (c .before .before .before .before .before .find .ensures) ∙ c .before .before .before .at .given .1)) in omega (arith, fine _ _ (b .0) (b .1) .header)
+add-start : tie.Need-add-start
+add-start c = omega (arith, chunk (c .before .before .before .before) .header)
 
--- src/lib.rt:114:1
 returns-2 : tie.Need-returns-2
 returns-2 c = look-no _ _ _ _ _ _ (refused-as _ _ _ _ (sym (c .before .before .before .read .ensures) ∙ c .before .number .given .1))
 
--- src/lib.rt:114:1
 returns-3 : tie.Need-returns-3
-returns-3 c = rw (← c .before .before .before .before .before .before .code .ensures) (look-found _ _ _ _ _ (accepted _ _ _ _ (sym (c .before .before .before .before .before .before .before .before .before .before .read .ensures) ∙ c .before .before .before .before .before .before .before .before .count .given .1)) _ _ _ (sym (c .before .before .before .before .before .find .ensures) ∙ c .before .before .before .at .given .1) (c .before .be32-at .ensures .0) (c .be32-at2 .ensures .0))
+returns-3 c =
+    let at-chunk = c .before .before .before .before in
+    rw (← at-chunk .before .before .before .code .ensures)
+    (look-found _ _ _ _ _ (good-file (at-chunk .before .before .before .before .before)) _ _ _ _ (sym (at-chunk .before .before .find .ensures) ∙
+    at-chunk .at .given .1) (c .before .before .be32-at .ensures .0)
+    (c .before .be32-at2 .ensures .0) (c .left-out .ensures .0))
 
 pub lookup-spec : {M : Type 1} → statement M
 lookup-spec =
     tie.close
     (tie.spec
-    read-requires
-    enum-known-number
-    enum-known-count
-    code-requires
+    (λ c κs. search needs)
+    (λ c. search needs)
+    (λ c. search needs)
+    (λ c κs. search needs)
     find-requires
-    enum-known-at
-    enum-told
+    (λ c. search needs)
+    (λ c. search needs)
     returns
     be32-at-requires
-    cast-kind
+    (λ c. search needs)
     add-be32-at
     be32-at-requires-2
-    add-t16
+    (λ c κs. search needs)
+    add-start
+    (λ c. search needs)
+    (λ c. search needs)
     returns-2
     returns-3)
