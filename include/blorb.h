@@ -307,6 +307,18 @@ blorb_edit_answer blorb_remove(uint8_t *file, size_t size, size_t length,
                                const char usage[4], uint32_t number);
 
 /*
+ * Give a resource a second name: a new entry, with the new usage and number, on the chunk of the one with this usage and number. It stands behind
+ * the last entry whose chunk begins no later, so with the others on that chunk. No data is copied: it takes BLORB_ENTRY_SIZE bytes in the file, and
+ * BLORB_RECORD_SIZE in the journal. Both names then find the same bytes; blorb_replace of either is refused with 23, and blorb_remove of one
+ * leaves the chunk to the other. With a new number that is not above those before it of its usage, or not below those behind it, the numbers no
+ * longer rise from entry to entry, and reading takes longer (see the beginning).
+ * Refusals: 52, 20, those of the present file, 22 (the original), 101, 111, 112, 114, 115, 116 (place: the later of the two entries), 24, 25.
+ */
+blorb_edit_answer blorb_link(uint8_t *file, size_t size, size_t length,
+                             uint8_t *journal, size_t journal_size, size_t used, uint32_t profile,
+                             const char usage[4], uint32_t number, const char new_usage[4], uint32_t new_number);
+
+/*
  * Take back the edit of the journal's last record. A record that does not fit this file is refused, never applied.
  * Refusals: 52, 20, those of the present file, 26, 21, 24.
  */
@@ -420,7 +432,7 @@ static inline blorb_edit_answer blorb_editor_blank(blorb_editor *e, uint8_t *fil
     return blorb_editor_stored(e, blorb_blank(file, size));
 }
 
-/* As blorb_add, blorb_replace, blorb_remove and blorb_undo. */
+/* As blorb_add, blorb_replace, blorb_remove, blorb_link and blorb_undo. */
 static inline blorb_edit_answer blorb_editor_add(blorb_editor *e, const char usage[4], uint32_t number, const char type[4],
                                                  const uint8_t *data, size_t data_size)
 {
@@ -439,6 +451,13 @@ static inline blorb_edit_answer blorb_editor_remove(blorb_editor *e, const char 
 {
     return blorb_editor_stored(e, blorb_remove(e->file, e->size, e->length, e->journal, e->journal_size, e->used, e->profile,
                                                usage, number));
+}
+
+static inline blorb_edit_answer blorb_editor_link(blorb_editor *e, const char usage[4], uint32_t number,
+                                                  const char new_usage[4], uint32_t new_number)
+{
+    return blorb_editor_stored(e, blorb_link(e->file, e->size, e->length, e->journal, e->journal_size, e->used, e->profile,
+                                             usage, number, new_usage, new_number));
 }
 
 static inline blorb_edit_answer blorb_editor_undo(blorb_editor *e)

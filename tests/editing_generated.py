@@ -18,7 +18,8 @@ ALLOWED = {PLAIN: RESOURCES, ADRIFT: ADRIFT_RESOURCES}
 KINDS = {profile: {usage: [kind for u, kind in allowed if u == usage] for usage in USAGES} for profile, allowed in ALLOWED.items()}
 FILES = [BLANK, B, MIXED, SHARED, FOUR, WHOLE, FIRST, LAST, FRONT, HELD, SAME, THREE]
 WRONG = [b"RIdx", b"RelN", b"Fspc", b"ANNO", b"TEXT", b"Rect", b"FORM", b"GIF ", b"WAV ", bytes(4)]
-MOODS = [("add", "add", "add", "replace"), ("replace", "replace", "remove"), ("remove", "remove", "undo"), ("undo",),
+MOODS = [("add", "link", "link"), ("link", "replace", "remove", "undo"),
+         ("add", "add", "add", "replace"), ("replace", "replace", "remove"), ("remove", "remove", "undo"), ("undo",),
          ("undo",), ("add", "replace", "remove", "undo"), ("add", "undo"), ("add", "replace", "replace", "remove")]
 
 
@@ -59,6 +60,9 @@ def a_call(d, file, what, profile):
     usage, number = new_pair(d, file, profile) if what == "add" else a_pair(d, file, profile)
     if what == "remove":
         return ("remove", usage, number)
+    if what == "link":
+        new_usage, new_number = new_pair(d, file, profile)
+        return ("link", usage, number, usage if d.below(8) else new_usage, new_number)
     kind = d.one_of(KINDS[profile].get(usage, WRONG))
     body = body_of(d, kind)
     if d.below(16) == 0:
@@ -91,7 +95,7 @@ def steps_of(d, buf, L, jrn, count, profile):
                 left = left if U or d.below(3) == 0 else 0
                 continue
         what = d.one_of(mood)
-        if L < 48 and what in ("replace", "remove") and d.below(4):
+        if L < 48 and what in ("replace", "remove", "link") and d.below(4):
             what = "add"
         call = a_call(d, buf[:L], what, profile)
         answer, buf, jrn = getattr(editing_reference, what)(buf, L, jrn, U, *call[1:], profile=profile)
@@ -128,7 +132,7 @@ def run_of_many(seed):
 def with_records(d, buf, L, jrn, U, profile):
     """The buffers after some edits that have succeeded: the journal's last record is this file's."""
     for _ in range(1 + d.below(4)):
-        what, *args = a_call(d, buf[:L], d.one_of(["add", "replace", "replace", "remove", "remove"]), profile)
+        what, *args = a_call(d, buf[:L], d.one_of(["add", "replace", "replace", "remove", "remove", "link", "link"]), profile)
         answer, buf, jrn = getattr(editing_reference, what)(buf, L, jrn, U, *args, profile=profile)
         L, U = answer.len, answer.used
     return buf, L, jrn, U
@@ -144,7 +148,7 @@ def spoiled_record(d, file, jrn, U, profile):
     if what == 0:
         return put(jrn, at + d.below(U - at), d.bytes(1))
     if what == 1:
-        return put(jrn, at, bytes([d.one_of([0, 1, 2, 3, 4, 5, 255])]))
+        return put(jrn, at, bytes([d.one_of([0, 1, 2, 3, 4, 5, 6, 255])]))
     if what == 2:
         return grow(jrn, d.one_of(fields), d.one_of([1, -1, 2, -2, 12, -12, 256]))
     if what == 3:
@@ -163,7 +167,7 @@ def spoiled_record(d, file, jrn, U, profile):
 
 def a_record(d, chunks, entries, L, profile):
     """25 bytes of a record that fits, or nearly does."""
-    kind = 1 + d.below(4)
+    kind = 1 + d.below(5)
     place = d.below(len(entries) + 1)
     e = entries[min(place, len(entries) - 1)] if entries else reference.Entry(b"Data", 1, 36)
     if kind == 1:
@@ -171,6 +175,8 @@ def a_record(d, chunks, entries, L, profile):
         return bytes([1]) + e.usage + be(e.number) + be(place) + bytes(12)
     if kind == 2:
         return bytes([2]) + e.usage + be(e.number) + be(place) + be(e.start) + d.one_of(KINDS[profile][e.usage]) + bytes(4)
+    if kind == 5:
+        return bytes([5]) + e.usage + be(e.number) + be(place) + be(e.start) + bytes(8)
     usage = d.one_of(USAGES)
     start = d.one_of([c.start for c in chunks[1:]] + [L]) + 12
     was = bytes(4) if kind == 4 else d.one_of(KINDS[profile][usage])
@@ -185,7 +191,7 @@ def single(d, name):
     before = d.one_of([PLAIN, PLAIN, ADRIFT])
     file, U = accepted_file(d, before), d.below(20)
     buf, L, jrn, U = with_records(d, lent(file, len(file) + 100), len(file), lent(d.bytes(U), 200), U, before)
-    call = a_call(d, buf[:L], d.one_of(["add", "replace", "remove", "undo", "undo", "undo"]), before)
+    call = a_call(d, buf[:L], d.one_of(["add", "replace", "remove", "link", "link", "undo", "undo", "undo", "undo"]), before)
     if call == ("undo",) and U >= 29 and d.below(4):
         jrn = spoiled_record(d, buf[:L], jrn, U, before)
     if d.below(10) == 0:

@@ -7,7 +7,8 @@ entries that name their chunk by its place among the chunks, so that no start is
     Ledger(file, room, journal, profile)     file accepted under this known profile (02, P12), which is that of the whole run;
                                     room and journal the lengths of the two buffers
     .call(call)                     its Answer; a call is ("add", usage, number, kind, body), ("replace", the same),
-                                    ("remove", usage, number) or ("undo",)
+                                    ("remove", usage, number),
+                                    ("link", usage, number, new usage, new number) or ("undo",)
     .file(), .len(), .used()        its file, L and U
     .records()                      the records of its list's edits, in order
 """
@@ -36,6 +37,10 @@ class Kept:
         """Of a pair in the index; -1 if it isn't there."""
         return next((i for i, e in enumerate(self.entries) if e[:2] == (usage, number)), -1)
 
+    def behind(self, k):
+        """The place after the last entry whose chunk isn't behind chunk k (02, P8)."""
+        return max((i + 1 for i, e in enumerate(self.entries) if e[2] <= k), default=0)
+
     def shared(self, i):
         return [k for _, _, k in self.entries].count(self.entries[i][2]) > 1
 
@@ -57,6 +62,9 @@ def applied(f, call):
     if what == "add":
         return Kept(f.entries + [(usage, number, len(f.chunks))], f.chunks + [new_chunk(*new)])
     k = f.entries[i][2]
+    if what == "link":
+        at = f.behind(k)
+        return Kept(f.entries[:at] + [(*new, k)] + f.entries[at:], f.chunks)
     if what == "replace":
         return Kept(f.entries, f.chunks[:k] + [new_chunk(*new)] + f.chunks[k + 1:])
     rest = f.entries[:i] + f.entries[i + 1:]
@@ -67,9 +75,13 @@ def applied(f, call):
 
 def record(f, call):
     """The record of an edit of this file: kind, usage, number, place, start, type, m, data, trailer."""
-    what, usage, number, *_ = call
+    what, usage, number, *new = call
     place = len(f.entries) if what == "add" else f.place_of(usage, number)
-    if what == "add":
+    if what == "link":                # of the new entry, and the start as it is after the edit
+        k = f.entries[place][2]
+        usage, number = new
+        kind, place, start, old = 5, f.behind(k), applied(f, call).places()[k], (bytes(4), b"")
+    elif what == "add":
         kind, start, old = 1, 0, (bytes(4), b"")
     else:
         k = f.entries[place][2]

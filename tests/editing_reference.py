@@ -8,6 +8,7 @@ and no order of working with it. Where the paper leaves a choice, the reading ta
     add(buf, L, jrn, U, usage, number, kind, body, profile)         (answer, buf, jrn)
     replace(buf, L, jrn, U, usage, number, kind, body, profile)     (answer, buf, jrn)
     remove(buf, L, jrn, U, usage, number, profile)                  (answer, buf, jrn)
+    link(buf, L, jrn, U, usage, number, new_usage, new_number, profile)    (answer, buf, jrn)
     undo(buf, L, jrn, U, profile)                                   (answer, buf, jrn)
 
 buf and jrn are the two whole buffers as bytes, before the call and after it. The file is the first L bytes of buf, the
@@ -21,7 +22,7 @@ from reference import PLAIN, Entry, Refusal, be32, refuse_if
 
 Answer = namedtuple("Answer", "number place len used")
 Record = namedtuple("Record", "kind usage number place start type body")
-ADDED, REPLACED, REMOVED, ENTRY_ONLY = 1, 2, 3, 4    # the kinds of a record
+ADDED, REPLACED, REMOVED, ENTRY_ONLY, LINKED = 1, 2, 3, 4, 5    # the kinds of a record
 NO_TYPE = bytes(4)
 
 BLANK = b"FORM\0\0\0\x10IFRSRIdx\0\0\0\4\0\0\0\0"
@@ -139,6 +140,15 @@ def removed(file, profile, usage, number):
     return moved(others, -12, start, -size(old.body)), plain(chunks[:k] + chunks[k + 1:]), record
 
 
+def linked(file, profile, usage, number, new_usage, new_number):
+    """A new entry on the chunk of an existing one, after the last entry whose start isn't greater. All starts grow by 12 (02, P8)."""
+    entries, chunks = taken_apart(file, profile)
+    start = entries[found(entries, usage, number)].start        # 22 for a missing original
+    place = 1 + max(i for i, e in enumerate(entries) if e.start <= start)
+    record = Record(LINKED, new_usage, new_number, place, start + 12, NO_TYPE, b"")
+    return with_entry(record, moved(entries, 12)), plain(chunks), record
+
+
 # ---- the bytes of a record, and the last record of a journal
 
 def bytes_of(r):
@@ -154,9 +164,9 @@ def last_record(jrn, U):
     s = jrn[U - 4 - trailer:U - 4]
     refuse_if(trailer != 25 + be32(s, 21), 21, 0)               # m agrees
     r = Record(s[0], s[1:5], be32(s, 5), be32(s, 9), be32(s, 13), s[17:21], s[25:])
-    refuse_if(r.kind not in (ADDED, REPLACED, REMOVED, ENTRY_ONLY), 21, 0)
+    refuse_if(r.kind not in (ADDED, REPLACED, REMOVED, ENTRY_ONLY, LINKED), 21, 0)
     refuse_if(r.kind == ADDED and r.start != 0, 21, 0)          # the fields named zero
-    refuse_if(r.kind in (ADDED, ENTRY_ONLY) and (r.type != NO_TYPE or r.body != b""), 21, 0)
+    refuse_if(r.kind in (ADDED, ENTRY_ONLY, LINKED) and (r.type != NO_TYPE or r.body != b""), 21, 0)
     return r
 
 
@@ -200,6 +210,13 @@ def with_entry_only(r, entries, chunks):
     return with_entry(r, moved(entries, 12)), plain(chunks)
 
 
+def without_link(r, entries, chunks):
+    """Kind 5: the entry at that place has that usage, number and start and shares its chunk. It is dropped (02, P8)."""
+    refuse_if(r.place >= len(entries), 21, 0)
+    refuse_if(entries[r.place] != Entry(r.usage, r.number, r.start) or sharing(entries, r.start) == 1, 21, 0)
+    return moved(entries[:r.place] + entries[r.place + 1:], -12), plain(chunks)
+
+
 def file_before(r, file, profile):
     """The file after the undo of this record: 21 if the record doesn't fit, or if that file wouldn't be accepted."""
     entries, chunks = taken_apart(file, profile)
@@ -209,8 +226,10 @@ def file_before(r, file, profile):
         before = with_old_chunk(r, entries, chunks)
     elif r.kind == REMOVED:
         before = with_entry_and_chunk(r, entries, chunks, len(file))
-    else:
+    elif r.kind == ENTRY_ONLY:
         before = with_entry_only(r, entries, chunks)
+    else:
+        before = without_link(r, entries, chunks)
     try:
         return judged(*before, profile)
     except Refusal:
@@ -262,6 +281,10 @@ def replace(buf, L, jrn, U, usage, number, kind, body, profile=PLAIN):
 
 def remove(buf, L, jrn, U, usage, number, profile=PLAIN):
     return edit(buf, L, jrn, U, profile, lambda file: removed(file, profile, usage, number))
+
+
+def link(buf, L, jrn, U, usage, number, new_usage, new_number, profile=PLAIN):
+    return edit(buf, L, jrn, U, profile, lambda file: linked(file, profile, usage, number, new_usage, new_number))
 
 
 def undo(buf, L, jrn, U, profile=PLAIN):

@@ -1,13 +1,14 @@
 """Scenarios of editing: how they are run by the reference, packed for the program, and told as it tells them.
 
 A scenario is two buffers with their bytes, the L and U at first, a profile for all its calls, and steps. A step is a call with its arguments,
-("blank",), ("add", usage, number, kind, body), ("replace", the same), ("remove", usage, number), ("undo",), or
+("blank",), ("add", usage, number, kind, body), ("replace", the same), ("remove", usage, number), ("undo",), ("link", usage, number, new usage, new number), or
 ("given", L, U): the next call is given these instead of the last answer's.
 
 Packed: ten numbers of four bytes (the lengths of the name, the buffer, the journal, how many bytes of each of the two are
 packed, L, U, how many bytes the steps have, 1 if the buffers are shown at the end, the profile), the name, the packed bytes
 of the buffer and of the journal, the steps. Behind its packed bytes a buffer is filled (see fill). A step: a byte that says which
-it is, 16 bytes (usage, number, type, length of the data; or L and U in eight bytes each), the data.
+it is, 16 bytes (usage, number, type, length of the data; or L and U in eight bytes each; or usage, number, new usage, new
+number), the data, which neither of the last two has.
 """
 from collections import namedtuple
 from functools import lru_cache
@@ -19,7 +20,7 @@ from editing_ledger import Ledger
 
 Scenario = namedtuple("Scenario", "name buf jrn len used shown steps profile", defaults=[reference.PLAIN])
 
-STEPS = ("blank", "add", "replace", "remove", "undo", "given")
+STEPS = ("blank", "add", "replace", "remove", "undo", "given", "link")
 ROOM = 1_048_576           # the program's buffer for its input; the input has to be shorter
 MOST = 65_536              # its file buffer, and its journal
 
@@ -68,7 +69,7 @@ def results(x):
 def is_run(x):
     """Whether 01's 'Whole runs' speaks of it: with a known profile, under which the starting file is accepted."""
     accepted = x.len <= len(x.buf) and reference.read(x.buf[:x.len], x.profile)[0] == "accepted"
-    return accepted and x.used == 0 and all(what in ("add", "replace", "remove", "undo") for what, *_ in x.steps)
+    return accepted and x.used == 0 and all(what in ("add", "replace", "remove", "link", "undo") for what, *_ in x.steps)
 
 
 def held_to_ledger(x):
@@ -92,6 +93,9 @@ def packed_step(step):
     if what == "given":
         L, U = args
         fields = L.to_bytes(8, "big") + U.to_bytes(8, "big")
+    elif what == "link":
+        usage, number, new_usage, new_number = args
+        fields = usage + be(number) + new_usage + be(new_number)
     else:
         usage, number, kind, body = args + [bytes(4), 0, bytes(4), b""][len(args):]
         fields = usage + be(number) + kind + be(len(body)) + body

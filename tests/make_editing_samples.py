@@ -8,7 +8,7 @@ The program of that crate reads the packed scenarios (see editing_run.py) and pr
 of both whole buffers after every call; `rt check` holds what it prints to the file stdout.
 
 How the expectations are computed: by editing_reference.py, an editor in Python written from 01 alone. The answers to every
-scenario of editing_by_hand.py, undo_by_hand.py, profile_by_hand.py and whole_by_hand.py are stated there by hand as well, and every
+scenario of editing_by_hand.py, undo_by_hand.py, profile_by_hand.py, whole_by_hand.py and link_by_hand.py are stated there by hand as well, and every
 scenario that is a run as under 01's 'Whole runs' is held to editing_ledger.py, which is told neither answers nor buffers: this script stops where
 they say another. Nothing comes from the library: neither its code nor anything it prints is read here.
 """
@@ -18,7 +18,7 @@ from collections import Counter
 
 from editing_generated import run_of_many, runs, singles
 from editing_run import ROOM, held_to_ledger, is_run, lines, packed, results
-from whole_by_hand import SCENARIOS
+from link_by_hand import SCENARIOS
 
 CRATE = pathlib.Path(__file__).resolve().parent.parent / "crates" / "editing_samples"
 RUNS, SINGLES, SEED = 48, 500, 1
@@ -56,7 +56,7 @@ def tally(scenarios):
     counts = Counter()
     for x in scenarios:
         counts.update((step[0], answer.number) for step, (answer, _, _) in zip(x.steps, results(x)) if answer)
-    for what in ("blank", "add", "replace", "remove", "undo"):
+    for what in ("blank", "add", "replace", "remove", "link", "undo"):
         numbers = sorted(n for w, n in counts if w == what)
         print(f"{what}:", *(f"{n}: {counts[what, n]}" for n in numbers))
 

@@ -44,7 +44,7 @@ for start, word in ((48, "one"), (49, "other")):
     undoing(f"trailer U - 3 with m, {word} start", B, put(put(whole, 54, be(55)), 21, be(30)), no(21), before=0)
     undoing(f"trailer U - 5, {word} start", B, put(whole, 54, be(53)), no(21), before=0)
     undoing(f"only the last record, {word} start", B, whole[:25] + ADDED, done(48, 25, A), before=0)
-for kind in (0, 5, 6, 7, 127, 129, 255):
+for kind in (0, 6, 7, 127, 129, 255):
     undoing(f"kind {kind}", B, bytes([kind]) + ADDED[1:], no(21))
     undoing(f"kind {kind} of a replacement", B, record(kind, DATA, 7, 0, 48, *TEXT), no(21))
 for at in range(13, 21):

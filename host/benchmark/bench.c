@@ -58,11 +58,13 @@ static void print_row(const struct sample *s, const char *before, const char *ca
 
 static void edit_rows(const struct sample *s, const struct sample *to_add)
 {
-    struct edit edits[EDITS];
+    struct edit edits[EDITS], adding_entries[EDITS];
 
     edits_of(s, edits);
+    edits_of(to_add, adding_entries);
     for (unsigned k = 0; k < EDITS; k++) {
-        time_edit(edits[k].kind == ADD ? to_add : s, &edits[k], &edit_times, &undo_times);
+        bool adds = adds_entry(&edits[k]);
+        time_edit(adds ? to_add : s, adds ? &adding_entries[k] : &edits[k], &edit_times, &undo_times);
         print_row(s, "", edits[k].name, &edit_times);
         print_row(s, "undo of ", edits[k].name, &undo_times);
     }
@@ -103,7 +105,7 @@ static void move_rows(const char *bytes, size_t size, size_t by)
 {
     static struct times bare_edit, bare_undo;
     struct sample s = make_pair(bytes, 100, size - 8), bare = make_pair(bytes, 100, 0);
-    struct edit e = {"a move", REPLACE, s.first, NULL};
+    struct edit e = {"a move", REPLACE, s.first, NULL, NULL, 0};
 
     e.what.size += by;
     time_edit(&bare, &e, &bare_edit, &bare_undo);
@@ -164,7 +166,7 @@ static void table_by_bytes(void)
     for (unsigned i = 0; i < 3; i++) {
         double n = (double)megabytes[i];
         struct sample s = make_sample("by bytes", 16, megabytes[i] * 65536 - 64, RISING);
-        struct edit e = {"replace front, 512 more", REPLACE, s.first, NULL};
+        struct edit e = {"replace front, 512 more", REPLACE, s.first, NULL, NULL, 0};
         e.what.size += MORE;
         time_question(&s, READ, &undo_times);
         double read = undo_times.least[0];

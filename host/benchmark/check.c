@@ -253,7 +253,7 @@ static void put_head(struct edit *e)
     static uint8_t whole[64];
     size_t m = e->what.size;
 
-    if (strcmp(e->what.type, "FORM") != 0 || e->kind == REMOVE)
+    if (strcmp(e->what.type, "FORM") != 0)
         return;
     memcpy(whole, "FORM", 4);
     put32(whole + 4, (uint32_t)m);
@@ -276,13 +276,15 @@ static void put_head(struct edit *e)
 
 static bool some_call(struct trio *t)
 {
-    struct edit e = {"", (enum kind)below(3), some_resource(), NULL};
+    struct edit e = {"", (enum kind)below(4), some_resource(), NULL, usages[below(5)], below(9)};
     size_t used = t->used, length = t->length;
     uint32_t profile = t->profile;
     bool good;
 
     aim(&e, t);
     put_head(&e);
+    if (below(4) != 0)
+        e.usage = e.what.usage;
     switch (below(11)) {
     case 0:
         return same_read(t);
@@ -336,8 +338,8 @@ static bool limits(void)
 {
     struct sample s = make_sample("limits", 2, 8388574, RISING);
     struct trio t = trio_of(s.file, s.length, s.length, 0);
-    struct edit e = {"", ADD, {"Data", "TEXT", 77777, 400}, NULL};
-    bool good = same_read(&t) && same_edit(&t, &e);
+    struct edit e = {"", ADD, {"Data", "TEXT", 77777, 400}, NULL, NULL, 0}, link = {"", LINK, s.middle, NULL, s.middle.usage, 77777};
+    bool good = same_read(&t) && same_edit(&t, &e) && same_edit(&t, &link);
     free_trio(&t);
     t = trio_of(payload(), 64, BLORB_MAX_SIZE + 2, 0);
     t.length = BLORB_MAX_SIZE + 1;
@@ -347,7 +349,9 @@ static bool limits(void)
     for (size_t count = 4096; good && count <= 4097; count++) {
         s = make_sample("limits", count, 2, RISING);
         t = trio_of(s.file, s.length, s.length + 1000, 1000);
-        good = same_read(&t) && same_edit(&t, &e) && same_edit(&t, NULL);
+        link.what = s.middle;
+        link.usage = s.middle.usage;
+        good = same_read(&t) && same_edit(&t, &e) && same_edit(&t, NULL) && same_edit(&t, &link) && same_edit(&t, NULL);
         free_trio(&t);
         free_sample(&s);
     }
@@ -361,7 +365,7 @@ static bool edit_and_back(struct trio *t, const struct sample *s, const struct e
         && memcmp(t->file[0], s->file, s->length) == 0;
 }
 
-/* The calls that are measured on a sample: the adds, or all others; of a refused one the questions only. */
+/* The calls that are measured on a sample: adds and links, or all others; of a refused one the questions only. */
 static bool measured(struct sample s, bool adds)
 {
     struct edit edits[EDITS];
@@ -371,7 +375,7 @@ static bool measured(struct sample s, bool adds)
 
     edits_of(&s, edits);
     for (unsigned i = 0; good && i < EDITS && s.order != REVERSED; i++)
-        if (adds == (edits[i].kind == ADD))
+        if (adds == adds_entry(&edits[i]))
             good = edit_and_back(&t, &s, &edits[i]);
     if (!good)
         printf("check: a measured call on %s failed\n", s.name);

@@ -1,6 +1,7 @@
 /*
  * The edits and the undo, for plain.c and fast.c. Before this is included, each of them has its own
- *   inspect(file, size, profile, usage, number, at): verdict and facts, and
+ *   inspect(file, size, profile, usage, number, at): verdict and facts,
+ *   find(file, count, usage, number): the place of that entry in an accepted file, `count` where there is none, and
  *   move_starts(file, count, limit, behind, other): starts above `limit` move by `behind`, all others by `other`;
  * and CALL(name) is the name that the call gets there.
  */
@@ -228,6 +229,53 @@ blorb_edit_answer CALL(remove)(uint8_t *file, size_t size, size_t length, uint8_
     return answer(0, 0, length - 12 - gone, used + BLORB_RECORD_SIZE + kept);
 }
 
+/* 100 + k of a link whose entry goes in at `place`. */
+static struct verdict link_fault(const struct facts *f, const uint8_t *file, size_t length, uint32_t profile, size_t place, uint32_t usage,
+                                 uint32_t number)
+{
+    size_t at = entry_at(place);
+
+    if (length + 12 > BLORB_MAX_SIZE)
+        return (struct verdict){BLORB_RESULT_TOO_LONG, 0};
+    if (f->count + 1 > BLORB_MAX_ENTRIES)
+        return (struct verdict){BLORB_RESULT_TOO_MANY, 20};
+    if (!known_usage(usage))
+        return (struct verdict){BLORB_RESULT_USAGE, at};
+    if (!type_allowed(profile, usage, f->type, file + f->start + 8, f->length))
+        return (struct verdict){BLORB_RESULT_TYPE, at};
+    if (usage == BLORB_EXEC && number != 0)
+        return (struct verdict){BLORB_RESULT_EXEC_NUMBER, at + 4};
+    size_t old = find(file, f->count, usage, number);
+    if (old < f->count)
+        return (struct verdict){BLORB_RESULT_REPEATED, old < place ? at : entry_at(old + 1)};
+    return (struct verdict){0, 0};
+}
+
+blorb_edit_answer CALL(link)(uint8_t *file, size_t size, size_t length, uint8_t *journal, size_t journal_size, size_t used,
+                             uint32_t profile, const char *usage, uint32_t number, const char *new_usage, uint32_t new_number)
+{
+    uint32_t u = tag(new_usage);
+    struct facts f = opened(file, size, length, journal_size, used, profile, tag(usage), number, 0);
+
+    if (f.verdict.refusal != 0)
+        return answer(f.verdict.refusal, f.verdict.place, length, used);
+    if (!f.found)
+        return answer(BLORB_NOT_THERE, 0, length, used);
+    size_t place = f.place + 1;
+    while (place < f.count && get32(file + entry_at(place) + 8) == f.start)
+        place++;
+    struct verdict v = link_fault(&f, file, length, profile, place, u, new_number);
+    if (v.refusal != 0)
+        return answer(v.refusal, v.place, length, used);
+    if (length + 12 > size)
+        return answer(BLORB_FILE_ROOM, 0, length, used);
+    if (BLORB_RECORD_SIZE > journal_size - used)
+        return answer(BLORB_JOURNAL_ROOM, 0, length, used);
+    open_gaps(file, length, f.count, place, f.start, 0, u, new_number);
+    put_record(journal + used, (struct record){5, u, new_number, (uint32_t)place, f.start + 12, 0, 0}, NULL);
+    return answer(0, 0, length + 12, used + BLORB_RECORD_SIZE);
+}
+
 /* The last record; kind 0 where it is not well formed. */
 static struct record last_record(const uint8_t *journal, size_t used)
 {
@@ -240,9 +288,9 @@ static struct record last_record(const uint8_t *journal, size_t used)
         return none;
     const uint8_t *p = journal + used - 4 - before;
     struct record r = {p[0], get32(p + 1), get32(p + 5), get32(p + 9), get32(p + 13), get32(p + 17), get32(p + 21)};
-    if (25 + (size_t)r.length != before || r.kind < 1 || r.kind > 4)
+    if (25 + (size_t)r.length != before || r.kind < 1 || r.kind > 5)
         return none;
-    if ((r.kind == 1 || r.kind == 4) && (r.type != 0 || r.length != 0))
+    if ((r.kind == 1 || r.kind >= 4) && (r.type != 0 || r.length != 0))
         return none;
     if (r.kind == 1 && r.start != 0)
         return none;
@@ -284,6 +332,9 @@ static bool fits(const struct facts *f, const struct record *r, uint32_t profile
     case 3:
         *to = length + 12 + old;
         return (f->begins || at == length) && *to <= BLORB_MAX_SIZE && goes_in(f, r, profile, file, at, r->type, data, r->length);
+    case 5:
+        *to = length - 12;
+        return f->found && f->place == r->place && f->start == r->start && f->shared && !is_front(f, r->usage, r->number);
     default:
         *to = length + 12;
         return f->begins && *to <= BLORB_MAX_SIZE
@@ -296,8 +347,8 @@ static void take_back(uint8_t *file, size_t length, const struct facts *f, const
 {
     size_t old = r->kind == 3 ? chunk_size(r->length) : 0, at = r->start - (size_t)12;
 
-    if (r->kind == 1) {
-        close_gaps(file, length, f->count, f->place, f->start, chunk_size(f->length));
+    if (r->kind == 1 || r->kind == 5) {
+        close_gaps(file, length, f->count, f->place, f->start, r->kind == 1 ? chunk_size(f->length) : 0);
     } else if (r->kind == 2) {
         exchange(file, length, f->count, f->start, chunk_size(f->length), r->type, data, r->length);
     } else {
@@ -315,7 +366,7 @@ blorb_edit_answer CALL(undo)(uint8_t *file, size_t size, size_t length, const ui
     if (used <= journal_size)
         r = last_record(journal, used);
     /* Only what was removed goes in where a chunk begins. */
-    size_t asked = r.kind < 3 || r.start < 12 ? 0 : r.start - 12;
+    size_t asked = (r.kind != 3 && r.kind != 4) || r.start < 12 ? 0 : r.start - 12;
     struct facts f = opened(file, size, length, journal_size, used, profile, r.usage, r.number, asked);
     if (f.verdict.refusal != 0)
         return answer(f.verdict.refusal, f.verdict.place, length, used);

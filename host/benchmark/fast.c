@@ -364,6 +364,16 @@ blorb_lookup_answer fast_lookup(const uint8_t *file, size_t size, uint32_t profi
     return (blorb_lookup_answer){0, 0, f.type, f.start + skipped, 8 + (uint64_t)f.length - skipped};
 }
 
+static size_t find(const uint8_t *file, size_t count, uint32_t usage, uint32_t number)
+{
+    uint64_t pair = pair_of(usage, number);
+
+    for (size_t i = 0; i < count; i++)
+        if (pair_at(file + entry_at(i)) == pair)
+            return i;
+    return count;
+}
+
 static void move_starts(uint8_t *file, size_t count, uint32_t limit, uint32_t behind, uint32_t other)
 {
     if (behind == 0 && other == 0)

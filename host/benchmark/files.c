@@ -89,6 +89,7 @@ struct sample make_sample(const char *name, size_t count, size_t size, enum orde
         put_in(&s, resource_of(i, count, size, order), order == REVERSED ? count - 1 - i : i);
     finish(&s);
     s.first = resource_of(0, count, size, order);
+    s.middle = resource_of(count / 2 - 1, count, size, order);
     s.last = resource_of(count - 1, count, size, order);
     return s;
 }
@@ -99,6 +100,7 @@ struct sample make_pair(const char *name, size_t first, size_t second)
 
     s.first = (struct resource){"Data", "BINA", 1, first};
     s.last = (struct resource){"Data", "BINA", 2, second};
+    s.middle = s.last;
     put_in(&s, s.first, 0);
     put_in(&s, s.last, 1);
     finish(&s);
@@ -139,23 +141,30 @@ void free_sample(struct sample *s)
 static struct edit replacing(const char *name, struct resource r, size_t size)
 {
     r.size = size;
-    return (struct edit){name, REPLACE, r, NULL};
+    return (struct edit){name, REPLACE, r, NULL, NULL, 0};
 }
 
 void edits_of(const struct sample *s, struct edit edits[EDITS])
 {
     struct resource a = s->first, z = s->last;
 
-    edits[0] = (struct edit){"add 100 bytes", ADD, {"Data", "TEXT", 1000000, 100}, NULL};
-    edits[1] = (struct edit){"add 10 KB", ADD, {"Data", "TEXT", 1000000, 10240}, NULL};
+    edits[0] = (struct edit){"add 100 bytes", ADD, {"Data", "TEXT", 1000000, 100}, NULL, NULL, 0};
+    edits[1] = (struct edit){"add 10 KB", ADD, {"Data", "TEXT", 1000000, 10240}, NULL, NULL, 0};
     edits[2] = replacing("replace front, same size", a, a.size);
     edits[3] = replacing("replace front, 512 more", a, a.size + MORE);
     edits[4] = replacing("replace front, 512 less", a, a.size - MORE);
     edits[5] = replacing("replace back, same size", z, z.size);
     edits[6] = replacing("replace back, 512 more", z, z.size + MORE);
     edits[7] = replacing("replace back, 512 less", z, z.size - MORE);
-    edits[8] = (struct edit){"remove front", REMOVE, a, NULL};
-    edits[9] = (struct edit){"remove back", REMOVE, z, NULL};
+    edits[8] = (struct edit){"remove front", REMOVE, a, NULL, NULL, 0};
+    edits[9] = (struct edit){"remove back", REMOVE, z, NULL, NULL, 0};
+    edits[10] = (struct edit){"link middle", LINK, s->middle, NULL, s->middle.usage, 1000000};
+    edits[11] = (struct edit){"link back", LINK, z, NULL, z.usage, 1000000};
+}
+
+bool adds_entry(const struct edit *e)
+{
+    return e->kind == ADD || e->kind == LINK;
 }
 
 blorb_edit_answer carry_out(const struct library *l, uint8_t *file, size_t room, size_t length, uint8_t *journal,
@@ -163,6 +172,8 @@ blorb_edit_answer carry_out(const struct library *l, uint8_t *file, size_t room,
 {
     const struct resource *r = &e->what;
 
+    if (e->kind == LINK)
+        return l->link(file, room, length, journal, journal_room, used, profile, r->usage, r->number, e->usage, e->number);
     if (e->kind == REMOVE)
         return l->remove(file, room, length, journal, journal_room, used, profile, r->usage, r->number);
     adding *call = e->kind == ADD ? l->add : l->replace;

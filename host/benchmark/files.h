@@ -16,29 +16,36 @@ struct resource {
 /* Entries in chunk order, the numbers of each usage rising or falling; or in reverse order, which is refused with 27. */
 enum order { RISING, FALLING, REVERSED };
 
-/* A file in a buffer with room for its edits; `first` and `last` by file position. */
+/* A file in a buffer with room for its edits; `first` and `last` by file position, `middle` the last picture: a link of it to a greater number
+ * leaves the numbers rising. */
 struct sample {
     const char *name;
     enum order order;
     size_t count, length, room;
     uint8_t *file;
-    struct resource first, last;
+    struct resource first, middle, last;
 };
 
-enum kind { ADD, REPLACE, REMOVE };
+enum kind { ADD, REPLACE, REMOVE, LINK };
 
 struct edit {
     const char *name;
     enum kind kind;
-    struct resource what; /* of an add or a replacement: what is put in */
+    struct resource what; /* of an add or a replacement: what is put in; of a link: the original */
     const uint8_t *data;  /* its data; null for some of the payload */
+    const char *usage;    /* of a link: the new name */
+    uint32_t number;
 };
 
-enum { EDITS = 10, MORE = 512, JOURNAL_ROOM = BLORB_MAX_SIZE };
+/* Whether the edit needs room for an entry more: an index of the most entries has none. */
+bool adds_entry(const struct edit *e);
+
+enum { EDITS = 12, MORE = 512, JOURNAL_ROOM = BLORB_MAX_SIZE };
 
 enum { SAMPLES = 7 };
 
-/* The files that are measured, reversed ones by their reading only. A full index takes no add: for adds such a file has one resource less. */
+/* The files that are measured, reversed ones by their reading only. A full index takes no add and no link: for
+ * these such a file has one resource less. */
 struct sample sample(unsigned i);
 struct sample sample_to_add(unsigned i);
 

@@ -10,6 +10,8 @@ typedef struct request {
     uint32_t profile;   /* BLORB_PLAIN, or with --adrift BLORB_ADRIFT */
     char usage[4];
     uint32_t number;
+    char new_usage[4]; /* of `link` */
+    uint32_t new_number;
     char type[4];
     const char *data;   /* the path of the data, "-" for standard input */
     uint32_t edits;     /* how many `undo` takes back */
@@ -30,6 +32,7 @@ int run_new(const request *r);
 int run_add(const request *r);
 int run_replace(const request *r);
 int run_remove(const request *r);
+int run_link(const request *r);
 int run_undo(const request *r);
 int run_history(const request *r);
 int run_forget(const request *r);

@@ -1,4 +1,4 @@
-/* add, replace, remove and undo: the commands that change a Blorb file and its journal. */
+/* add, replace, remove, link and undo: the commands that change a Blorb file and its journal. */
 #define _XOPEN_SOURCE 700
 #include <errno.h>
 #include <fcntl.h>
@@ -39,8 +39,42 @@ static blorb_edit_answer call_remove(const request *r, contents *c, uint8_t *roo
     return blorb_remove(c->file, BLORB_MAX_SIZE, c->length, room, size, 0, c->profile, r->usage, r->number);
 }
 
+static blorb_edit_answer call_link(const request *r, contents *c, uint8_t *room, size_t size, bytes held)
+{
+    (void)held;
+    return blorb_link(c->file, BLORB_MAX_SIZE, c->length, room, size, 0, c->profile, r->usage, r->number, r->new_usage, r->new_number);
+}
+
+/* What to do where a second name is refused and the usual advice speaks of data; null where that is right. */
+static const char *link_advice(uint64_t refusal)
+{
+    switch (refusal) {
+    case BLORB_RESULT_TOO_LONG:
+        return "Remove another resource first.";
+    case BLORB_RESULT_TYPE:
+        return "Both names have one chunk, so its type must suit the new usage too.\n  " TYPES;
+    case BLORB_RESULT_EXEC_NUMBER:
+        return "The story of a file has the one name Exec 0.";
+    case BLORB_RESULT_REPEATED:
+        return "Use another NEWNUMBER, or remove that resource first. `blorb list` shows what the file has.";
+    default:
+        return NULL;
+    }
+}
+
+static int refused_link(const request *r, const blorb_edit_answer *a)
+{
+    char about[2 * PAIR_SIZE + 8], original[PAIR_SIZE], name[PAIR_SIZE];
+    show_pair(r->usage, r->number, original);
+    show_pair(r->new_usage, r->new_number, name);
+    snprintf(about, sizeof about, "%s as %s", original, name);
+    return say_refused(r->file, a->refusal, a->place, a->refusal == BLORB_NOT_THERE ? original : about, link_advice(a->refusal));
+}
+
 static int refused_edit(const request *r, const blorb_edit_answer *a, const data *d)
 {
+    if (r->new_usage[0] != '\0')
+        return refused_link(r, a);
     char about[80], advice[ADVICE_SIZE], pair[PAIR_SIZE], type[SHOWN_SIZE];
     show_pair(r->usage, r->number, pair);
     show_tag(r->type, type);
@@ -215,6 +249,11 @@ int run_replace(const request *r)
 int run_remove(const request *r)
 {
     return edit(r, call_remove, NULL);
+}
+
+int run_link(const request *r)
+{
+    return edit(r, call_link, NULL);
 }
 
 /* Takes one edit back in memory, and moves on to the state below it. */

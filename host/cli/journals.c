@@ -54,7 +54,7 @@ int say_unusable(const char *file, const place *p, journal_answer answer, int un
 }
 
 /* By the kind of a record; its place in the list is the kind. */
-static const char *const done_by_kind[] = {"changed", "added", "replaced", "removed", "removed"};
+static const char *const done_by_kind[] = {"changed", "added", "replaced", "removed", "removed", "linked"};
 enum { KINDS = sizeof done_by_kind / sizeof *done_by_kind };
 
 static void print_tag(const uint8_t *tag)

@@ -38,6 +38,8 @@ static const command commands[] = {
     {"replace", "funTd", "sn", "replace FILE USAGE NUMBER [TYPE] DATAFILE [--as-is] [--no-undo]",
      "give a resource another type and other data", run_replace},
     {"remove", "fun", "n", "remove FILE USAGE NUMBER [--no-undo]", "remove a resource", run_remove},
+    {"link", "funvm", "n", "link FILE USAGE NUMBER NEWUSAGE NEWNUMBER [--no-undo]",
+     "give a resource a second name, on the same data: nothing is copied", run_link},
     {"undo", "fE", "", "undo FILE [N]", "take back the last edit, or the last N, that are not taken back yet", run_undo},
     {"history", "f", "", "history FILE", "list the edits that undo can take back, the last one first", run_history},
     {"forget", "f", "", "forget FILE", "drop the journal FILE.undo, and with it all undoing up to here", run_forget},
@@ -51,7 +53,8 @@ typedef struct operand {
     const char *name;
 } operand;
 
-static const operand operands[] = {{'f', "FILE"}, {'u', "USAGE"}, {'n', "NUMBER"}, {'t', "TYPE"}, {'d', "DATAFILE"}, {'e', "N"}};
+static const operand operands[] = {{'f', "FILE"}, {'u', "USAGE"}, {'n', "NUMBER"}, {'t', "TYPE"}, {'d', "DATAFILE"}, {'e', "N"},
+                                   {'v', "NEWUSAGE"}, {'m', "NEWNUMBER"}};
 
 typedef struct option {
     char letter;
@@ -133,8 +136,10 @@ static const char *read_operand(char letter, const char *text, request *r)
         return NULL;
     case 'u':
         return read_tag(text, r->usage) == 0 ? NULL : "a usage has one to four letters";
-    case 'n':
-        return read_number(text, &r->number) == 0 ? NULL : "a number is 0 to 4294967295, in digits";
+    case 'v':
+        return read_tag(text, r->new_usage) == 0 ? NULL : "a usage has one to four letters";
+    case 'n': case 'm':
+        return read_number(text, letter == 'n' ? &r->number : &r->new_number) == 0 ? NULL : "a number is 0 to 4294967295, in digits";
     case 't':
         return read_tag(text, r->type) == 0 ? NULL : "a type has one to four letters";
     case 'e':

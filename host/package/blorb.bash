@@ -72,9 +72,10 @@ _blorb() {
         return
     fi
     case $(_blorb_operand "$usage") in
-        USAGE) mapfile -t COMPREPLY < <(compgen -W 'Pict Snd Data Exec' -- "$now") ;;
+        USAGE | NEWUSAGE) mapfile -t COMPREPLY < <(compgen -W 'Pict Snd Data Exec' -- "$now") ;;
         TYPE) mapfile -t COMPREPLY < <(compgen -W "$(_blorb_types "${COMP_WORDS[3]}" "$adrift")" -- "$now"; compgen -f -- "$now") ;;
         NUMBER) mapfile -t COMPREPLY < <(compgen -W "$(_blorb_numbers "$program" "${COMP_WORDS[2]}" "${COMP_WORDS[3]}" "$adrift")" -- "$now") ;;
+        NEWNUMBER) COMPREPLY=() ;;
         COMMAND) mapfile -t COMPREPLY < <(compgen -W "$(_blorb_commands "$program")" -- "$now") ;;
         FOLDER) mapfile -t COMPREPLY < <(compgen -d -- "$now") ;;
         *) mapfile -t COMPREPLY < <(compgen -f -- "$now") ;;

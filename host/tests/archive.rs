@@ -81,6 +81,8 @@ mod raw {
             profile: u32, usage: *const u8, number: u32, tag: *const u8, data: *const u8, data_size: usize) -> Edit;
         pub fn blorb_remove(file: *mut u8, size: usize, length: usize, journal: *mut u8, journal_size: usize, used: usize,
             profile: u32, usage: *const u8, number: u32) -> Edit;
+        pub fn blorb_link(file: *mut u8, size: usize, length: usize, journal: *mut u8, journal_size: usize, used: usize,
+            profile: u32, usage: *const u8, number: u32, new_usage: *const u8, new_number: u32) -> Edit;
         pub fn blorb_undo(file: *mut u8, size: usize, length: usize, journal: *const u8, journal_size: usize,
             used: usize, profile: u32) -> Edit;
     }
@@ -307,6 +309,7 @@ fn call_edit(edit: &Edit, state: &State, file: &mut Lent, journal: &mut Lent) ->
             (usage, *number, tag, data)
         }
         Edit::Remove { usage, number } => (usage, *number, &[0; 4], &[]),
+        Edit::Link { usage, number, new_usage, .. } => (usage, *number, new_usage, &[]),
     };
     let mut lent_usage = Lent::new(usage, file.shift + 1);
     let mut lent_tag = Lent::new(tag, file.shift + 2);
@@ -319,11 +322,12 @@ fn call_edit(edit: &Edit, state: &State, file: &mut Lent, journal: &mut Lent) ->
             Edit::Add { .. } => raw::blorb_add(f, size, length, j, journal_size, used, p, u, number, t, d, n),
             Edit::Replace { .. } => raw::blorb_replace(f, size, length, j, journal_size, used, p, u, number, t, d, n),
             Edit::Remove { .. } => raw::blorb_remove(f, size, length, j, journal_size, used, p, u, number),
+            Edit::Link { new_number, .. } => raw::blorb_link(f, size, length, j, journal_size, used, p, u, number, t, *new_number),
         }
     };
     let complaint = lent_usage
         .complaint("usage", usage)
-        .or_else(|| lent_tag.complaint("type", tag))
+        .or_else(|| lent_tag.complaint("type or new usage", tag))
         .or_else(|| lent_data.complaint("data", data));
     (edited(answer), complaint)
 }
@@ -360,6 +364,10 @@ pub fn on_huge_arrays(zeros: &mut [u8]) -> Vec<(&'static str, String, String)> {
         check("add of small data", numbers(add), [0, 0, 48, 29]);
         let replace = raw::blorb_replace(f, 100, 48, j, 100, 29, p, usage, 7, tag, z, huge);
         check("replace by huge data", numbers(replace), [101, 0, 48, 29]);
+        let link = raw::blorb_link(z, huge, huge, j, 100, 0, p, usage, 7, usage, 8);
+        check("link in a huge file", numbers(link), [1, 0, huge as u64, 0]);
+        let link = raw::blorb_link(f, 100, 48, z, huge, huge - 28, p, usage, 7, usage, 8);
+        check("link with a huge journal, no room", numbers(link), [25, 0, 48, huge as u64 - 28]);
         let add = raw::blorb_add(f, 100, 48, z, huge, huge - 28, p, usage, 8, tag, none, 0);
         check("add with a huge journal, no room", numbers(add), [25, 0, 48, huge as u64 - 28]);
         check("blank in a huge buffer", numbers(raw::blorb_blank(z, huge)), [0, 0, 24, 0]);

@@ -15,6 +15,7 @@ REPLACE = ("replace", "Data", "3", "BINA", "-"), b"another text"
 SAME = ("replace", "Data", "3", "TEXT", "-"), b"odd"
 REMOVE = ("remove", "Data", "3"), b""
 REMOVE_SHARED = ("remove", "Pict", "1"), b""
+LINK = ("link", "Pict", "1", "Pict", "8"), b""
 ANOTHER = ("add", "Data", "77", "TEXT", "-"), b"seventy-seven"
 UNDO_ONE, UNDO_TWO = (("undo",), b""), (("undo", "2"), b"")
 UNDONE = {UNDO_ONE: 1, UNDO_TWO: 2}
@@ -26,7 +27,8 @@ ENDED, TORN, OLD_VERSION, SECOND_NAME = "ended", "torn", "version 1", "second na
 # What was done before, and the call under test.
 CASES = (
     ([], ADD), ([], REMOVE), ([REMOVE_SHARED, REPLACE], ADD), ([ADD, REMOVE_SHARED], REPLACE), ([ADD], SAME),
-    ([REPLACE, ADD], REMOVE), ([ADD], REMOVE_SHARED),
+    ([REPLACE, ADD], REMOVE), ([ADD], REMOVE_SHARED), ([], LINK), ([ADD], LINK), ([LINK], REMOVE_SHARED), ([ADD, LINK], UNDO_ONE),
+    ([LINK, REMOVE_SHARED], UNDO_TWO), ([ADD, LINK, OLD_VERSION], UNDO_ONE), ([ADD, ENDED], LINK),
     ([ADD], UNDO_ONE), ([ADD, REPLACE], UNDO_ONE), ([ADD, REMOVE], UNDO_ONE), ([ADD, SAME], UNDO_ONE),
     ([ADD, REPLACE, UNDO_ONE], REMOVE), ([ADD, REPLACE, REMOVE, UNDO_ONE], UNDO_ONE),
     ([ADD, REPLACE, REMOVE], UNDO_TWO), ([ADD, REPLACE], UNDO_TWO),

@@ -6,8 +6,8 @@ import shutil
 import stat
 
 from building import Dice, blorb, put
-from command_crash import (ADD, FILE, REMOVE, REMOVE_SHARED, REPLACE, SAME, START, UNDO, UNDO_ONE, Case, call)
-from command_kit import (JOURNAL_HEAD, contents, done, editing_reference, expect, failed, live_records, reference, refused, restore, run,
+from command_crash import (ADD, FILE, LINK, REMOVE, REMOVE_SHARED, REPLACE, SAME, START, UNDO, UNDO_ONE, Case, call)
+from command_kit import (JOURNAL_HEAD, ROOT, contents, done, editing_reference, expect, failed, live_records, reference, refused, restore, run,
                          same, state_at, tried, version_1)
 from command_use import a_call
 
@@ -190,11 +190,11 @@ def history(work):
     file = work / FILE
     restore(work, {FILE: START})
     same(done("history", file), b"", "nothing can be undone")
-    for step in (ADD, REMOVE_SHARED, REPLACE, REMOVE):
+    for step in (ADD, LINK, REMOVE_SHARED, REPLACE, REMOVE):
         call(work, step)
-    lines = [b"removed Data 3 BINA 12", b"replaced Data 3 TEXT 3", b"removed Pict 1", b"added Data 9"]
-    for left in range(4, -1, -1):
-        wanted = b"".join(b"%d %s\n" % (n, line) for n, line in enumerate(lines[4 - left:], 1))
+    lines = [b"removed Data 3 BINA 12", b"replaced Data 3 TEXT 3", b"removed Pict 1", b"linked Pict 8", b"added Data 9"]
+    for left in range(5, -1, -1):
+        wanted = b"".join(b"%d %s\n" % (n, line) for n, line in enumerate(lines[5 - left:], 1))
         same(done("history", file), wanted, f"{left} edits can be undone")
         run("undo", file)
     failed("history", work / "none", saying="Check the name")
@@ -202,6 +202,26 @@ def history(work):
     shutil.copy(file, work / "closed" / FILE)
     os.chmod(work / "closed" / FILE, 0o444)
     same(done("history", work / "closed" / FILE), b"", "a file that may only be read")
+
+
+def before_links(work):
+    """A file and its journal, with a record of each kind from 1 to 4, that the program wrote before it knew links: a link goes on top, and all
+    of it undoes."""
+    file, data = work / FILE, ROOT / "host/tests/data"
+    start = blorb([(b"Pict", 1, 0), (b"Pict", 2, 0), (b"Data", 3, 1)], [(b"JPEG", b"\xff\xd8\xff"), (b"TEXT", b"odd"), (b"ANNO", b"x")])
+    held = {FILE: (data / "before_links.blb").read_bytes(), UNDO: (data / "before_links.blb.undo").read_bytes()}
+    same([record[0] for record in live_records(held[UNDO])], [1, 4, 2, 3], "the kinds of its records")
+    for linked in (False, True):
+        restore(work, held)
+        if linked:
+            done("link", file, "Data", "9", "Data", "10")
+            same([record[0] for record in live_records((work / UNDO).read_bytes())], [1, 4, 2, 3, 5], "and a link on top")
+            done("undo", file)
+            same(contents(work), held, "the link undone")
+            done("link", file, "Data", "9", "Data", "10")
+            done("undo", file)
+        done("undo", file, "4")
+        same(contents(work), {FILE: start}, "all undone")
 
 
 def several_undos(work):
@@ -395,5 +415,5 @@ def runs_with_ends(work):
     expect(ended > 50 and deepest > 10, f"{ended} calls were ended or failed, up to {deepest} edits could be undone")
 
 
-PARTS = (other_journals, journal_format, only_added_to, cost_of_an_edit, damaged_journals, no_journals, history, several_undos,
-         forgotten, without_undo, old_versions, damage_after_version_1, other_permissions, runs_with_ends)
+PARTS = (other_journals, journal_format, only_added_to, cost_of_an_edit, damaged_journals, no_journals, history, before_links,
+         several_undos, forgotten, without_undo, old_versions, damage_after_version_1, other_permissions, runs_with_ends)

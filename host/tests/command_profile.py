@@ -61,7 +61,9 @@ def house(work):
     expect(done("find", file, "Snd", "3", "--adrift").startswith(b"Snd  3 at "), "find")
     same(len(done("history", file, "--adrift").splitlines()), 8, "history")
     done("remove", "--adrift", file, "Snd", "3")
-    done("--adrift", "undo", file, "9")
+    done("link", file, "--adrift", "Pict", "1", "Pict", "9")
+    same(done("get", file, "Pict", "9", "--adrift"), done("get", file, "Pict", "1", "--adrift"), "link")
+    done("--adrift", "undo", file, "10")
     same(file.read_bytes(), editing_reference.BLANK, "all undone")
     expect(not (work / UNDO).exists(), "nothing is left to undo")
 
@@ -74,7 +76,7 @@ def without(work):
     held = contents(work)
     for words in (["check"], ["get", "Pict", "1"], ["get", "--all", work / "all"], ["table"], ["find", "Pict", "1"], ["history"],
                   ["add", "Data", "9", "TEXT", "-"], ["replace", "Pict", "1", "GIF", "-"], ["remove", "Pict", "1"], ["undo"],
-                  ["remove", "Pict", "1", "--no-undo"]):
+                  ["link", "Pict", "1", "Pict", "9"], ["remove", "Pict", "1", "--no-undo"]):
         refused(14, 24, words[0], file, *words[1:], advice="--adrift allows them")
     refused_list(14, 24, file, advice="--adrift allows them")
     same(json.loads(run("list", file, "--json").out), {"refused": 14, "place": 24}, "list --json")
@@ -111,7 +113,8 @@ def others(work, file, option, saying, advice):
     held = contents(work)
     result = refused(21, 0, "undo", file, *option, advice=advice)
     expect(saying in result.err, f"undo says which: {result.err}")
-    for words in (["add", file, "Data", "9", "TEXT", "-"], ["replace", file, "Data", "3", "TEXT", "-"], ["remove", file, "Data", "3"]):
+    for words in (["add", file, "Data", "9", "TEXT", "-"], ["replace", file, "Data", "3", "TEXT", "-"], ["remove", file, "Data", "3"],
+                  ["link", file, "Data", "3", "Data", "9"]):
         expect(advice in failed(*words, *option, stdin=b"new", saying=saying).err, f"{words[0]}: advice")
         failed(*words, *option, "--no-undo", stdin=b"new", saying="could not be undone any more")
     expect(b"added Data 8" in done("history", file, *option), "history")
@@ -184,7 +187,7 @@ def words(work):
     failed("check", "--", "--adrift", saying="--adrift")
     failed("--adrif", "check", file, saying="no command")
     failed("check", file, "--adrif", saying="no such option")
-    for command in ("list", "check", "table", "find", "get", "new", "add", "replace", "remove", "undo", "history", "forget"):
+    for command in ("list", "check", "table", "find", "get", "new", "add", "replace", "remove", "link", "undo", "history", "forget"):
         expect(b"--adrift" in done("help", command), f"help {command}")
 
 

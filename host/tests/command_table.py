@@ -1,6 +1,6 @@
 """The finding table beside a file: written, brought up to date by every edit, checked, and caught where it is stale."""
 from building import blorb
-from command_crash import ADD, FILE, REMOVE, REMOVE_SHARED, REPLACE, SAME, START, UNDO, UNDO_ONE, call, steps_of
+from command_crash import ADD, FILE, LINK, REMOVE, REMOVE_SHARED, REPLACE, SAME, START, UNDO, UNDO_ONE, call, steps_of
 from command_kit import ENDED_BY_SHIM, be, contents, done, expect, failed, jpeg, reference, refused, restore, run, same
 import table_reference
 
@@ -45,7 +45,7 @@ def tables(work):
         same(found.split(b" probes ")[0], b"%s %d at %d" % (usage, number, start), "find")
         same(START[start:start + 4], kind, "find gives the chunk")
     expect(" 2 rows looked at" in refused(22, 0, "find", file, "Pict", "3").err, "find says how many rows it looked at")
-    for step in (ADD, REPLACE, SAME, REMOVE_SHARED, REMOVE, UNDO_ONE, UNDO_ONE, UNDO_ONE):
+    for step in (ADD, REPLACE, SAME, LINK, UNDO_ONE, LINK, REMOVE_SHARED, REMOVE, UNDO_ONE, UNDO_ONE, UNDO_ONE, UNDO_ONE):
         same(call(work, step).status, 0, f"{step[0]} with a table")
         up_to_date(work, step[0])
         expect(not [n for n in contents(work) if n.endswith(".blorb-temp")], f"{step[0]} leaves nothing behind")
@@ -115,7 +115,8 @@ def stale_tables(work):
 
 def tables_at_every_step(work):
     """Ended before each step and in the middle of each write: the table is right, or the check refuses it."""
-    cases = [([], ("table",)), ([], ADD), ([ADD], REPLACE), ([ADD], SAME), ([ADD], REMOVE), ([ADD, REPLACE], UNDO_ONE), ([ADD], UNDO_ONE)]
+    cases = [([], ("table",)), ([], ADD), ([ADD], REPLACE), ([ADD], SAME), ([ADD], REMOVE), ([ADD, REPLACE], UNDO_ONE), ([ADD], UNDO_ONE),
+             ([ADD], LINK), ([LINK], UNDO_ONE)]
     for earlier, step in cases:
         folder = work / "beside"
         folder.mkdir(exist_ok=True)

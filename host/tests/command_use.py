@@ -8,13 +8,13 @@ import subprocess
 import time
 
 from building import Dice, blorb, chunk, form, grow, index, put, put32, right_length
-from command_kit import (PROGRAM, ROOT, aiff, be, contents, done, edited, editing_reference, expect, failed, jpeg, listing, mod, ogg,
-                         png, reference, refused, refused_list, run, same, tried)
+from command_kit import (PROGRAM, ROOT, aiff, be, contents, done, edited, editing_reference, expect, failed, jpeg, listing,
+                         live_records, mod, ogg, png, reference, refused, refused_list, run, same, tried)
 
 BLANK = bytes.fromhex("464f524d000000104946525352496478 0000000400000000")
 SAMPLE_A = bytes.fromhex("464f524d00000028 49465253 5249647800000010 00000001 446174610000000700000024 5445585400000003 65656c00")
 LIMIT = 16_777_216
-NAMES = ("list", "check", "get", "new", "add", "replace", "remove", "undo", "history", "forget")
+NAMES = ("list", "check", "get", "new", "add", "replace", "remove", "link", "undo", "history", "forget")
 NOBODY = 65534
 SOUNDS = ROOT / "host/tests/data"
 
@@ -34,7 +34,8 @@ def help_and_misuse(work):
     failed("lists", "x", saying="--help")
     failed("help", "lists", saying="no command lists")
     for words, missing in ((["add", "x"], "USAGE, NUMBER, DATAFILE"), (["add", "x", "Pict", "1"], "DATAFILE"),
-                           (["get", "x", "Pict"], "NUMBER"), (["remove", "x"], "USAGE, NUMBER")):
+                           (["get", "x", "Pict"], "NUMBER"), (["remove", "x"], "USAGE, NUMBER"),
+                           (["link", "x", "Pict", "1"], "NEWUSAGE, NEWNUMBER"), (["link", "x", "Pict", "1", "Pict"], "NEWNUMBER")):
         failed(*words, saying=f"missing: {missing}\n")
     failed("add", work / "x", "Pict", "1", "PNG", saying="DATAFILE is missing")
     for number in ("0", "-1", "x", "4294967296"):
@@ -174,6 +175,46 @@ def played_back(work):
         same((heard, len(heard)), (samples_in(sound.read_bytes()), length), f"what SoX hears in {number}")
 
 
+def links(work):
+    """One chunk for two names: made, read, kept apart from replacements, removed on either side, and undone."""
+    file = work / "game.blb"
+    start = edited(editing_reference.added, SAMPLE_A, b"Pict", 1, b"Rect", be(320) + be(200))
+    file.write_bytes(start)
+    same(done("link", file, "Pict", "1", "Pict", "2"), b"", "link is silent")
+    linked = file.read_bytes()
+    same(linked, edited(editing_reference.linked, start, b"Pict", 1, b"Pict", 2), "the file with a link")
+    same(done("list", file), b"blorb 88 bytes 3 resources\nData 7 at 60 TEXT 3\nPict 1 at 72 Rect 8\nPict 2 at 72 Rect 8\n", "list")
+    same(done("list", file, "--long").count(b"one chunk for 2 resources"), 2, "list --long says so")
+    same(done("get", file, "Pict", "2"), be(320) + be(200), "the new name's data")
+    same(done("history", file), b"1 linked Pict 2\n", "history")
+    same(live_records((work / "game.blb.undo").read_bytes()),
+         [bytes([5]) + b"Pict" + be(2) + be(2) + be(72) + bytes(4) + be(0) + be(25)], "the record")
+    for number in ("1", "2"):
+        refused(23, 0, "replace", file, "Pict", number, "Rect", "-", stdin=bytes(8))
+        done("remove", file, "Pict", number)
+        same(file.read_bytes(), edited(editing_reference.removed, linked, b"Pict", int(number)), f"without Pict {number}")
+        same(done("get", file, "Pict", str(3 - int(number))), be(320) + be(200), "the other one keeps the data")
+        done("undo", file)
+        same(file.read_bytes(), linked, "undo of the removal")
+    expect("'Pict' 9." in refused(22, 0, "link", file, "Pict", "9", "Pict", "3").err, "the missing original is named")
+    expect("'Pict' 1 as 'Pict' 2." in refused(116, 60, "link", file, "Pict", "1", "Pict", "2", advice="another NEWNUMBER").err, "both names")
+    refused(114, 60, "link", file, "Pict", "1", "Data", "7", advice="must suit the new usage")
+    same(file.read_bytes(), linked, "a refused link changes nothing")
+    done("link", file, "Pict", "2", "Pict", "3")
+    done("link", file, "Data", "7", "Data", "8")
+    same(done("list", file).count(b" at 84 TEXT "), 2, "a link in front")
+    done("undo", file, "3")
+    same(contents(work), {"game.blb": start}, "all undone")
+    done("link", file, "Pict", "1", "Pict", "2", "--no-undo")
+    same(contents(work), {"game.blb": linked}, "--no-undo")
+    done("new", work / "story.blb")
+    done("add", work / "story.blb", "Exec", "0", "AGT", "-", stdin=b"story")
+    refused(115, 40, "link", work / "story.blb", "Exec", "0", "Exec", "1", advice="one name Exec 0")
+    for wrong in ("-1", "x", "4294967296", ""):
+        failed("link", file, "Pict", "1", "Pict", wrong, saying="usage: blorb link")
+    failed("link", file, "Pict", "1", "Picts", "3", saying="one to four letters")
+
+
 def wrong_files():
     """One file at least for each refusal of the reader, and what it is."""
     text = [(b"TEXT", b"eel")]
@@ -262,14 +303,18 @@ def refused_edits(work):
             (109, len(shared) + 12, "add", "Data", "5", "RIdx", "-"), (112, last, "add", "\x1bPic", "5", "PNG", "-"),
             (114, last, "add", "Pict", "5", "\x1b[2J", "-"), (114, 48, "replace", "Data", "3", "JPEG", "-"),
             (115, last + 4, "add", "Exec", "1", "ZCOD", "-"), (116, last, "add", "Data", "3", "TEXT", "-"),
-            (119, len(shared) - 12 - 8 - 108 + 8 - 12, "remove", "Pict", "4")):
-        text = refused(number, place, words[0], file, *words[1:], stdin=b"new").err
+            (119, len(shared) - 12 - 8 - 108 + 8 - 12, "remove", "Pict", "4"),
+            (22, 0, "link", "Pict", "5", "Pict", "1"), (22, 0, "link", "\x1bPic", "5", "Pict", "1"), (112, 48, "link", "Pict", "1", "\x1bPic", "5"),
+            (114, 48, "link", "Pict", "1", "Snd", "5"), (116, 48, "link", "Pict", "1", "Pict", "1"), (116, 72, "link", "Pict", "1", "Pict", "4")):
+        advice = {114: "one chunk", 116: "another NEWNUMBER"}.get(number) if words[0] == "link" else None
+        text = refused(number, place, words[0], file, *words[1:], stdin=b"new", advice=advice).err
         expect(all(c == "\n" or " " <= c <= "~" for c in text), f"only printable text: {text!r}")
         same(contents(work), held, f"{words} refused, nothing changed")
     expect("'Data' 4." in refused(22, 0, "get", file, "Data", "4").err, "what is not there is named")
     full = blorb([(b"Data", i, 0) for i in range(4096)], [(b"TEXT", b"")])
     file.write_bytes(full)
     refused(111, 20, "add", file, "Data", "5000", "TEXT", "-")
+    refused(111, 20, "link", file, "Data", "0", "Data", "5000")
     same(done("list", file), listing(full), "list of 4,096 entries")
     same(contents(work), {"game.blb": full}, "4,096 entries and no more")
 
@@ -307,10 +352,13 @@ def a_call(dice, file):
     usage, number = dice.one_of(pairs)
     kind = dice.one_of(KINDS[usage])
     data = dice.bytes(8 if kind == "Rect" else dice.below(40))
-    what = dice.one_of(["added", "added", "replaced", "removed"])
+    what = dice.one_of(["added", "added", "added", "replaced", "removed", "linked", "linked"])
     tags = [usage.ljust(4).encode(), number]
-    words = [{"added": "add", "replaced": "replace", "removed": "remove"}[what], file, usage, str(number)]
-    if what != "removed":
+    words = [{"added": "add", "replaced": "replace", "removed": "remove", "linked": "link"}[what], file, usage, str(number)]
+    if what == "linked":
+        tags += [usage.ljust(4).encode(), 10 + dice.below(30)]
+        words += [usage, str(tags[-1])]
+    elif what != "removed":
         tags += [kind.ljust(4).encode(), data]
         words += [kind, "-", "--as-is"]
     return words, data, lambda old: edited(getattr(editing_reference, what), old, *tags)
@@ -320,6 +368,7 @@ def chains(work):
     """Long mixed runs against the reference, then undo all the way back to the starting file."""
     dice, file = Dice(2004), work / "chain.blb"
     shared = blorb([(b"Pict", 1, 0), (b"Pict", 2, 0), (b"Data", 3, 1)], [(b"JPEG", jpeg()), (b"TEXT", b"odd"), (b"ANNO", b"x")])
+    linked = 0
     for start in (BLANK, shared):
         file.write_bytes(start)
         states = [start]
@@ -334,6 +383,7 @@ def chains(work):
                 try:
                     states.append(change(states[-1]))
                     same(result.status, 0, f"{words}: {result}")
+                    linked += words[0] == "link"
                 except reference.Refusal:
                     same(result.status, 1, f"{words}: {result}")
             same(file.read_bytes(), states[-1], "the file after a step")
@@ -344,6 +394,7 @@ def chains(work):
             same(file.read_bytes(), states[-1], "the file after an undo")
         refused(26, 0, "undo", file)
         same(contents(work), {"chain.blb": start}, "back at the starting file, byte for byte")
+    expect(linked > 10, f"{linked} links in the runs")
 
 
 def at_the_limit(work):
@@ -354,6 +405,7 @@ def at_the_limit(work):
     same(done("check", file), b"accepted 16777216 bytes 1 resources\n", "exactly the limit")
     same(done("get", file, "Data", "1"), bytes(LIMIT - 44), "its data")
     refused(101, 0, "add", file, "Data", "2", "BINA", "-")
+    refused(101, 0, "link", file, "Data", "1", "Data", "2", advice="Remove another resource")
     data.write_bytes(b"\1" * (LIMIT - 44))
     done("replace", file, "Data", "1", "BINA", data)
     done("remove", file, "Data", "1")
@@ -646,6 +698,6 @@ def two_at_once(work):
     expect("waiting for another blorb" in said and said.count("\n") == 1, f"after a second it says so, once: {said!r}")
 
 
-PARTS = (help_and_misuse, names_with_dashes, samples_of_01, media, played_back, refused_files, broken_off, out_of_order, refused_edits, cut_and_damaged,
-         chains, at_the_limit, new_and_names, no_journal_covered, links_and_permissions, outputs, size_limit, full_disk, permissions,
+PARTS = (help_and_misuse, names_with_dashes, samples_of_01, media, played_back, links, refused_files, broken_off, out_of_order, refused_edits,
+         cut_and_damaged, chains, at_the_limit, new_and_names, no_journal_covered, links_and_permissions, outputs, size_limit, full_disk, permissions,
          other_groups, two_at_once)

@@ -90,6 +90,11 @@ fn describe(call: &Call, state: &State) -> String {
         Call::Edit(Edit::Remove { usage, number }) => {
             format!("blorb_remove usage=\"{}\" number={number}", usage.escape_ascii())
         }
+        Call::Edit(Edit::Link { usage, number, new_usage, new_number }) => format!(
+            "blorb_link usage=\"{}\" number={number} new_usage=\"{}\" new_number={new_number}",
+            usage.escape_ascii(),
+            new_usage.escape_ascii()
+        ),
         Call::Undo => "blorb_undo".to_string(),
     };
     let State { profile, file, length, journal, used } = state;
@@ -221,7 +226,25 @@ fn check_call_on(tally: &mut Tally, buffers: &mut Buffers, call: &Call, state: &
     }
     count_large(tally, call, expected.refusal, state, &after);
     check_whole(tally, call, expected.refusal, state, &after);
+    check_link(tally, call, expected, state, &after);
     (expected, after)
+}
+
+/// A link: both names then give the same; and which of the two entries 116 is about.
+fn check_link(tally: &mut Tally, call: &Call, answer: Answer, state: &State, after: &State) {
+    let Call::Edit(Edit::Link { usage, number, new_usage, new_number }) = call else { return };
+    let file = &after.file[..after.length.min(after.file.len())];
+    if answer.refusal == 0 {
+        let view = reference::read(file, state.profile);
+        let [one, other] = [(usage, number), (new_usage, new_number)].map(|(u, n)| reference::lookup_answer(file, &view, u, *n));
+        if one != other || one.is_err() {
+            tally.fail(&describe(call, state), &format!("two names, two answers: {one:?} and {other:?}"));
+        }
+    }
+    if let (116, Ok(view)) = (answer.refusal, reference::read(file, state.profile)) {
+        let chunk_of = |usage, number| view.entries.iter().find(|entry| (&entry.usage, &entry.number) == (usage, number)).map(|entry| entry.chunk);
+        tally.count("link 116", (chunk_of(new_usage, new_number) > chunk_of(usage, number)) as u64);
+    }
 }
 
 /// An add or replacement of type 'FORM': what a call with a wrong head was answered (but for reasons of the file), and that what was put in
@@ -312,6 +335,7 @@ fn rows_again(call: &Call) -> [&'static str; 2] {
         Call::Edit(Edit::Add { .. }) => ["add 52", "add as plain"],
         Call::Edit(Edit::Replace { .. }) => ["replace 52", "replace as plain"],
         Call::Edit(Edit::Remove { .. }) => ["remove 52", "remove as plain"],
+        Call::Edit(Edit::Link { .. }) => ["link 52", "link as plain"],
         Call::Undo => ["undo 52", "undo as plain"],
     }
 }
@@ -450,8 +474,8 @@ fn edit_state(rng: &mut Rng, file: Vec<u8>, call: &Call) -> State {
 
 fn edits_of_valid_files(tally: &mut Tally, rng: &mut Rng) {
     let file = some_draft(rng).render().bytes;
-    for _ in 0..4 {
-        let call = Call::Edit(generate::edit_call(rng, &file, 36, 36));
+    for _ in 0..5 {
+        let call = Call::Edit(generate::edit_call(rng, &file, [30, 30, 20]));
         let mut state = edit_state(rng, file.clone(), &call);
         if rng.chance(50) {
             state = generate::tighten(rng, &call, state);
@@ -476,11 +500,11 @@ fn edits_of_bad_files(tally: &mut Tally, rng: &mut Rng) {
         7..=8 => damaged_file(rng),
         _ => generate::random_bytes(rng),
     };
-    for choice in 0..4 {
-        let adds = [100, 0, 0, 0][choice];
-        let replaces = [0, 100, 0, 0][choice];
-        let edit = generate::edit_call(rng, &file, adds, replaces);
-        let call = if choice == 3 { Call::Undo } else { Call::Edit(edit) };
+    for shares in [Some([100, 0, 0]), Some([0, 100, 0]), Some([0, 0, 100]), Some([0, 0, 0]), None] {
+        let call = match shares {
+            Some(shares) => Call::Edit(generate::edit_call(rng, &file, shares)),
+            None => Call::Undo,
+        };
         let mut state = edit_state(rng, file.clone(), &call);
         match rng.below(20) {
             0 => generate::exceed(rng, &mut state),
@@ -577,7 +601,7 @@ fn call_of_run(rng: &mut Rng, state: &State, style: usize, step: usize) -> Call 
     let undo = if state.used == 0 { 4 } else { undo_chance(style, step) };
     match rng.chance(undo) {
         true => Call::Undo,
-        false => Call::Edit(generate::edit_call(rng, &state.file[..state.length], 45, 25)),
+        false => Call::Edit(generate::edit_call(rng, &state.file[..state.length], [36, 22, 20])),
     }
 }
 
@@ -641,6 +665,7 @@ fn rows() -> Vec<(&'static str, Vec<u64>)> {
         taking(["add", "add 52"], &[20, 24, 25, 30, 101, 109, 111, 112, 114, 115, 116]),
         taking(["replace", "replace 52"], &[20, 22, 23, 24, 25, 30, 101, 109, 114, 119]),
         taking(["remove", "remove 52"], &[20, 22, 25, 119]),
+        taking(["link", "link 52"], &[20, 22, 24, 25, 101, 111, 112, 114, 115, 116]),
         taking(["undo", "undo 52"], &[20, 21, 24, 26]),
     ];
     let others = vec![
@@ -659,12 +684,15 @@ fn rows() -> Vec<(&'static str, Vec<u64>)> {
         ("add as plain", vec![0, 14, 114]),
         ("replace as plain", vec![0, 14, 114]),
         ("remove as plain", vec![0, 14]),
+        ("link as plain", vec![0, 14]),
         ("undo as plain", vec![0, 14, 21]),
         ("built", file.clone()),
         ("pairs", generate::ORDER.into_iter().filter(|&number| generate::next_in_order(number).is_some()).collect()),
         ("ledger", in_runs.clone()),
         ("ledger ADRIFT", in_runs),
-        ("undone", vec![1, 2, 3, 4]),
+        ("undone", vec![1, 2, 3, 4, 5]),
+        // 116 of a link: 1 where the later of the two is the old entry.
+        ("link 116", vec![0, 1]),
     ];
     calls.into_iter().flatten().chain(others).collect()
 }
@@ -674,12 +702,13 @@ fn print_large(tally: &Tally, count: u64) -> bool {
     println!("calls on files of over {PART} bytes, a part (done: carried out, part and parts: over one and two moved,");
     println!("whole: whole parts moved, copied: data of over a part, in any file, no room: refused with 24 or 25):");
     let mut good = true;
-    for row in ["add", "replace", "remove", "undo"] {
+    for row in ["add", "replace", "remove", "link", "undo"] {
         let seen = tally.large.get(row).copied().unwrap_or_default();
         let list: Vec<String> = LARGE.iter().zip(seen).map(|((name, _), seen)| format!("{name}:{seen}")).collect();
         println!("  {row:7} {}", list.join(" "));
         for ((name, least), seen) in LARGE.iter().zip(seen) {
-            let least = least * count / DEFAULT_COUNT;
+            // A link copies no data.
+            let least = if (row, *name) == ("link", "copied") { 0 } else { least * count / DEFAULT_COUNT };
             if count >= ENOUGH && seen < least {
                 println!("compare: {row} has {name}:{seen}, which must be {least} at least");
                 good = false;
@@ -693,7 +722,8 @@ fn print_large(tally: &Tally, count: u64) -> bool {
 fn print_table(tally: &Tally, complete: bool) -> bool {
     println!("how often each number was seen (built: refusals by construction, pairs: k with the next in order in one file,");
     println!("ledger: answers in runs, undone: kinds of records; 52 and 30: what 52 and 30 came before; as plain: of what was good under");
-    println!("ADRIFT; lookup FORM: whole chunks of even and odd length; wrong head: answers to data of type 'FORM' with a wrong head):");
+    println!("ADRIFT; lookup FORM: whole chunks of even and odd length; wrong head: answers to data of type 'FORM' with a wrong head;");
+    println!("link 116: 0 where the new entry is the later one, 1 where the old one is):");
     let mut good = true;
     for (row, numbers) in rows() {
         let seen: BTreeMap<u64, u64> =

@@ -64,6 +64,12 @@ static void removal(blorb_editor *e, const char *usage, uint32_t number, uint64_
          blorb_remove(file[1], ROOM, length, journal[1], JOURNAL, used, e->profile, usage, number), refusal, "remove");
 }
 
+static void linking(blorb_editor *e, const char *usage, uint32_t number, const char *new_usage, uint32_t new_number, uint64_t refusal)
+{
+    same(e, blorb_editor_link(e, usage, number, new_usage, new_number),
+         blorb_link(file[1], ROOM, length, journal[1], JOURNAL, used, e->profile, usage, number, new_usage, new_number), refusal, "link");
+}
+
 static void undo(blorb_editor *e, uint64_t refusal)
 {
     same(e, blorb_editor_undo(e), blorb_undo(file[1], ROOM, length, journal[1], JOURNAL, used, e->profile), refusal, "undo");
@@ -104,6 +110,13 @@ static void run(uint32_t profile)
     replace(&e, "Data", 7, "BINA", "conger eel", BLORB_DONE);
     replace(&e, "Data", 7, "FORM", "AIFF without its head", BLORB_WHOLE_FORM);
     removal(&e, "Data", 8, BLORB_NOT_THERE);
+    linking(&e, "Pict", 1, "Pict", 1, BLORB_RESULT_REPEATED);
+    linking(&e, "Pict", 9, "Pict", 8, BLORB_NOT_THERE);
+    linking(&e, "Pict", 1, "Pict", 8, BLORB_DONE);
+    reads(&e, "Pict", 8);
+    removal(&e, "Pict", 8, BLORB_DONE);
+    undo(&e, BLORB_DONE);
+    undo(&e, BLORB_DONE);
     removal(&e, "Data", 7, BLORB_DONE);
     reads(&e, "Data", 7);
     add(&e, "Data", 9, "TEXT", "a text that is too long for what is left of the buffer, since it takes more than two hundred bytes; one that has to be"
@@ -156,6 +169,7 @@ static void beyond(uint32_t profile, uint64_t refusal)
     expect(blorb_editor_table_build(&e, table[0], NUMBERS).refusal == refusal, "build: 20");
     expect(blorb_editor_table_check(&e, table[0], NUMBERS).refusal == refusal, "check: 20");
     expect(blorb_editor_undo(&e).refusal == refusal && e.length == (size_t)-1, "undo: 20");
+    expect(blorb_editor_link(&e, "Data", 7, "Data", 8).refusal == refusal && e.length == (size_t)-1, "link: 20");
     expect(blorb_editor_add(&e, "Data", 7, "TEXT", few, 3).refusal == refusal && blorb_editor_remove(&e, "Data", 7).refusal == refusal
            && blorb_editor_replace(&e, "Data", 7, "TEXT", few, 3).refusal == refusal && e.length == (size_t)-1 && e.used == 0, "edits: 20");
 }

@@ -690,14 +690,31 @@ fn replace_call(rng: &mut Rng, file: &[u8]) -> Edit {
     Edit::Replace { usage, number, tag, data }
 }
 
-/// An edit to be tried on this file; the numbers are out of 100.
-pub fn edit_call(rng: &mut Rng, file: &[u8], adds: usize, replaces: usize) -> Edit {
+/// A link to mostly one that is there, under mostly a new name of the same usage.
+pub fn link_call(rng: &mut Rng, file: &[u8]) -> Edit {
+    let (usage, number) = target(rng, file);
+    let (new_usage, new_number) = match rng.below(20) {
+        0 => (unknown_usage(rng), self::number(rng, 20)),
+        1..=2 => (*rng.pick(&USAGES), self::number(rng, 60)),
+        3..=5 => target(rng, file),
+        6 => (usage, number),
+        _ if &usage == b"Exec" && rng.chance(50) => (usage, 0),
+        _ => (usage, self::number(rng, 60)),
+    };
+    Edit::Link { usage, number, new_usage, new_number }
+}
+
+/// An edit to be tried on this file, by how many of 100 are adds, replacements and links; the others are removals.
+pub fn edit_call(rng: &mut Rng, file: &[u8], [adds, replaces, links]: [usize; 3]) -> Edit {
     let choice = rng.below(100);
     if choice < adds {
         return add_call(rng, file);
     }
     if choice < adds + replaces {
         return replace_call(rng, file);
+    }
+    if choice < adds + replaces + links {
+        return link_call(rng, file);
     }
     let (usage, number) = target(rng, file);
     Edit::Remove { usage, number }

@@ -427,6 +427,8 @@ static void large_files(void)
     expect(r.refusal == 0 && r.length == BLORB_MAX_SIZE && r.count == 1, "exactly the limit");
     blorb_edit_answer a = blorb_add(l.at, size, BLORB_MAX_SIZE, NULL, 0, 0, profile, "Data", 8, "TEXT", NULL, 0);
     expect(a.refusal == BLORB_RESULT_TOO_LONG && a.place == 0 && a.length == BLORB_MAX_SIZE && a.used == 0, "101");
+    a = blorb_link(l.at, size, BLORB_MAX_SIZE, NULL, 0, 0, profile, "Data", 7, "Data", 8);
+    expect(a.refusal == BLORB_RESULT_TOO_LONG && a.place == 0 && a.length == BLORB_MAX_SIZE && a.used == 0, "link: 101");
     lent small = lend(f.at, f.length, f.length);
     a = blorb_replace(small.at, small.size, f.length, NULL, 0, 0, profile, "Data", 7, "BINA", l.at, size);
     expect(a.refusal == BLORB_RESULT_TOO_LONG && memcmp(small.at, f.at, f.length) == 0, "replace: 101");
@@ -462,6 +464,8 @@ static void many_entries(void)
     expect(r.refusal == BLORB_TOO_MANY && r.place == 20, "11");
     blorb_edit_answer a = blorb_add(most.at, most.size, most.size, NULL, 0, 0, profile, "Data", 5000, "TEXT", NULL, 0);
     expect(a.refusal == BLORB_RESULT_TOO_MANY && a.place == 20 && a.length == most.size, "111");
+    a = blorb_link(most.at, most.size, most.size, NULL, 0, 0, profile, "Data", 5, "Data", 5000);
+    expect(a.refusal == BLORB_RESULT_TOO_MANY && a.place == 20 && a.length == most.size, "link: 111");
     give_back(&most);
     give_back(&over);
 }
@@ -535,6 +539,11 @@ static blorb_edit_answer replace(pair *p, const char *usage, uint32_t number, co
 static blorb_edit_answer removal(pair *p, const char *usage, uint32_t number)
 {
     return blorb_remove(p->file.at, p->file.size, p->length, p->journal.at, p->journal.size, p->used, profile, usage, number);
+}
+
+static blorb_edit_answer linking(pair *p, const char *usage, uint32_t number, const char *new_usage, uint32_t new_number)
+{
+    return blorb_link(p->file.at, p->file.size, p->length, p->journal.at, p->journal.size, p->used, profile, usage, number, new_usage, new_number);
 }
 
 static blorb_edit_answer undo(pair *p)
@@ -695,12 +704,14 @@ static void test_undo_damaged(void)
     }
 }
 
-/* One of the four calls that change a file. */
+/* One of the calls that change a file. */
+enum { EDITS = 5 };
 static blorb_edit_answer any_edit(pair *p, int call)
 {
     return call == 0   ? add(p, "Data", 8, "TEXT", "", 0)
            : call == 1 ? replace(p, "Data", 7, "TEXT", "", 0)
            : call == 2 ? removal(p, "Data", 7)
+           : call == 3 ? linking(p, "Data", 7, "Data", 8)
                        : undo(p);
 }
 
@@ -713,7 +724,7 @@ static void test_broken_off(void)
         put32(f.at + 4, (uint32_t)length - 8);
         uint64_t refusal = length < 44 ? 6 : length < 47 ? 28 : 29, place = length < 44 ? 36 : length < 47 ? 40 : 47;
         reads(&f, refusal, place, 0, "6, 28 or 29");
-        for (int call = 0; call < 4; call++) {
+        for (int call = 0; call < EDITS; call++) {
             pair p = prepared(&f, 90, &none, 40);
             refused(&p, any_edit(&p, call), refusal, place, "an edit or undo: 6, 28 or 29");
         }
@@ -739,7 +750,7 @@ static void test_order(void)
     image name = record(4, "Pict", 4, 3, 72, "\0\0\0\0", "", 0);
     reads(&f, 27, 44, 0, "27");
     reads(&s, 0, 0, 3, "equal starts");
-    for (int call = 0; call < 4; call++) {
+    for (int call = 0; call < EDITS; call++) {
         pair p = prepared(&f, 90, &none, 40);
         refused(&p, any_edit(&p, call), 27, 44, "an edit or undo: 27");
     }
@@ -757,7 +768,7 @@ static void test_lengths(void)
     image none = {.length = 0}, a = sample_a();
     size_t wrong[][2] = {{49, 0}, {SIZE_MAX, 0}, {48, 31}, {48, SIZE_MAX}, {SIZE_MAX, SIZE_MAX}};
     for (size_t i = 0; i < sizeof wrong / sizeof *wrong; i++)
-        for (int call = 0; call < 4; call++) {
+        for (int call = 0; call < EDITS; call++) {
             pair p = prepared(&a, 48, &none, 30);
             p.length = wrong[i][0];
             p.used = wrong[i][1];
@@ -936,6 +947,129 @@ static void test_wrong_heads(void)
     refused(&p, add(&p, "Snd ", 4, "FORM", "AIFF!", 5), 3, 0, "the file's refusal before 30");
 }
 
+/* ---- links (02, P8) */
+
+/* Sample B with Pict 1 as Pict 2 too. */
+static image linked(void)
+{
+    image f = blank();
+    row(&f, "Data", 7, 60);
+    row(&f, "Pict", 1, 72);
+    row(&f, "Pict", 2, 72);
+    chunk(&f, "TEXT", "eel", 3);
+    chunk(&f, "Rect", "\0\0\1\x40\0\0\0\0", 8);
+    return f;
+}
+
+static void test_link(void)
+{
+    image none = {.length = 0}, b = sample_b(), f = linked(), left = blank(), old = {.at = "old", .length = 3};
+    image rec = record(5, "Pict", 2, 2, 72, "\0\0\0\0", "", 0), entry = record(4, "Pict", 1, 1, 72, "\0\0\0\0", "", 0);
+    row(&left, "Data", 7, 48);
+    row(&left, "Pict", 2, 60);
+    chunk(&left, "TEXT", "eel", 3);
+    chunk(&left, "Rect", "\0\0\1\x40\0\0\0\0", 8);
+    pair p = prepared(&b, 88, &none, 29);
+    made(&p, linking(&p, "Pict", 1, "Pict", 2), &f, &rec, 29, "link, no byte to spare");
+    p = prepared(&b, 100, &old, 50);
+    made(&p, linking(&p, "Pict", 1, "Pict", 2), &f, &rec, 32, "link, bytes to spare");
+    finds(&f, 1, "Pict", 1, 72, BLORB_TAG('R', 'e', 'c', 't'), 8);
+    finds(&f, 2, "Pict", 2, 72, BLORB_TAG('R', 'e', 'c', 't'), 8);
+    p = prepared(&f, 88, &rec, 29);
+    made(&p, undo(&p), &b, NULL, 0, "undo of a link");
+    p = prepared(&f, 88, &none, 29);
+    made(&p, removal(&p, "Pict", 1), &left, &entry, 29, "the original removed, the chunk stays");
+    p = prepared(&left, 88, &entry, 29);
+    made(&p, undo(&p), &f, NULL, 0, "and put back");
+    p = prepared(&f, 100, &none, 60);
+    refused(&p, replace(&p, "Pict", 1, "Rect", "12345678", 8), 23, 0, "replace of a linked one: 23");
+    p = prepared(&f, 100, &none, 60);
+    refused(&p, replace(&p, "Pict", 2, "Rect", "12345678", 8), 23, 0, "replace of a link: 23");
+    p = prepared(&b, 87, &none, 29);
+    refused(&p, linking(&p, "Pict", 1, "Pict", 2), 24, 0, "link: 24");
+    p = prepared(&b, 88, &none, 28);
+    refused(&p, linking(&p, "Pict", 1, "Pict", 2), 25, 0, "link: 25");
+    p = prepared(&b, 87, &none, 28);
+    refused(&p, linking(&p, "Pict", 1, "Pict", 2), 24, 0, "link: 24 before 25");
+    p = prepared(&b, 88, &none, 0);
+    refused(&p, linking(&p, "Pict", 1, "Pict", 2), 25, 0, "link: 25, a null journal");
+}
+
+/* Where the entry goes in: behind the last one whose start isn't greater. */
+static void test_link_places(void)
+{
+    image none = {.length = 0}, s = shared(), first = blank();
+    image rec = record(5, "Pict", 9, 2, 72, "\0\0\0\0", "", 0);
+    row(&first, "Pict", 1, 72);
+    row(&first, "Pict", 2, 72);
+    row(&first, "Pict", 9, 72);
+    row(&first, "Pict", 3, 84);
+    chunk(&first, "JPEG", "abcd", 4);
+    chunk(&first, "PNG ", "odd", 3);
+    chunk(&first, "Fspc", "\0\0\0\3", 4);
+    for (uint32_t original = 1; original <= 2; original++) {
+        pair p = prepared(&s, s.length + 12, &none, 29);
+        made(&p, linking(&p, "Pict", original, "Pict", 9), &first, &rec, 29, "link in the middle of the index");
+    }
+    pair p = prepared(&first, first.length, &rec, 29);
+    made(&p, undo(&p), &s, NULL, 0, "undo of it");
+    /* 116 at the later of the two: the new one, or the old one where the new one goes in before it. */
+    uint64_t places[][3] = {{1, 2, 48}, {2, 1, 48}, {1, 3, 60}, {3, 1, 60}, {3, 3, 60}};
+    for (size_t i = 0; i < sizeof places / sizeof *places; i++) {
+        p = prepared(&s, s.length + 12, &none, 29);
+        refused(&p, linking(&p, "Pict", (uint32_t)places[i][0], "Pict", (uint32_t)places[i][1]), 116, places[i][2], "link: 116");
+    }
+}
+
+static void test_link_refused(void)
+{
+    image none = {.length = 0}, b = sample_b(), bad = sample_b(), story = blank();
+    bad.at[59] = 1;
+    row(&story, "Exec", 0, 36);
+    chunk(&story, "ZCOD", "", 0);
+    pair p = prepared(&bad, 100, &none, 30);
+    refused(&p, linking(&p, "Pict", 1, "Pict", 2), 7, 59, "link: 7");
+    p = prepared(&b, 100, &none, 30);
+    refused(&p, linking(&p, "Pict", 2, "Pict", 3), 22, 0, "link: 22");
+    p = prepared(&b, 76, &none, 0);
+    refused(&p, linking(&p, "pict", 1, "Pict", 1), 22, 0, "link: 22 before 116, 24 and 25");
+    p = prepared(&b, 76, &none, 0);
+    refused(&p, linking(&p, "Data", 7, "data", 8), 112, 36, "link: 112");
+    p = prepared(&b, 76, &none, 0);
+    refused(&p, linking(&p, "Data", 7, "Pict", 1), 114, 36, "link: 114, before 116");
+    p = prepared(&b, 76, &none, 0);
+    refused(&p, linking(&p, "Pict", 1, "Exec", 5), 114, 48, "link: 114, before 115");
+    p = prepared(&story, 100, &none, 30);
+    refused(&p, linking(&p, "Exec", 0, "Exec", 1), 115, 40, "link: 115");
+    p = prepared(&story, 100, &none, 30);
+    refused(&p, linking(&p, "Exec", 0, "Exec", 0), 116, 36, "link: 116");
+}
+
+/* Records of kind 5 that do not fit, and kinds that there are not. */
+static void test_link_records(void)
+{
+    image f = linked(), b = sample_b(), s = shared(), alone = record(5, "Pict", 1, 1, 60, "\0\0\0\0", "", 0);
+    image wrong[] = {
+        record(5, "Pict", 2, 2, 60, "\0\0\0\0", "", 0), record(5, "Pict", 2, 2, 84, "\0\0\0\0", "", 0),
+        record(5, "Pict", 2, 2, 72, "\0\0\0\0", "\0", 1), record(5, "Pict", 2, 2, 72, "Rect", "", 0),
+        record(5, "Pict", 2, 1, 72, "\0\0\0\0", "", 0), record(5, "Pict", 2, 3, 72, "\0\0\0\0", "", 0),
+        record(5, "Pict", 3, 2, 72, "\0\0\0\0", "", 0), record(5, "Data", 7, 0, 60, "\0\0\0\0", "", 0),
+        record(0, "Pict", 2, 2, 72, "\0\0\0\0", "", 0), record(6, "Pict", 2, 2, 72, "\0\0\0\0", "", 0),
+        record(7, "Pict", 2, 2, 72, "\0\0\0\0", "", 0), record(255, "Pict", 2, 2, 72, "\0\0\0\0", "", 0),
+    };
+    for (size_t i = 0; i < sizeof wrong / sizeof *wrong; i++) {
+        pair p = prepared(&f, 88, &wrong[i], wrong[i].length);
+        refused(&p, undo(&p), 21, 0, "undo of a link: 21");
+    }
+    pair p = prepared(&b, 88, &alone, 29);
+    refused(&p, undo(&p), 21, 0, "undo of a link: 21, the chunk is not shared");
+    /* The frontispiece's picture would go. */
+    put32(s.at + s.length - 4, 2);
+    image second = record(5, "Pict", 2, 1, 60, "\0\0\0\0", "", 0);
+    p = prepared(&s, s.length, &second, 29);
+    refused(&p, undo(&p), 21, 0, "undo of a link: 21, the frontispiece's picture");
+}
+
 /* ---- the table in columns */
 
 typedef blorb_build_answer turning(const uint32_t *, size_t, uint32_t *, size_t);
@@ -1103,7 +1237,7 @@ static void test_unknown_profile(void)
             checks_table(files[k], rows, 3, 52, 0);
             checks_table(files[k], rows, 0, 52, 0);
             checks_columns(files[k], rows, 3, 52, 0);
-            for (int call = 0; call < 4; call++) {
+            for (int call = 0; call < EDITS; call++) {
                 pair p = prepared(files[k], 60, &none, 40);
                 refused(&p, any_edit(&p, call), 52, 0, "an edit or undo: 52");
                 p = prepared(files[k], 60, &none, 40);
@@ -1171,6 +1305,10 @@ static void test_calls(void)
     test_undo_damaged();
     test_whole_forms();
     test_wrong_heads();
+    test_link();
+    test_link_places();
+    test_link_refused();
+    test_link_records();
     test_broken_off();
     test_order();
     test_lengths();

@@ -9,12 +9,13 @@ use crate::{check_call_and_52, check_file, check_file_under, check_run, Tally};
 use std::ops::Range;
 
 const FIRST: usize = 0xE0;
-const CASES: [fn(&mut Tally, &mut Rng); 11] = [
+const CASES: [fn(&mut Tally, &mut Rng); 12] = [
     samples,
     at_limit,
     over_limit,
     add_to_limit,
     replace_to_limit,
+    link_to_limit,
     undo_to_limit,
     most_entries,
     too_many_entries,
@@ -75,6 +76,10 @@ pub fn remove(usage: &Tag, number: u32) -> Call {
     Call::Edit(Edit::Remove { usage: *usage, number })
 }
 
+pub fn link(usage: &Tag, number: u32, new_usage: &Tag, new_number: u32) -> Call {
+    Call::Edit(Edit::Link { usage: *usage, number, new_usage: *new_usage, new_number })
+}
+
 /// A call that must be answered with this number, which 01 or 02 names for the case; 52 under an unknown profile too. Gives the buffers
 /// afterwards.
 pub fn expect(tally: &mut Tally, rng: &mut Rng, call: &Call, state: &State, number: u64) -> State {
@@ -108,12 +113,16 @@ fn at_limit(tally: &mut Tally, rng: &mut Rng) {
     expect(tally, rng, &add(b"Snd ", 9, b"FORM", wrong_head.clone()), &state, 30);
     expect(tally, rng, &replace(b"Data", 2, b"FORM", [wrong_head, vec![0; 4]].concat()), &state, 30);
     expect(tally, rng, &remove(b"Pict", 3), &state, 119);
+    expect(tally, rng, &link(b"Pict", 3, b"Pict", 4), &state, 101);
+    expect(tally, rng, &link(b"Pict", 3, b"Dat?", 4), &state, 101);
+    expect(tally, rng, &link(b"Pict", 5, b"Pict", 4), &state, 22);
     for call in [remove(b"Data", 1), remove(b"Data", 2), replace(b"Data", 1, b"BINA", vec![])] {
         let after = expect(tally, rng, &call, &state, 0);
         expect(tally, rng, &Call::Undo, &after, 0);
     }
     let tight = State { file: state.file[..LIMIT].to_vec(), journal: Vec::new(), ..state };
     expect(tally, rng, &add(b"Data", 9, b"TEXT", vec![]), &tight, 101);
+    expect(tally, rng, &link(b"Data", 1, b"Data", 9), &tight, 101);
 }
 
 /// One byte over with whatever contents, and two over with a file that is good but for its length.
@@ -123,9 +132,13 @@ fn over_limit(tally: &mut Tally, rng: &mut Rng) {
         check_file_and_52(tally, rng, &file);
         tally.count("built", 1);
         let state = generate::lend(rng, file, vec![1; 29], 50, 50);
-        for call in
-            [add(b"Data", 9, b"TEXT", vec![]), replace(b"Data", 2, b"TEXT", vec![]), remove(b"Data", 2), Call::Undo]
-        {
+        for call in [
+            add(b"Data", 9, b"TEXT", vec![]),
+            replace(b"Data", 2, b"TEXT", vec![]),
+            remove(b"Data", 2),
+            link(b"Data", 2, b"Data", 9),
+            Call::Undo,
+        ] {
             expect(tally, rng, &call, &state, 1);
         }
     }
@@ -170,6 +183,22 @@ fn replace_to_limit(tally: &mut Tally, rng: &mut Rng) {
     }
 }
 
+/// A link of the first chunk and of the last one, up to the limit: no room by a byte, and 101 by two.
+fn link_to_limit(tally: &mut Tally, rng: &mut Rng) {
+    for (length, room, number) in [(LIMIT - 12, LIMIT, 0), (LIMIT - 12, LIMIT - 1, 24), (LIMIT - 10, LIMIT + 60, 101), (LIMIT - 10, LIMIT, 101)] {
+        let file = filled(rng, length).write();
+        let state = generate::lend(rng, file, vec![9; 5], room - length, 29);
+        for number_of in [1, 2] {
+            let after = expect(tally, rng, &link(b"Data", number_of, b"Data", 9), &state, number);
+            if number == 0 {
+                expect(tally, rng, &Call::Undo, &after, 0);
+            }
+        }
+        let short = State { journal: state.journal[..33].to_vec(), ..state };
+        expect(tally, rng, &link(b"Pict", 3, b"Pict", 9), &short, if number == 0 { 25 } else { number });
+    }
+}
+
 /// Records of a removal and a replacement whose undo gives the longest file, or a longer one, which is never accepted.
 fn undo_to_limit(tally: &mut Tally, rng: &mut Rng) {
     let list = filled(rng, LIMIT - 1000);
@@ -202,8 +231,12 @@ fn most_entries(tally: &mut Tally, rng: &mut Rng) {
         expect(tally, rng, &add(b"Data", 9, b"RIdx", vec![]), &state, 109);
         expect(tally, rng, &add(b"Dat?", 9, b"TEXT", vec![]), &state, 111);
         expect(tally, rng, &add(b"Snd ", 9, b"FORM", b"FORM\0\0\0\x05AIFF".to_vec()), &state, 30);
+        expect(tally, rng, &link(b"Pict", 7, b"Pict", 9999), &state, 111);
+        expect(tally, rng, &link(b"Pict", 7, b"Pic?", 8), &state, 111);
         let last = MOST_ENTRIES as u32 - 1;
         let after = expect(tally, rng, &remove(b"Pict", last), &state, 0);
+        expect(tally, rng, &Call::Undo, &after, 0);
+        let after = expect(tally, rng, &link(b"Pict", 7, b"Pict", last), &after, 0);
         expect(tally, rng, &Call::Undo, &after, 0);
         let after = expect(tally, rng, &remove(b"Pict", 0), &state, 0);
         expect(tally, rng, &add(b"Data", 9, b"TEXT", vec![]), &after, 0);
@@ -221,8 +254,13 @@ fn too_many_entries(tally: &mut Tally, rng: &mut Rng) {
     let file = many_entries(rng, MOST_ENTRIES + 1, 50).write();
     check_file_and_52(tally, rng, &file);
     let state = generate::lend(rng, file, vec![1; 29], 100, 100);
-    for call in [add(b"Data", 9, b"TEXT", vec![]), replace(b"Pict", 2, b"JPEG", vec![]), remove(b"Pict", 2), Call::Undo]
-    {
+    for call in [
+        add(b"Data", 9, b"TEXT", vec![]),
+        replace(b"Pict", 2, b"JPEG", vec![]),
+        remove(b"Pict", 2),
+        link(b"Pict", 2, b"Pict", 9999),
+        Call::Undo,
+    ] {
         expect(tally, rng, &call, &state, 11);
     }
 }
@@ -259,7 +297,7 @@ fn run_at_entry_limit(tally: &mut Tally, rng: &mut Rng) {
 fn run_to_length_limit(tally: &mut Tally, rng: &mut Rng) {
     let file = filled(rng, LIMIT - 60).write();
     let state = generate::lend(rng, file, Vec::new(), 100, 400);
-    check_run(tally, rng, state, 40, |rng, _, step| match rng.below(8) {
+    check_run(tally, rng, state, 40, |rng, _, step| match rng.below(9) {
         _ if step == 0 => add(b"Data", 4, b"TEXT", vec![1; 60]),
         0..=2 => {
             let size = rng.below(30);
@@ -270,6 +308,7 @@ fn run_to_length_limit(tally: &mut Tally, rng: &mut Rng) {
             replace(b"Data", rng.between(2, 6) as u32, b"BINA", rng.bytes(size))
         }
         5 => remove(b"Data", rng.between(2, 6) as u32),
+        6 => link(b"Data", rng.between(1, 6) as u32, b"Data", rng.between(4, 6) as u32),
         _ => Call::Undo,
     });
 }
@@ -278,9 +317,10 @@ fn run_to_length_limit(tally: &mut Tally, rng: &mut Rng) {
 fn run_to_entry_limit(tally: &mut Tally, rng: &mut Rng) {
     let file = many_entries(rng, MOST_ENTRIES - 2, 3).write();
     let state = generate::lend(rng, file, Vec::new(), 200, 400);
-    check_run(tally, rng, state, 60, |rng, _, step| match rng.below(8) {
+    check_run(tally, rng, state, 60, |rng, _, step| match rng.below(9) {
         _ if step < 3 => add(b"Snd ", step as u32, b"MOD ", vec![1]),
-        0..=4 => add(b"Snd ", rng.below(9) as u32, b"MOD ", vec![1]),
+        0..=3 => add(b"Snd ", rng.below(9) as u32, b"MOD ", vec![1]),
+        4 => link(b"Pict", rng.below(MOST_ENTRIES) as u32, b"Pict", 10_000 + rng.below(4) as u32),
         5 => remove(b"Pict", rng.below(MOST_ENTRIES) as u32),
         _ => Call::Undo,
     });

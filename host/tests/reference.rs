@@ -417,7 +417,7 @@ impl Record {
         let well_formed = match record.kind {
             1 => empty && record.start == 0,
             2 | 3 => true,
-            4 => empty,
+            4 | 5 => empty,
             _ => false,
         };
         well_formed.then_some(record)
@@ -431,6 +431,8 @@ pub enum Edit {
     Add { usage: Tag, number: u32, tag: Tag, data: Vec<u8> },
     Replace { usage: Tag, number: u32, tag: Tag, data: Vec<u8> },
     Remove { usage: Tag, number: u32 },
+    /// A new entry on the chunk of the one with this usage and number.
+    Link { usage: Tag, number: u32, new_usage: Tag, new_number: u32 },
 }
 
 #[derive(Clone, Debug)]
@@ -445,6 +447,7 @@ impl Call {
             Call::Edit(Edit::Add { .. }) => "add",
             Call::Edit(Edit::Replace { .. }) => "replace",
             Call::Edit(Edit::Remove { .. }) => "remove",
+            Call::Edit(Edit::Link { .. }) => "link",
             Call::Undo => "undo",
         }
     }
@@ -469,6 +472,7 @@ fn carry_out(edit: &Edit, present: &File) -> (File, Record) {
         Edit::Add { usage, number, tag, data } => add(present, *usage, *number, *tag, held(tag, data)),
         Edit::Replace { usage, number, tag, data } => replace(present, *usage, *number, *tag, held(tag, data)),
         Edit::Remove { usage, number } => remove(present, *usage, *number),
+        Edit::Link { usage, number, new_usage, new_number } => link(present, *usage, *number, *new_usage, *new_number),
     }
 }
 
@@ -505,9 +509,20 @@ fn remove(present: &File, usage: Tag, number: u32) -> (File, Record) {
     (file, record)
 }
 
+/// The entry goes behind the last one whose start isn't greater than the chunk's. Its own start is told in the new file.
+fn link(present: &File, usage: Tag, number: u32, new_usage: Tag, new_number: u32) -> (File, Record) {
+    let chunk = present.entries[present.find(&usage, number).unwrap()].chunk;
+    let starts = present.starts();
+    let last = present.entries.iter().rposition(|entry| starts[entry.chunk] <= starts[chunk]).unwrap();
+    let mut file = present.clone();
+    file.entries.insert(last + 1, Entry { usage: new_usage, number: new_number, chunk });
+    let (place, start) = (last as u32 + 1, file.starts()[chunk] as u32);
+    (file, Record { kind: 5, usage: new_usage, number: new_number, place, start, tag: [0; 4], data: Vec::new() })
+}
+
 /// 22, 23 and 30, where they apply.
 fn check_target(edit: &Edit, present: &File) -> Result<(), Refusal> {
-    if let Edit::Replace { usage, number, .. } | Edit::Remove { usage, number } = edit {
+    if let Edit::Replace { usage, number, .. } | Edit::Remove { usage, number } | Edit::Link { usage, number, .. } = edit {
         let Some(place) = present.find(usage, *number) else {
             return refuse(22, 0);
         };
@@ -517,7 +532,7 @@ fn check_target(edit: &Edit, present: &File) -> Result<(), Refusal> {
     }
     match edit {
         Edit::Add { tag, data, .. } | Edit::Replace { tag, data, .. } => held(tag, data).map(|_| ()),
-        Edit::Remove { .. } => Ok(()),
+        Edit::Remove { .. } | Edit::Link { .. } => Ok(()),
     }
 }
 
@@ -554,7 +569,8 @@ fn take_back(record: &Record, present: &File, profile: u32) -> Option<File> {
     let result = match record.kind {
         1 => take_back_add(record, present)?,
         2 => take_back_replace(record, present)?,
-        _ => take_back_remove(record, present)?,
+        3 | 4 => take_back_remove(record, present)?,
+        _ => take_back_link(record, present)?,
     };
     (result.length() <= LIMIT && read(&result.write(), profile).is_ok()).then_some(result)
 }
@@ -602,6 +618,20 @@ fn take_back_remove(record: &Record, present: &File) -> Option<File> {
     }
     file.entries.insert(place, Entry { usage: record.usage, number: record.number, chunk: position });
     Some(file)
+}
+
+fn take_back_link(record: &Record, present: &File) -> Option<File> {
+    let place = record.place as usize;
+    let entry = present.entries.get(place)?;
+    let fits = record.usage == entry.usage
+        && record.number == entry.number
+        && record.start as usize == present.starts()[entry.chunk]
+        && present.shared(entry.chunk);
+    fits.then(|| {
+        let mut file = present.clone();
+        file.entries.remove(place);
+        file
+    })
 }
 
 // ---- Single calls on lent buffers ----------------------------------------------------------------------------------

@@ -1,7 +1,7 @@
 //! The sample files of the scope paper and of the requests, with the numbers that they name. They test the reference as much as the library.
 
 use crate::generate::{self, Rng};
-use crate::large::{add, expect, remove, replace};
+use crate::large::{add, expect, link, remove, replace};
 use crate::reference::{self, Call, Chunk, Entry, File, Record, Refusal, State, Tag, ADRIFT, PLAIN};
 use crate::{check_expected, check_file, Tally};
 
@@ -14,6 +14,7 @@ pub fn samples(tally: &mut Tally, rng: &mut Rng) {
     for profile in [PLAIN, ADRIFT] {
         rng.profile = profile;
         whole_samples(tally, rng);
+        link_samples(tally, rng);
     }
 }
 
@@ -169,5 +170,105 @@ fn whole_samples(tally: &mut Tally, rng: &mut Rng) {
         (replace(b"Snd ", 3, b"FORM", padded), &a, 30),
     ] {
         expect(tally, rng, &call, state, number);
+    }
+}
+
+/// The samples of the request for links: sample B, and one of three pictures that share chunks.
+fn link_samples(tally: &mut Tally, rng: &mut Rng) {
+    let mut b = file_with(b"Data", 7, b"TEXT", b"eel");
+    b.chunks.push(Chunk { tag: *b"Rect", data: vec![0, 0, 1, 64, 0, 0, 0, 0] });
+    b.entries.push(Entry { usage: *b"Pict", number: 1, chunk: 1 });
+    let b = generate::lend(rng, b.write(), Vec::new(), 100, 200);
+    let linked = expect(tally, rng, &link(b"Pict", 1, b"Pict", 2), &b, 0);
+    numbers(tally, &linked, &[(4, 80), (16, 40), (20, 3), (32, 60), (44, 72), (52, 2), (56, 72)], 88);
+    let record = Record { kind: 5, usage: *b"Pict", number: 2, place: 2, start: 72, tag: [0; 4], data: Vec::new() };
+    if linked.used != 29 || linked.journal[..29] != record.write() {
+        tally.fail("link", "the record has 29 bytes, with place 2 and start 72");
+    }
+    if file_of(&expect(tally, rng, &Call::Undo, &linked, 0)) != file_of(&b) {
+        tally.fail("undo", "does not give sample B");
+    }
+    for call in [replace(b"Pict", 1, b"Rect", vec![0; 8]), replace(b"Pict", 2, b"Rect", vec![0; 8])] {
+        expect(tally, rng, &call, &linked, 23);
+    }
+    // Without the original the chunk stays, and each undo gives the file before.
+    let left = expect(tally, rng, &remove(b"Pict", 1), &linked, 0);
+    if left.journal[29] != 4 || file_of(&expect(tally, rng, &Call::Undo, &left, 0)) != file_of(&linked) {
+        tally.fail("remove", "of the original leaves the chunk");
+    }
+    for (call, number) in [
+        (link(b"Pict", 1, b"Pict", 1), 116),
+        (link(b"Pict", 1, b"Data", 7), 114),
+        (link(b"Data", 7, b"Pict", 1), 114),
+        (link(b"Data", 7, b"Data", 7), 116),
+        (link(b"Data", 8, b"Data", 9), 22),
+        (link(b"Data", 7, b"data", 9), 112),
+    ] {
+        expect(tally, rng, &call, &b, number);
+    }
+    let story = generate::lend(rng, file_with(b"Exec", 0, b"GLUL", b"code").write(), Vec::new(), 60, 60);
+    expect(tally, rng, &link(b"Exec", 0, b"Exec", 1), &story, 115);
+    expect(tally, rng, &link(b"Exec", 0, b"Exec", 0), &story, 116);
+    link_records(tally, rng, &b, &linked, &record);
+    link_places(tally, rng);
+}
+
+/// Records of kind 5 that do not fit, and kinds that there are not.
+fn link_records(tally: &mut Tally, rng: &mut Rng, b: &State, linked: &State, right: &Record) {
+    let with = |change: fn(&mut Record)| {
+        let mut record = right.clone();
+        change(&mut record);
+        record
+    };
+    let wrong: [fn(&mut Record); 10] = [
+        |record| record.data = vec![0],
+        |record| record.tag = *b"Rect",
+        |record| record.start = 60,
+        |record| record.place = 3,
+        |record| record.place = 1,
+        |record| record.number = 1,
+        |record| record.usage = *b"Data",
+        |record| record.kind = 0,
+        |record| record.kind = 6,
+        |record| record.kind = 7,
+    ];
+    for change in wrong {
+        let state = generate::lend(rng, file_of(linked).to_vec(), with(change).write(), 20, 5);
+        expect(tally, rng, &Call::Undo, &state, 21);
+    }
+    // It fits the other name too, where place and pair are that one's; not in a file where the chunk is not shared.
+    let first = Record { number: 1, place: 1, ..right.clone() };
+    let state = generate::lend(rng, file_of(linked).to_vec(), first.write(), 20, 5);
+    expect(tally, rng, &Call::Undo, &state, 0);
+    let alone = Record { number: 1, place: 1, start: 60, ..right.clone() };
+    let state = generate::lend(rng, file_of(b).to_vec(), alone.write(), 20, 5);
+    expect(tally, rng, &Call::Undo, &state, 21);
+}
+
+/// Behind the run of equal starts; 116 at the later of the two entries; a record that would take the frontispiece's picture away.
+fn link_places(tally: &mut Tally, rng: &mut Rng) {
+    let picture = |number, chunk| Entry { usage: *b"Pict", number, chunk };
+    let chunks = ["one", "two", "three"].map(|text| Chunk { tag: *b"JPEG", data: text.into() }).to_vec();
+    let file = File { chunks: chunks.clone(), entries: vec![picture(1, 0), picture(2, 1), picture(3, 1), picture(4, 2)] };
+    let state = generate::lend(rng, file.write(), Vec::new(), 60, 60);
+    for (original, place) in [(1, 1), (2, 3), (3, 3), (4, 4)] {
+        let after = expect(tally, rng, &link(b"Pict", original, b"Pict", 9), &state, 0);
+        numbers(tally, &after, &[(28 + 12 * place, 9)], file.length() + 12);
+        expect(tally, rng, &Call::Undo, &after, 0);
+    }
+    for (original, name, place) in [(1, 4, 4), (1, 1, 1), (4, 1, 4), (2, 3, 3), (3, 2, 3), (2, 4, 4), (4, 4, 4)] {
+        let (answer, _) = reference::call(&link(b"Pict", original, b"Pict", name), &state);
+        if (answer.refusal, answer.place) != (116, 24 + 12 * place) {
+            tally.fail("link", &format!("of {original} as {name} must be 116 at entry {place}, is {answer:?}"));
+        }
+        expect(tally, rng, &link(b"Pict", original, b"Pict", name), &state, 116);
+    }
+    let mut front = File { chunks, entries: file.entries };
+    front.chunks.push(Chunk { tag: *b"Fspc", data: vec![0, 0, 0, 2] });
+    let start = front.starts()[1] as u32;
+    for (number, place, refusal) in [(2, 1, 21), (3, 2, 0)] {
+        let record = Record { kind: 5, usage: *b"Pict", number, place, start, tag: [0; 4], data: Vec::new() };
+        let state = generate::lend(rng, front.write(), record.write(), 20, 5);
+        expect(tally, rng, &Call::Undo, &state, refusal);
     }
 }

@@ -39,6 +39,7 @@ static void refused(size_t length, size_t used, uint64_t refusal)
     gives(blorb_add(wrong, ROOM, length, journal, ROOM, used, profile, "Data", 9, "BINA", data, 1).refusal, refusal);
     gives(blorb_replace(wrong, ROOM, length, journal, ROOM, used, profile, "Data", 2, "BINA", data, 1).refusal, refusal);
     gives(blorb_remove(wrong, ROOM, length, journal, ROOM, used, profile, "Data", 2).refusal, refusal);
+    gives(blorb_link(wrong, ROOM, length, journal, ROOM, used, profile, "Data", 2, "Data", 9).refusal, refusal);
     gives(blorb_undo(wrong, ROOM, length, journal, ROOM, used, profile).refusal, refusal);
 }
 
@@ -85,6 +86,11 @@ static void every_call(void)
     a = blorb_replace(file, ROOM, a.length, journal, ROOM, a.used, profile, "Data", 0, "TEXT", data, DATA);
     done(a.refusal);
     a = blorb_remove(file, ROOM, a.length, journal, ROOM, a.used, profile, "Data", 1);
+    done(a.refusal);
+    a = blorb_link(file, ROOM, a.length, journal, ROOM, a.used, profile, "Data", 0, "Data", 9);
+    done(a.refusal);
+    gives(blorb_link(file, ROOM, a.length, journal, ROOM, a.used, profile, "Data", 0, "Data", 2).refusal, BLORB_RESULT_REPEATED);
+    a = blorb_remove(file, ROOM, a.length, journal, ROOM, a.used, profile, "Data", 9);
     done(a.refusal);
     memcpy(whole + 8, "AIFF", 4);
     a = blorb_replace(file, ROOM, a.length, journal, ROOM, a.used, profile, "Data", 0, "FORM", whole, WHOLE);

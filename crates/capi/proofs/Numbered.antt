@@ -12,7 +12,7 @@ use Rattle.blorb.specs.Format.{Chunk, Entry, Ref, refOf}
 use Rattle.blorb.specs.Tags.{RelN, Fspc}
 use Rattle.blorb.specs.Verdict.{Rules, Verdict, accept, refuse, _then_, check, headFault, chunkFault, walkFault, secondIndex, indexFault, refFault, entriesFault, restFault, layoutFault, verdict, reading}
 use Rattle.blorb.specs.Rules.{rulesOf, profileVerdict, picture, single, chunkRule, chunkRules, optional}
-use Rattle.edits.specs.Edit.{Edit, add, replace, remove}
+use Rattle.edits.specs.Edit.{Edit, add, replace, remove, link}
 use Rattle.edits.specs.Run.{State, Call, edit, undo, hundred, wholeFault, targetFault, editedFile, editFault, undoFault, fault}
 use Rattle.blorb.specs.Model.{Model}
 use Rattle.reader.specs.Reading.{indexOf, noEntry, readBy, readOf, entryBy, askedBy, askedOf, foundBy, lookedBy, lookupOf}
@@ -127,6 +127,7 @@ unfolding targetFault
 target m (add u n t d) = whole t d
 target m (replace u n t d) = more _ _ _ _ (omega arith) (more _ _ _ _ (omega arith) (whole t d))
 target m (remove u n) = one _ _ _ (omega arith)
+target m (link v o u n) = one _ _ _ (omega arith)
 
 called : (profile : ℕ) (s : State) (c : Call) → Numbered (fault (rulesOf profile) s c)
 unfolding fault editFault undoFault

@@ -16,7 +16,7 @@ ghost use Rattle.blorb.specs.Bytes.{rd32};
 ghost use Rattle.reader.specs.Reading.{readOf, askedOf, lookupOf};
 ghost use Rattle.rows.specs.Rows.{rowsOf, columnsOf, flat, flatColumns};
 ghost use Rattle.table.specs.Answers.{tableOf, buildOf, turnOf, written, checkOf, searchOf};
-ghost use Rattle.edits.specs.Edit.{add, replace, remove};
+ghost use Rattle.edits.specs.Edit.{add, replace, remove, link};
 ghost use Rattle.edits.specs.Run.{edit, undo};
 ghost use Rattle.edits.specs.Blank.{blanked};
 ghost use Rattle.edits.specs.Run.{state};
@@ -268,6 +268,34 @@ pub extern "C" fn blorb_remove(
     ensures { λ r. ⌜ Answered profile (state (now (file .entry)) length (now (journal .entry)) used) (edit (remove (rd32 (now (usage .entry))) number)) r (now (file .exit)) (now (journal .exit)) ⌝ }
 {
     numbers(editor::remove(file, length, journal, used, profile, *usage, number))
+}
+
+// Gives the resource (usage, number) a second name: a new entry (alias, chosen) on its chunk.
+#[no_mangle]
+pub extern "C" fn blorb_link(
+    file: &mut [u8],
+    length: usize,
+    journal: &mut [u8],
+    used: usize,
+    profile: u32,
+    usage: &[u8; 4],
+    number: u32,
+    alias: &[u8; 4],
+    chosen: u32,
+) -> EditAnswer
+    ensures { λ r. ⌜ Answered profile (state (now (file .entry)) length (now (journal .entry)) used) (edit (link (rd32 (now (usage .entry))) number (rd32 (now (alias .entry))) chosen)) r (now (file .exit)) (now (journal .exit)) ⌝ }
+{
+    numbers(editor::link(
+        file,
+        length,
+        journal,
+        used,
+        profile,
+        *usage,
+        number,
+        *alias,
+        chosen,
+    ))
 }
 
 // Takes the last edit back; the journal is only read.

@@ -1,7 +1,8 @@
 // One step of a scenario: the editor's call that stands packed in the input, and what is said of its answer.
 //
-// A step: a byte that says which it is, 16 bytes (usage, number, type, length of the data; or L and U), the data. Steps 0
-// to 4 are blank, add, replace, remove, undo, each given the L and U of the last answer; step 5 gives the next one others.
+// A step: a byte that says which it is, 16 bytes (usage, number, type, length of the data; or L and U; or usage, number, new
+// usage, new number), the data. Steps 0 to 4 and 6 are blank, add, replace, remove, undo, link, each given the L and U of the
+// last answer; step 5 gives the next one others.
 // tests/make_editing_samples.py writes them.
 use editor::Answer;
 use editor::Outcome;
@@ -121,6 +122,33 @@ fn remove(
     editor::remove(file, len, jrn, used, profile, four(s, at + 1), number)
 }
 
+fn link(
+    s: &[u8],
+    at: usize,
+    file: &mut [u8],
+    jrn: &mut [u8],
+    len: usize,
+    used: usize,
+    profile: u32,
+) -> Answer
+    requires { ⌜ at + 17 ≤ length (now s) ⌝ }
+{
+    text(b" link ");
+    let number = field(s, at + 5) as u32;
+    let chosen = field(s, at + 13) as u32;
+    editor::link(
+        file,
+        len,
+        jrn,
+        used,
+        profile,
+        four(s, at + 1),
+        number,
+        four(s, at + 9),
+        chosen,
+    )
+}
+
 fn undo(file: &mut [u8], jrn: &[u8], len: usize, used: usize, profile: u32) -> Answer {
     text(b" undo ");
     editor::undo(file, len, jrn, used, profile)
@@ -168,15 +196,16 @@ fn call(
         0 => blank(file),
         1..=3 => edit(s, at, d, file, jrn, len, used, profile),
         5 => given(s, at),
+        6 => link(s, at, file, jrn, len, used, profile),
         _ => undo(file, jrn, len, used, profile),
     }
 }
 
-// How many bytes of data a step has: the one that gives L and U has none.
+// How many bytes of data a step has: a link and the one that gives L and U have none.
 fn size(kind: u8, n: usize) -> usize
     ensures { λ r. ⌜ r ≤ n ⌝ }
 {
-    if kind == 5 { 0 } else { n }
+    if (kind == 5) | (kind == 6) { 0 } else { n }
 }
 
 // Where the next step stands, or 0 where the packing is bad, and the L and U that it is given.

@@ -7,7 +7,7 @@ use native.Mathlib.Omega.{arith}
 use lib.ListN.{length, take, drop, replicate, length-append, length-drop}
 use lib.Seq.{drop-drop, take-at}
 use lib.Dec.{eqb, leb, ltb}
-use borrow.Author.Tests.{eq-eqb, eqb-true, ltb-true, not-true}
+use borrow.Author.Tests.{eq-eqb, eqb-true, ltb-true, not-true, lt-ltb}
 use Rattle.blorb.specs.Bytes.{Byte, be32}
 use Rattle.blorb.specs.All.{All}
 use Rattle.blorb.specs.Tags.{FORM}
@@ -29,7 +29,7 @@ use Rattle.reader.specs.Reading.{lookupOf, partOf}
 use Rattle.reader.specs.declared.Looked.{Looked}
 use Rattle.reader.specs.declared.Looked.the-variants.{Found, Refused}
 use Rattle.reader.proofs.Promises.{lookup-here, lookup-nowhere}
-use Rattle.edits.specs.Edit.{Edit, add, replace, remove, added, edited, givenChunk}
+use Rattle.edits.specs.Edit.{Edit, add, replace, remove, link, added, linked, edited, givenChunk}
 use Rattle.edits.specs.Run.{ArgsOk, wholeFault, targetFault, editedFile, editFault}
 use Rattle.edits.proofs.Applies.{Applies}
 use Rattle.edits.proofs.FaultLaws.{pair-found}
@@ -37,9 +37,10 @@ use Rattle.edits.proofs.LastLaws.{drop-take}
 use Rattle.edits.proofs.WholeForms.{given-shown}
 use Rattle.undoing.proofs.ChunkAt.{drop-start}
 use Rattle.edits.proofs.AddVerdict.{added-verdict}
+use Rattle.edits.proofs.LinkVerdict.{linked-verdict}
 use Rattle.edits.proofs.RunLaws.{Good, target-applies}
 use Rattle.edits.proofs.FitLaws.{edit-sound, find-pair}
-use Rattle.edits.proofs.ReadBack.{same, look-missing, look-find, add-reads, add-keeps, replace-reads, replace-keeps, remove-gone, remove-keeps}
+use Rattle.edits.proofs.ReadBack.{same, look-missing, look-find, add-reads, add-keeps, replace-reads, replace-keeps, remove-gone, remove-keeps, link-reads, link-keeps}
 use Rattle.editor.specs.ReadsBack.{Content, nothing, holds, contentOf, Holds, DataBytes, OwnPair, Apart, OtherPair}
 use Rattle.editor.proofs.CallLaws.{hundred-fine}
 
@@ -118,6 +119,9 @@ module _ (profile : ℕ) (f : List ℕ) (u n : ℕ) (o : Own profile f) where
           let z : _≡_ {A = ℕ} 0 1 = cc (none, e) in
           absurd (omega arith)
 
+something : (c : Chunk) → holds (c .type) (shown c) ≡ nothing → ⊥
+something c e = let z : _≡_ {A = ℕ} 0 1 = cc in omega arith
+
 -- it holds for a pair what its model has
 abbrev pub contentIn : Look → Content
 contentIn missing = nothing
@@ -187,6 +191,27 @@ not-there profile m u n c s h k =
     let d = then-accept _ _ (then-accept _ _ (b .0) .1) in
     not-true _ (check-accept _ _ _ (then-accept _ _ (d .1) .1))
 
+-- and so was the new pair of an accepted link
+not-linked : (profile : ℕ) (m : Model) (k u n : ℕ) → modelFault (rulesOf profile) m ≡ accept → modelFault (rulesOf profile) (linked m k u n) ≡ accept → pairIn u n (m .refs) ≡ false
+not-linked profile m k u n h j =
+    let a = then-accept _ _ (sym (linked-verdict profile m k u n h) ∙ j) in
+    let b = then-accept _ _ (a .1) in
+    let c = then-accept _ _ (b .1) in
+    let d = then-accept _ _ (c .1) in
+    not-true _ (check-accept _ _ _ (d .1))
+
+-- a pair that is not there is not the one that is found
+not-found : (m : Model) (u n v o : ℕ) → pairIn u n (m .refs) ≡ false → find v o (m .refs) < length (m .refs) → (eqb u v && eqb n o) ≡ false
+not-found m u n v o none h = go (eqb u v) (eqb n o) refl refl
+  where
+    go : (a b : Bool) → eqb u v ≡ a → eqb n o ≡ b → a && b ≡ false
+    go true true p q =
+        let l : find u n (m .refs) < length (m .refs) = rw (eqb-true u v p, eqb-true n o q) h in
+        let z : _≡_ {A = Bool} false true = sym none ∙ pair-found u n (m .refs) ∙ lt-ltb _ _ l in
+        cc
+    go true false p q = refl
+    go false b p q = refl
+
 -- the entry that find gives has the pair sought, so no other
 found-same : (m : Model) (u n : ℕ) → find u n (m .refs) < length (m .refs) → same (refAt m (find u n (m .refs))) u n ≡ true
 found-same m u n h =
@@ -221,12 +246,25 @@ own-pair profile f (remove u n) bytes k =
     let refs = then-accept _ _ (then-accept _ _ (then-accept _ _ (k .judged) .1) .1) .0 in
     lookup-nowhere profile (editedFile f (remove u n)) u n (k .new .fine)
     (ap (λ (m : Model). lookup m u n) (k .same) ∙ remove-gone (rulesOf profile) (model f) i u n refs (k .applies) (found-same (model f) u n (k .applies)))
+own-pair profile f (link v o u n) bytes k =
+    let m : Model = model f in
+    let g : List ℕ = editedFile f (link v o u n) in
+    let kc : ℕ = refAt m (find v o (m .refs)) .chunk in
+    let fresh : pairIn u n (m .refs) ≡ false = not-linked profile m kc u n (k .judged) (k .judged-new) in
+    let new : contentOf profile g u n ≡ contentIn (lookup m v o)
+    = content-is profile g u n (k .new) ∙ ap (λ (z : Model). contentIn (lookup z u n)) (k .same) ∙ ap contentIn (link-reads m v o u n (k .applies) fresh) in
+    let old : contentOf profile g v o ≡ contentIn (lookup m v o)
+    = content-is profile g v o (k .new) ∙ ap (λ (z : Model). contentIn (lookup z v o)) (k .same)
+    ∙ ap contentIn (link-keeps m kc u n v o (not-found m u n v o fresh (k .applies))) in
+    let here-is : lookup m v o ≡ here (chunkAt m kc) = (unfold lookup in look-find (m .chunks) v o (m .refs) (k .applies)) in
+    (new ∙ sym old, λ e. something _ (sym (ap contentIn here-is) ∙ sym old ∙ e))
 
 -- every other pair
 keeps : (m : Model) (e : Edit) (v k : ℕ) → Sound m → Applies m e → OtherPair e v k → lookup (edited m e) v k ≡ lookup m v k
 unfolding edited
 keeps m (add u n t d) v k s a o = add-keeps m u n (givenChunk t d) v k s (apart-eqb u n v k o)
 keeps m (replace u n t d) v k s a o = replace-keeps m (find u n (m .refs)) (givenChunk t d) v k (a .0) (a .1) (found-apart m u n v k (a .0) o)
+keeps m (link w q u n) v k s a o = link-keeps m (refAt m (find w q (m .refs)) .chunk) u n v k (apart-eqb u n v k o)
 keeps m (remove u n) v k s a o = remove-keeps m (find u n (m .refs)) v k a (found-apart m u n v k a o)
 
 pub other-pair : (profile : ℕ) (f : List ℕ) (e : Edit) (v k : ℕ) → Told profile f e → OtherPair e v k

@@ -20,7 +20,7 @@ use Rattle.editor.specs.Called.{Called}
 use Rattle.editor.specs.Runs as runs
 use Rattle.editor.specs.Runs.{Turn, stateAfter, Ran, AsLedger}
 use Rattle.editor.proofs.Runs.{runs-as-ledger}
-use Rattle.editor.proofs.Acts.{Act, by-add, by-replace, by-remove, by-undo, stateOf, profileOf, turnOf, Follows}
+use Rattle.editor.proofs.Acts.{Act, by-add, by-replace, by-remove, by-link, by-undo, stateOf, profileOf, turnOf, Follows}
 
 -- each function's contract is `Called`
 abbrev pub Kept : (profile : ℕ) → State → Turn → Type 0
@@ -30,6 +30,7 @@ pub called : (x : Act) → Kept (profileOf x) (stateOf x) (turnOf x)
 called (by-add x) = x .told
 called (by-replace x) = x .told
 called (by-remove x) = x .told
+called (by-link x) = x .told
 called (by-undo x) = x .told
 
 -- the arguments' types bound their values: the elements of a `[u8; 4]` are bytes, so the number in it has 32 bits
@@ -45,6 +46,7 @@ bounded : (x : Act) → CallOk (turnOf x .call)
 bounded (by-add x) = let (b, (l, (j, (u, (p, (usage, (number, (kind, rest)))))))) = x .typed in (four _ _ usage, number .1, four _ _ kind)
 bounded (by-replace x) = let (b, (l, (j, (u, (p, (usage, (number, (kind, rest)))))))) = x .typed in (four _ _ usage, number .1, four _ _ kind)
 bounded (by-remove x) = let (b, (l, (j, (u, (p, (usage, (number, rest))))))) = x .typed in (four _ _ usage, number .1)
+bounded (by-link x) = let (b, (l, (j, (u, (p, (usage, (number, (new, (chosen, rest))))))))) = x .typed in (four _ _ usage, number .1, four _ _ new, chosen .1)
 bounded (by-undo x) = tt
 
 all-bounded : (xs : List Act) → All CallOk (map runs.callOf (map turnOf xs))

@@ -3,6 +3,7 @@ pub mod GivenLaws
 pub mod AddCall
 pub mod RemoveCall
 pub mod ReplaceCall
+pub mod LinkCall
 pub mod ContentLaws
 pub mod ReadsBack
 pub mod Runs

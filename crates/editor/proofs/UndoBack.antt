@@ -2,12 +2,12 @@
 use mathlib.Core.Path.{_≡_, refl, sym, ap, _∙_}
 use Prim.Native.Nat.{ℕ, _+_, _*_, _-_, _≤_, _<_, _%_}
 use mathlib.Core.List.{List}
-use mathlib.Core.Bool.{Bool, true, _&&_, cond}
+use mathlib.Core.Bool.{Bool, true, false, _&&_, _||_, cond}
 use native.Mathlib.Omega.{arith}
 use lib.ListN.{length, take, drop}
 use lib.Seq.{length-take-le}
-use lib.Dec.{leb}
-use borrow.Author.Tests.{leb-true}
+use lib.Dec.{leb, eqb}
+use borrow.Author.Tests.{leb-true, eqb-true, eqb-false}
 use Rattle.blorb.specs.Format.{size, chunkOf}
 use Rattle.blorb.specs.Layout.{sizeOf}
 use Rattle.blorb.specs.Verdict.{Verdict, accept, refuse, verdict}
@@ -21,13 +21,14 @@ use Rattle.blorb.specs.Bytes.{Byte}
 use Rattle.blorb.proofs.Checks.{then-accept, check-accept}
 use Rattle.blorb.proofs.Accept.{accept-short}
 use Rattle.blorb.proofs.ModelLaws.{length-file}
-use Rattle.edits.specs.Edit.{removed, replaced, entered, inserted}
+use Rattle.edits.specs.Edit.{removed, removedBoth, removedEntry, replaced, entered, inserted}
 use Rattle.edits.specs.GoneSize.{goneSize}
-use Rattle.edits.specs.Journal.{Rec, lastRec, wellFormed, fits, fits3, fits4, undo2, undo3, undo4, oldChunk}
+use Rattle.edits.specs.Journal.{Rec, lastRec, wellFormed, fits, fits3, fits4, undo2, undo3, undo4, undo5, oldChunk}
 use Rattle.edits.specs.Run.{undo, state, accepted, undoneFile, undoFault, fault}
 use Rattle.edits.proofs.BoolLaws.{and-parts}
+use Rattle.edits.proofs.UndoLaws.{or-false}
 use Rattle.edits.proofs.JudgedLaws.{chunk-in}
-use Rattle.edits.proofs.UndoJudged.{AcceptedFile, accepted-facts, fits1-facts, fits2-facts, undo1-removed, kind-1, kind-2, kind-3, kind-4}
+use Rattle.edits.proofs.UndoJudged.{AcceptedFile, accepted-facts, fits1-facts, fits2-facts, fits5-facts, undo1-removed, kind-1, kind-2, kind-3, kind-4, kind-5}
 use Rattle.edits.proofs.FitFacts.{size-is}
 use Rattle.edits.proofs.UndoTold.{after-2, after-3, after-4}
 use Rattle.undoing.specs.declared.journal.Record.{Record}
@@ -38,7 +39,7 @@ use Rattle.undoing.specs.LastRecord.{numbersOf, lastOf}
 use Rattle.undoing.specs.UndoPlan.{chunkStart, chunkSize, goOf, undoingOf, undoPlan}
 use Rattle.undoing.proofs.LastRead.{Ends, good-ends}
 use Rattle.rewrite.proofs.InsertBytes.{insertable3, insertable4}
-use Rattle.undoing.proofs.UndoFits.{chunk-ends, at-1, at-2, at-3, at-4}
+use Rattle.undoing.proofs.UndoFits.{chunk-ends, at-1, at-2, at-3, at-4, at-5}
 
 -- the undo goes on with these numbers
 pub record Ready (profile : ℕ) (b : List ℕ) (l : ℕ) (j : List ℕ) (u k a s t : ℕ) (r : Record) : Type 0 where
@@ -168,7 +169,7 @@ module _ (profile : ℕ) (b : List ℕ) (l : ℕ) (j : List ℕ) (u k a s t : �
   after-short = accept-short (rulesOf profile) (undoneFile (take l b) (take u j)) (w .fine)
 
   -- kind 1
-  pub back-added : r .kind ≡ 1 → Stands b l k × Removable b l k (r .place) a s
+  back-added : r .kind ≡ 1 → Stands b l k × Removable b l k (r .place) a s
   unfolding goneSize
   back-added h =
       let fit = sym (kind-1 rec m (kind-is 1 h) .0) ∙ w .fit in
@@ -188,11 +189,54 @@ module _ (profile : ℕ) (b : List ℕ) (l : ℕ) (j : List ℕ) (u k a s t : �
         },
       )
 
-  pub written-added : r .kind ≡ 1 → file (removed (model (take l b)) (r .place)) ≡ undoneFile (take l b) (take u j)
+  written-added : r .kind ≡ 1 → file (removed (model (take l b)) (r .place)) ≡ undoneFile (take l b) (take u j)
   unfolding undoneFile
   written-added h =
       let fit = sym (kind-1 rec m (kind-is 1 h) .0) ∙ w .fit in
       ap file (ap (removed m) (sym place-is) ∙ sym (undo1-removed rec m (w .file-facts .sound) fit) ∙ sym (kind-1 rec m (kind-is 1 h) .1))
+
+  -- kind 5
+  back-linked : r .kind ≡ 5 → Stands b l k × Removable b l k (r .place) a s
+  unfolding goneSize
+  back-linked h =
+      let fit = sym (kind-5 rec m (kind-is 5 h) .0) ∙ w .fit in
+      let p = fits5-facts rec m fit in
+      let c : ℕ = refAt m (rec .place) .chunk in
+      let there = chunk-in m (rec .place) (w .file-facts .sound) (p .inside) in
+      let ea : a ≡ start m c = w .at-is ∙ at-5 rec m (kind-is 5 h) .0 in
+      let es : s ≡ 0 = w .size-is ∙ at-5 rec m (kind-is 5 h) .1 in (
+        w .stands,
+        record {
+          listed = omega (arith, p .inside, place-is, w .stands .entries);
+          starts = ea ∙ ap (λ (z : ℕ). start m (refAt m z .chunk)) place-is;
+          gone = es ∙ sym (ap (λ (z : Bool). cond z 0 (size (chunkAt m c))) (p .holds)) ∙ ap (λ (z : ℕ). cond (shared m z) 0 (size (chunkAt m (refAt m z .chunk)))) place-is;
+          behind = omega (arith, ea, start-behind m c, w .stands .entries);
+          ends = omega (arith, ea, es, chunk-ends m c (w .file-facts .sound) there small, whole-is);
+        },
+      )
+
+  written-linked : r .kind ≡ 5 → file (removed (model (take l b)) (r .place)) ≡ undoneFile (take l b) (take u j)
+  unfolding undoneFile undo5 removed
+  written-linked h =
+      let fit = sym (kind-5 rec m (kind-is 5 h) .0) ∙ w .fit in
+      let e : shared m (r .place) ≡ true = ap (shared m) (sym place-is) ∙ fits5-facts rec m fit .holds in
+      ap file (ap (λ (z : Bool). cond z (removedEntry m (r .place)) (removedBoth m (r .place) (refAt m (r .place) .chunk))) e
+      ∙ ap (removedEntry m) (sym place-is) ∙ sym (kind-5 rec m (kind-is 5 h) .1))
+
+  -- kinds 1 and 5: an entry goes, with its own chunk or alone
+  pub back-gone : (eqb (r .kind) 1 || eqb (r .kind) 5) ≡ true → Stands b l k × Removable b l k (r .place) a s
+  back-gone h = go (eqb (r .kind) 1) refl h
+    where
+      go : (x : Bool) → eqb (r .kind) 1 ≡ x → (x || eqb (r .kind) 5) ≡ true → Stands b l k × Removable b l k (r .place) a s
+      go true e h = back-added (eqb-true _ _ e)
+      go false e h = back-linked (eqb-true _ _ h)
+
+  pub written-gone : (eqb (r .kind) 1 || eqb (r .kind) 5) ≡ true → file (removed (model (take l b)) (r .place)) ≡ undoneFile (take l b) (take u j)
+  written-gone h = go (eqb (r .kind) 1) refl h
+    where
+      go : (x : Bool) → eqb (r .kind) 1 ≡ x → (x || eqb (r .kind) 5) ≡ true → file (removed (model (take l b)) (r .place)) ≡ undoneFile (take l b) (take u j)
+      go true e h = written-added (eqb-true _ _ e)
+      go false e h = written-linked (eqb-true _ _ h)
 
   -- kind 2
   pub back-replaced : (All Byte j) → r .kind ≡ 2
@@ -225,8 +269,10 @@ module _ (profile : ℕ) (b : List ℕ) (l : ℕ) (j : List ℕ) (u k a s t : �
       (λ i. file (replaced m (refAt m (sym place-is i) .chunk) (old-is i))) ∙ sym (ap file (kind-2 rec m (kind-is 2 h) .1))
 
   -- kind 3, the one that is left
-  pub kind-3-left : (r .kind ≡ 1 → ⊥) → (r .kind ≡ 4 → ⊥) → (r .kind ≡ 2 → ⊥) → r .kind ≡ 3
-  kind-3-left n1 n4 n2 = omega (arith, w .ends .kind-low, w .ends .kind-high)
+  pub kind-3-left : (eqb (r .kind) 1 || eqb (r .kind) 5) ≡ false → (r .kind ≡ 4 → ⊥) → (r .kind ≡ 2 → ⊥) → r .kind ≡ 3
+  kind-3-left n n4 n2 =
+      let o = or-false (eqb (r .kind) 1) (eqb (r .kind) 5) n in
+      omega (arith, eqb-false (r .kind) 1 (o .0), eqb-false (r .kind) 5 (o .1), w .ends .kind-low, w .ends .kind-high)
 
   module _ (h : r .kind ≡ 3) where
     fit-3 : fits3 (lastRec (take u j)) (model (take l b)) ≡ true

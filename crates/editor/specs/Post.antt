@@ -11,7 +11,7 @@ use Rattle.blorb.specs.Rules.{rulesOf}
 use Rattle.blorb.specs.Model.{Model, model, base}
 use Rattle.edits.specs.Journal.{Rec}
 use Rattle.blorb.specs.Queries.{refAt, chunkAt, shared, find, start}
-use Rattle.edits.specs.Edit.{Edit}
+use Rattle.edits.specs.Edit.{Edit, linkPlace}
 use Rattle.edits.specs.Run.{editFault}
 use Rattle.moves.specs.Shift.{slid}
 use Rattle.reader.specs.declared.Piece.{Piece}
@@ -22,6 +22,8 @@ use Rattle.editor.specs.declared.Change.{Change}
 use Rattle.editor.specs.declared.Change.the-variants.{Put, Keep}
 use Rattle.editor.specs.declared.Removal.{Removal}
 use Rattle.editor.specs.declared.Removal.the-variants.{Take, Not}
+use Rattle.editor.specs.declared.Linking.{Linking}
+use Rattle.editor.specs.declared.Linking.the-variants.{Join, Stay}
 use Rattle.editor.specs.declared.Plan.{Plan}
 use Rattle.editor.specs.declared.Plan.the-variants.{Go, No}
 
@@ -50,3 +52,10 @@ removalOf (refuse k p) m u n = Not k p
 abbrev pub changeOf : Verdict → Model → ℕ → ℕ → Change
 changeOf accept m u n = Put (length (m .refs)) (pieceOf m (find u n (m .refs)))
 changeOf (refuse k p) m u n = Keep k p
+
+-- the link on the original (v, o) goes on with the count, the new entry's place and where the chunk starts; or the refusal
+abbrev pub linkingOf : Verdict → Model → ℕ → ℕ → Linking
+linkingOf accept m v o =
+    let k = refAt m (find v o (m .refs)) .chunk in
+    Join (length (m .refs)) (linkPlace k (m .refs)) (start m k)
+linkingOf (refuse k p) m v o = Stay k p

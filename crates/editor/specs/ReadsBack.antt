@@ -10,7 +10,7 @@ use Rattle.reader.specs.declared.Looked.the-variants.{Found, Refused}
 use Rattle.blorb.specs.All.{All}
 use Rattle.blorb.specs.Bytes.{Byte}
 use Rattle.blorb.specs.Rules.{rulesOf}
-use Rattle.edits.specs.Edit.{Edit, add, replace, remove}
+use Rattle.edits.specs.Edit.{Edit, add, replace, remove, link}
 use Rattle.edits.specs.Run.{State, Call, step}
 
 -- what a pair has: nothing, or a type and data
@@ -47,14 +47,20 @@ abbrev pub DataBytes : Edit → Type 0
 DataBytes (add u n t d) = t ≡ FORM → All Byte d
 DataBytes (replace u n t d) = t ≡ FORM → All Byte d
 DataBytes (remove u n) = Unit {0}
+DataBytes (link v o u n) = Unit {0}
+
+-- the file f holds the same for both pairs, and that is something
+abbrev pub HoldsAlike : (profile : ℕ) → List ℕ → ℕ → ℕ → ℕ → ℕ → Type 0
+HoldsAlike profile f u n v o = (contentOf profile f u n ≡ contentOf profile f v o) × (contentOf profile f v o ≡ nothing → ⊥)
 
 -- what an edit leaves for its own pair in the file f after it: the type and data that were given, exactly ("the chunk in the same
 -- position takes the new type and data"), of a 'FORM' its head included ("take the whole file likewise", 02, P3), or no entry ("the entry goes";
--- "22 no such entry")
+-- "22 no such entry"), or what the original has ("a new entry on the chunk of an existing one", 02, P8)
 abbrev pub OwnPair : (profile : ℕ) → Edit → List ℕ → Type 0
 OwnPair profile (add u n t d) f = Holds profile f u n t d
 OwnPair profile (replace u n t d) f = Holds profile f u n t d
 OwnPair profile (remove u n) f = lookupOf profile f u n ≡ Refused 22 0
+OwnPair profile (link v o u n) f = HoldsAlike profile f u n v o
 
 -- two pairs that aren't the same: not both the usage and the number
 abbrev pub Apart : ℕ → ℕ → ℕ → ℕ → Type 0
@@ -65,6 +71,7 @@ abbrev pub OtherPair : Edit → ℕ → ℕ → Type 0
 OtherPair (add u n t d) v k = Apart u n v k
 OtherPair (replace u n t d) v k = Apart u n v k
 OtherPair (remove u n) v k = Apart u n v k
+OtherPair (link w o u n) v k = Apart u n v k
 
 -- the edit e has made the file g of the file f, as a reader of both sees it
 pub record ReadsBack (profile : ℕ) (e : Edit) (f g : List ℕ) : Type 0 where

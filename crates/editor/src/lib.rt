@@ -8,7 +8,7 @@ ghost use Rattle.blorb.specs.Bytes.{rd32};
 ghost use Rattle.blorb.specs.Verdict.{_then_, check, verdict};
 ghost use Rattle.blorb.specs.Rules.{rulesOf};
 ghost use Rattle.blorb.specs.Model.{model};
-ghost use Rattle.edits.specs.Edit.{add, replace, remove};
+ghost use Rattle.edits.specs.Edit.{add, replace, remove, link};
 ghost use Rattle.edits.specs.Run.{edit, undo};
 ghost use Rattle.edits.specs.Run.{written, undoneFile};
 ghost use Rattle.undoing.specs.declared.Undoing.the-variants.{Go};
@@ -18,7 +18,7 @@ ghost use Rattle.reader.specs.Inspecting.{inspectionOf};
 ghost use Rattle.judging.specs.Outcomes.{verdictOf};
 ghost use Rattle.edits.specs.Run.{state};
 ghost use Rattle.editor.specs.Called.{Called, blankAnswer};
-ghost use Rattle.editor.specs.Post.{refusedWith, doneWith, editRefusal, planOf, removalOf, changeOf};
+ghost use Rattle.editor.specs.Post.{refusedWith, doneWith, editRefusal, planOf, removalOf, changeOf, linkingOf};
 
 mod given;
 
@@ -436,6 +436,104 @@ fn replace_chunk(
     }
 }
 
+enum Linking {
+    Join { count: usize, place: usize, at: u32 },
+    Stay(u64, usize),
+}
+
+// A link's refusal, or what it needs to be made: the count, the new entry's place and where the original's chunk starts.
+fn link_plan(
+    buf: &[u8],
+    len: usize,
+    room: usize,
+    used: usize,
+    profile: u32,
+    usage: u32,
+    number: u32,
+    alias: u32,
+    chosen: u32,
+) -> Linking
+    ensures { λ r. ⌜ r ≡ linkingOf (editRefusal profile (length (now (buf .entry))) room (take len (now (buf .entry))) len used (link usage number alias chosen)) (model (take len (now (buf .entry)))) usage number ⌝ }
+{
+    match opened(buf, len, room, used, profile, usage, number, 0) {
+        Inspection::Refused { number: k, place } => Linking::Stay(k, place),
+        Inspection::Whole(facts) => {
+            let target = facts.target;
+            let Target::At(piece) = target else {
+                return Linking::Stay(22, 0);
+            };
+            let count = facts.count;
+            let place = linking::link_place(&buf[..len], count, piece);
+            let judged = linking::link_fault(
+                &buf[..len],
+                profile,
+                count,
+                piece,
+                place,
+                alias,
+                chosen,
+            );
+            match with_room(judged, len + 12, buf.len(), 29, room - used) {
+                judging::Outcome::Refused {
+                    number: k,
+                    place: p,
+                } => Linking::Stay(k, p),
+                judging::Outcome::Done => Linking::Join {
+                    count,
+                    place,
+                    at: piece.start,
+                },
+            }
+        }
+    }
+}
+
+// Link, with the usages as numbers.
+fn link_entry(
+    buf: &mut [u8],
+    len: usize,
+    jrn: &mut [u8],
+    used: usize,
+    profile: u32,
+    usage: u32,
+    number: u32,
+    alias: u32,
+    chosen: u32,
+) -> Answer
+    ensures { λ r. ⌜ Called profile (state (now (buf .entry)) len (now (jrn .entry)) used) (edit (link usage number alias chosen)) r (now (buf .exit)) (now (jrn .exit)) ⌝ }
+{
+    match link_plan(
+        buf,
+        len,
+        jrn.len(),
+        used,
+        profile,
+        usage,
+        number,
+        alias,
+        chosen,
+    ) {
+        Linking::Stay(k, place) => Answer::refused(k, place, len, used),
+        Linking::Join { count, place, at } => {
+            moves::put_record(
+                jrn,
+                used,
+                5,
+                moves::Entry {
+                    usage: alias,
+                    number: chosen,
+                    start: at + 12,
+                },
+                place as u64,
+                0,
+                &buf[0..0],
+            );
+            rewrite::insert_entry(buf, len, count, place, at as usize, alias, chosen);
+            Answer::done(len + 12, used + 29)
+        }
+    }
+}
+
 // Four bytes as the number in them.
 fn code_of(b: [u8; 4]) -> u32
     ensures { λ r. ⌜ r ≡ rd32 b ⌝ }
@@ -497,6 +595,25 @@ pub fn remove(
     remove_entry(buf, len, jrn, used, profile, u, number)
 }
 
+// Link: a new entry on the chunk of an existing one, the original, which is named first.
+pub fn link(
+    buf: &mut [u8],
+    len: usize,
+    jrn: &mut [u8],
+    used: usize,
+    profile: u32,
+    usage: [u8; 4],
+    number: u32,
+    alias: [u8; 4],
+    chosen: u32,
+) -> Answer
+    ensures { λ r. ⌜ Called profile (state (now (buf .entry)) len (now (jrn .entry)) used) (edit (link (rd32 usage) number (rd32 alias) chosen)) r (now (buf .exit)) (now (jrn .exit)) ⌝ }
+{
+    let u = code_of(usage);
+    let v = code_of(alias);
+    link_entry(buf, len, jrn, used, profile, u, number, v, chosen)
+}
+
 // The state that a run of edits begins with: the file's length, and U.
 pub struct Session {
     pub len: usize,
@@ -548,7 +665,7 @@ fn write_back(
 {
     let kind = r.kind;
     let place = r.place as usize;
-    if kind == 1 {
+    if (kind == 1) | (kind == 5) {
         rewrite::remove_bytes(buf, len, count, place, at, size);
         return;
     }

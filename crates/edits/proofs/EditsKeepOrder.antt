@@ -20,22 +20,27 @@ use Rattle.blorb.specs.All.{All}
 use Rattle.blorb.specs.Sound.{Sound}
 use Rattle.blorb.proofs.Accept.{accept-back}
 use Rattle.blorb.proofs.VerdictLaws.{refsFault, modelFault, inOrder, verdict-file, file-ordered}
-use Rattle.edits.specs.Edit.{Edit, add, replace, remove, edited, added, replaced, removed, removedBoth, removedEntry, givenChunk}
+use Rattle.edits.specs.Edit.{Edit, add, replace, remove, link, edited, linked, entered, added, replaced, removed, removedBoth, removedEntry, givenChunk}
 use Rattle.edits.specs.Run.{ArgsOk, hundred, wholeFault, targetFault, editedFile, editRecord, editFault}
 use Rattle.edits.proofs.Applies.{Applies}
 use Rattle.edits.proofs.FitLaws.{edit-sound}
 use Rattle.edits.proofs.RunLaws.{target-applies}
-use Rattle.edits.proofs.OrderLaws.{order-added, order-without, order-removed}
+use Rattle.edits.proofs.OrderLaws.{order-linked, order-added, order-without, order-removed}
 
--- "01's edits keep the order"
+-- 01's edits keep the order, and so does a link
 pub added-in-order : (m : Model) (u n : ℕ) (c : Chunk) → Sound m → inOrder 0 (m .refs) ≡ true → inOrder 0 (added m u n c .refs) ≡ true
 unfolding added
 added-in-order m u n c s o = order-added 0 (length (m .chunks)) (m .refs) _ (omega arith) (s .refs-ok) refl o
 
+pub linked-in-order : (m : Model) (k u n : ℕ) → inOrder 0 (m .refs) ≡ true → inOrder 0 (linked m k u n .refs) ≡ true
+unfolding linked entered
+linked-in-order m k u n o = order-linked 0 k _ (m .refs) refl (omega arith) o
+
 pub edits-keep-order : (m : Model) (e : Edit) → Sound m → inOrder 0 (m .refs) ≡ true → inOrder 0 (edited m e .refs) ≡ true
-unfolding edited added replaced removed removedEntry removedBoth
+unfolding edited replaced removed removedEntry removedBoth
 edits-keep-order m (add u n t d) s o = added-in-order m u n (givenChunk t d) s o
 edits-keep-order m (replace u n t d) s o = o
+edits-keep-order m (link v o u n) s h = linked-in-order m (refAt m (find v o (m .refs)) .chunk) u n h
 edits-keep-order m (remove u n) s o = go (shared m (find u n (m .refs)))
   where
     go : (b : Bool) → inOrder 0
@@ -105,6 +110,7 @@ unfolding targetFault wholeFault
 target-never m (add u n t d) = other _ 127 30 0 refl
 target-never m (replace u n t d) = more _ 127 22 0 _ refl (more _ 127 23 0 _ refl (other _ 127 30 0 refl))
 target-never m (remove u n) = other _ 127 22 0 refl
+target-never m (link v o u n) = other _ 127 22 0 refl
 
 -- f: an accepted file
 module _ (profile : ℕ) (f : List ℕ) (bytes : All Byte f) (fine : verdict (rulesOf profile) f ≡ accept) (e : Edit) (args : ArgsOk e) where

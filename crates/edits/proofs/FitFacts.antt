@@ -19,11 +19,11 @@ use Rattle.blorb.specs.Sound.{Sound}
 use Rattle.blorb.proofs.Places.{size-pos, placeOf-startOf, startOf-placeOf}
 use Rattle.blorb.proofs.ModelLaws.{length-file, total-take}
 use Rattle.blorb.proofs.VerdictLaws.{modelFault}
-use Rattle.edits.specs.Journal.{Rec, hasPair, fits1, fits2, fits3, fits4, oldPlace}
+use Rattle.edits.specs.Journal.{Rec, hasPair, fits1, fits2, fits3, fits4, fits5, oldPlace}
 use Rattle.edits.proofs.FitLaws.{find-pair}
 use Rattle.edits.proofs.BoolLaws.{and-parts, same-test}
 use Rattle.edits.proofs.JudgedLaws.{chunk-in}
-use Rattle.edits.proofs.UndoJudged.{fits1-facts, fits2-facts, found-at}
+use Rattle.edits.proofs.UndoJudged.{fits1-facts, fitsAt, fits-at, fits2-at, fits5-at, found-at}
 
 -- the bytes of a chunk, by the length of its data
 pub size-is : (c : Chunk) → size c ≡ 8 + (length (c .body) + length (c .body) % 2)
@@ -67,9 +67,16 @@ told1 r m L i =
     && (eqb (start m (refAt m i .chunk) + (8 + (length (chunkAt m (refAt m i .chunk) .body) + length (chunkAt m (refAt m i .chunk) .body) % 2))) L
     && not (shared m i))))
 
--- kind 2: there is such an entry, it has the record's place, and its chunk, which no other entry has, starts where the record says
+-- kinds 2 and 5: there is such an entry, it has the record's place, its chunk starts where the record says, and q holds of it
+abbrev pub toldAt : (ℕ → Bool) → Rec → Model → ℕ → Bool
+toldAt q r m i = ltb i (length (m .refs)) && (eqb i (r .place) && (eqb (start m (refAt m i .chunk)) (r .start) && q i))
+
+-- kind 2: no other entry has the chunk; kind 5: another has it too
 abbrev pub told2 : Rec → Model → ℕ → Bool
-told2 r m i = ltb i (length (m .refs)) && (eqb i (r .place) && (eqb (start m (refAt m i .chunk)) (r .start) && not (shared m i)))
+told2 r m i = toldAt (λ j. not (shared m j)) r m i
+
+abbrev pub told5 : Rec → Model → ℕ → Bool
+told5 r m i = toldAt (λ j. shared m j) r m i
 
 module _ (profile : ℕ) (r : Rec) (m : Model) (s : Sound m) (ok : modelFault (rulesOf profile) m ≡ accept) where
   abbrev at : ℕ
@@ -106,25 +113,31 @@ module _ (profile : ℕ) (r : Rec) (m : Model) (s : Sound m) (ok : modelFault (r
   pub fits1-told : fits1 r m ≡ told1 r m (length (file m)) (find (r .usage) (r .number) (m .refs))
   fits1-told = same-test (fits1 r m) (told1 r m (length (file m)) at) fits1-tells told1-fits
 
-  fits2-tells : fits2 r m ≡ true → told2 r m at ≡ true
-  fits2-tells fit =
-      let f = fits2-facts r m fit in
-      ap (told2 r m) (found-at profile r m ok (f .inside) (f .usage-is) (f .number-is))
-      ∙ rw (lt-ltb (r .place) (length (m .refs)) (f .inside), eq-eqb (r .place) (r .place) refl, eq-eqb (start m (refAt m (r .place) .chunk)) (r .start) (f .starts), f .alone)
+  module _ (q : ℕ → Bool) where
+    at-tells : fitsAt q r m ≡ true → toldAt q r m at ≡ true
+    at-tells fit =
+        let f = fits-at q r m fit in
+        ap (toldAt q r m) (found-at profile r m ok (f .inside) (f .usage-is) (f .number-is))
+        ∙ rw (lt-ltb (r .place) (length (m .refs)) (f .inside), eq-eqb (r .place) (r .place) refl, eq-eqb (start m (refAt m (r .place) .chunk)) (r .start) (f .starts), f .holds)
 
-  told2-fits : told2 r m at ≡ true → fits2 r m ≡ true
-  unfolding fits2
-  told2-fits h =
-      let k : ℕ = refAt m at .chunk in
-      let a = and-parts (ltb at (length (m .refs))) (eqb at (r .place) && (eqb (start m k) (r .start) && not (shared m at))) h in
-      let b = and-parts (eqb at (r .place)) (eqb (start m k) (r .start) && not (shared m at)) (a .1) in
-      let d = and-parts (eqb (start m k) (r .start)) (not (shared m at)) (b .1) in
-      let l : at < length (m .refs) = ltb-true at (length (m .refs)) (a .0) in
-      ap (λ (i : ℕ). ltb i (length (m .refs)) && hasPair r (refAt m i) && eqb (start m (refAt m i .chunk)) (r .start) && not (shared m i)) (sym (eqb-true at (r .place) (b .0)))
-      ∙ rw (a .0, pair-is l, d .0, d .1)
+    told-at : toldAt q r m at ≡ true → fitsAt q r m ≡ true
+    told-at h =
+        let k : ℕ = refAt m at .chunk in
+        let a = and-parts (ltb at (length (m .refs))) (eqb at (r .place) && (eqb (start m k) (r .start) && q at)) h in
+        let b = and-parts (eqb at (r .place)) (eqb (start m k) (r .start) && q at) (a .1) in
+        let d = and-parts (eqb (start m k) (r .start)) (q at) (b .1) in
+        let l : at < length (m .refs) = ltb-true at (length (m .refs)) (a .0) in
+        ap (λ (i : ℕ). ltb i (length (m .refs)) && hasPair r (refAt m i) && eqb (start m (refAt m i .chunk)) (r .start) && q i) (sym (eqb-true at (r .place) (b .0)))
+        ∙ rw (a .0, pair-is l, d .0, d .1)
+
+    fitsAt-told : fitsAt q r m ≡ toldAt q r m at
+    fitsAt-told = same-test (fitsAt q r m) (toldAt q r m at) at-tells told-at
 
   pub fits2-told : fits2 r m ≡ told2 r m (find (r .usage) (r .number) (m .refs))
-  fits2-told = same-test (fits2 r m) (told2 r m at) fits2-tells told2-fits
+  fits2-told = fits2-at r m ∙ fitsAt-told (λ i. not (shared m i))
+
+  pub fits5-told : fits5 r m ≡ told5 r m (find (r .usage) (r .number) (m .refs))
+  fits5-told = fits5-at r m ∙ fitsAt-told (λ i. shared m i)
 
 -- kind 3: the place is at most the count, and the record's start less 12 is a chunk's beginning behind the index, or the file's end
 abbrev pub told3 : Rec → Model → ℕ → Bool

@@ -1,19 +1,19 @@
 -- The record of an edit fits the file after it, and undo takes the edit back.
 use mathlib.Core.Path.{_≡_, refl, ap}
-use Prim.Native.Nat.{ℕ, suc, _-_, _≤_, _<_}
+use Prim.Native.Nat.{ℕ, zero, suc, _+_, _-_, _≤_, _<_}
 use mathlib.Core.List.{List, [], _∷_, _++_, map, append-nil}
 use mathlib.Core.Bool.{Bool, true, false, cond, _&&_, _||_}
 use native.Mathlib.Omega.{arith}
 use native.Mathlib.Nat.{le-of-suc-le-suc, not-suc-le-zero}
-use lib.ListN.{length, getD, take, drop, length-append, length-set}
-use lib.Seq.{getD-append-seam, take-append-seam, take-set-le}
+use lib.ListN.{length, getD, take, drop, length-append, length-take, length-drop, length-set}
+use lib.Seq.{getD-append-seam, take-append-seam, take-set-le, getD-at}
 use lib.Dec.{eqb, ltb}
 use borrow.Author.Tests.{eq-eqb, ne-eqb, eqb-true, eqb-false, ltb-true, ltb-false, le-leb, lt-ltb}
 use Rattle.blorb.specs.Format.{Ref, Chunk, isStart}
 use Rattle.blorb.specs.Model.{Model, base, startOf}
-use Rattle.edits.specs.Edit.{Edit, add, replace, remove, lower, added, replaced, removed, removedBoth, removedEntry, edited, givenChunk}
+use Rattle.edits.specs.Edit.{Edit, add, replace, remove, link, with-at, linkPlace, linked, entered, anyUpTo, lower, added, replaced, removed, removedBoth, removedEntry, edited, givenChunk}
 use Rattle.blorb.specs.Queries.{find, uses, shared, refAt, noRef, chunkAt, without, start}
-use Rattle.edits.specs.Journal.{removal, recOf, undo2, undone, fits, fits1, fits2, fits3, fits4}
+use Rattle.edits.specs.Journal.{Rec, removal, recOf, undo2, undo5, undone, fits, fits1, fits2, fits3, fits4, fits5}
 use Rattle.blorb.specs.All.{All}
 use Rattle.blorb.proofs.AllLaws.{all-getD, all-append, all-take, all-drop, all-set, all-imp}
 use Rattle.blorb.specs.Sound.{W, RefOk, ChunkOk, Sound}
@@ -121,6 +121,63 @@ unfolding fits undone removal
 removal-back m i true e s h = (fit-remove-entry m i (refAt m i .usage) (refAt m i .number) h (valid-at m i s h), undo-remove-entry m i h (valid-at m i s h))
 removal-back m i false e s h = (fit-remove m i (refAt m i .usage) (refAt m i .number) h (valid-at m i s h), undo-remove m i h (valid-at m i s h) e)
 
+-- a link and its undo
+pub linkPlace-le : (k : ℕ) (rs : List Ref) → linkPlace k rs ≤ length rs
+unfolding linkPlace
+linkPlace-le k [] = omega arith
+linkPlace-le k (r ∷ rs) = go (anyUpTo k (r ∷ rs)) (linkPlace-le k rs)
+  where
+    go : (b : Bool) → linkPlace k rs ≤ length rs → cond b (suc (linkPlace k rs)) 0 ≤ suc (length rs)
+    go true ih = omega arith
+    go false ih = omega arith
+
+length-with : {A : Type 0} (i : ℕ) (x : A) (l : List A) → length (with-at i x l) ≡ suc (length l)
+unfolding with-at
+length-with i x l = simp (length-append, length-take, length-drop) (omega arith)
+
+pub linked-start : (m : Model) (u n k : ℕ) → start (linked m k u n) k ≡ start m k + 12
+unfolding start linked entered startOf base
+linked-start m u n k = rw length-with (omega arith)
+
+getD-with : {A : Type 0} (i : ℕ) (x d : A) (l : List A) → i ≤ length l → getD (with-at i x l) i d ≡ x
+unfolding with-at
+getD-with i x d l h = getD-at (take i l) x (drop i l) d i (simp length-take (omega arith))
+
+without-with : {A : Type 0} (i : ℕ) (x : A) (l : List A) → i ≤ length l → without i (with-at i x l) ≡ l
+unfolding without with-at
+without-with zero x l h = refl
+without-with (suc i) x [] h = absurd (not-suc-le-zero h)
+without-with (suc i) x (y ∷ l) h = ap (λ r. y ∷ r) (without-with i x l (le-of-suc-le-suc h))
+
+uses-at : (rs : List Ref) (i : ℕ) → i < length rs → uses (getD rs i noRef .chunk) rs ≡ true
+unfolding uses
+uses-at [] i h = absurd (not-suc-le-zero h)
+uses-at (r ∷ rs) zero h = rw (eq-eqb (r .chunk) (r .chunk) refl)
+uses-at (r ∷ rs) (suc i) h = rw (uses-at rs i (le-of-suc-le-suc h)) (or-true (eqb (r .chunk) (getD rs i noRef .chunk)))
+
+link-back : (m : Model) (u n j : ℕ) → j < length (m .refs)
+    → let k : ℕ = refAt m j .chunk in
+    let r : Rec = record { kind = 5; usage = u; number = n; place = linkPlace k (m .refs); start = start (linked m k u n) k; type = 0; body = [] } in
+    (fits5 r (linked m k u n) ≡ true) × (undo5 r (linked m k u n) ≡ m)
+unfolding fits5 undo5 removedEntry linked entered shared
+link-back m u n j h =
+    let k : ℕ = refAt m j .chunk in
+    let i : ℕ = linkPlace k (m .refs) in
+    let x : Ref = record { usage = u; number = n; chunk = k } in
+    let le = linkPlace-le k (m .refs) in (
+      rw (
+        length-with i x (m .refs),
+        getD-with i x noRef (m .refs) le,
+        without-with i x (m .refs) le,
+        lt-ltb i (suc (length (m .refs))) (omega arith),
+        eq-eqb u u refl,
+        eq-eqb n n refl,
+        eq-eqb (start (linked m k u n) k) (start (linked m k u n) k) refl,
+        uses-at (m .refs) j h,
+      ),
+      λ q. record { refs = without-with i x (m .refs) le q; chunks = m .chunks },
+    )
+
 pub edit-back : (m : Model) (e : Edit) → Sound m → Applies m e → (fits (recOf m e) (edited m e) ≡ true) × (undone (recOf m e) (edited m e) ≡ m)
 unfolding fits undone recOf edited undo2 removed replaced
 edit-back m (add u n t d) s a = (fit-add m u n (givenChunk t d) 0 [] s, undo-add m u n (givenChunk t d))
@@ -130,6 +187,7 @@ edit-back m (replace u n t d) s a =
       fit-replace m u n i (givenChunk t d) (chunkAt m (refAt m i .chunk) .type) (chunkAt m (refAt m i .chunk) .body) (a .0) (p .0) (p .1) (a .1),
       undo-replace m (refAt m i .chunk) (givenChunk t d),
     )
+edit-back m (link v o u n) s a = link-back m u n (find v o (m .refs)) a
 edit-back m (remove u n) s a =
     let i : ℕ = find u n (m .refs) in
     let p = find-pair u n (m .refs) a in
@@ -160,9 +218,13 @@ all-without : {A : Type 0} (P : A → Type 0) (i : ℕ) (l : List A) → All P l
 unfolding without
 all-without P i l h = all-append P (take i l) (drop (suc i) l) (all-take P i l h) (all-drop P (suc i) l h)
 
+pub unlisted-sound : (m : Model) (i : ℕ) → Sound m → Sound (removedEntry m i)
+unfolding removedEntry
+unlisted-sound m i s = record { refs-ok = all-without (RefOk (length (m .chunks))) i (m .refs) (s .refs-ok); chunks-ok = s .chunks-ok }
+
 sound-removed : (m : Model) (i : ℕ) (b : Bool) → shared m i ≡ b → Sound m → i < length (m .refs) → Sound (cond b (removedEntry m i) (removedBoth m i (refAt m i .chunk)))
-unfolding removedEntry removedBoth shared
-sound-removed m i true e s h = record { refs-ok = all-without (RefOk (length (m .chunks))) i (m .refs) (s .refs-ok); chunks-ok = s .chunks-ok }
+unfolding removedBoth shared
+sound-removed m i true e s h = unlisted-sound m i s
 sound-removed m i false e s h =
     let k : ℕ = refAt m i .chunk in
     let l = length-without k (m .chunks) (valid-at m i s h) in
@@ -192,8 +254,22 @@ pub replaced-sound : (m : Model) (k : ℕ) (c : Chunk) → Sound m → ChunkOk c
 unfolding replaced
 replaced-sound m k c s ok = record { refs-ok = rw length-set (s .refs-ok); chunks-ok = all-set ChunkOk (m .chunks) k c (s .chunks-ok) ok }
 
+pub linked-sound : (m : Model) (u n j : ℕ) → Sound m → u < W → n < W → j < length (m .refs) → Sound (linked m (refAt m j .chunk) u n)
+unfolding linked entered with-at
+linked-sound m u n j s hu hn h =
+    let k : ℕ = refAt m j .chunk in
+    let i : ℕ = linkPlace k (m .refs) in
+    let x : Ref = record { usage = u; number = n; chunk = k } in
+    let P : Ref → Type 0 = RefOk (length (m .chunks)) in
+    record {
+      refs-ok = all-append P (take i (m .refs)) (x ∷ drop i (m .refs)) (all-take P i (m .refs) (s .refs-ok))
+          (record { usage-fits = hu; number-fits = hn; chunk-there = valid-at m j s h }, all-drop P i (m .refs) (s .refs-ok));
+      chunks-ok = s .chunks-ok;
+    }
+
 pub edit-sound : (m : Model) (e : Edit) → Sound m → ArgsOk e → Applies m e → Sound (edited m e)
 unfolding edited removed
 edit-sound m (add u n t d) s a ap = added-sound m u n (givenChunk t d) s (a .0) (a .1) (given-ok t d (a .2))
 edit-sound m (replace u n t d) s a ap = replaced-sound m (refAt m (find u n (m .refs)) .chunk) (givenChunk t d) s (given-ok t d (a .2))
+edit-sound m (link v o u n) s a ap = linked-sound m u n (find v o (m .refs)) s (a .2) (a .3) ap
 edit-sound m (remove u n) s a ap = sound-removed m (find u n (m .refs)) (shared m (find u n (m .refs))) refl s ap

@@ -93,7 +93,7 @@ picture-raise q cs k c [] h = refl
 picture-raise q cs k c (r ∷ rs) h = rw (raised-chunk cs k c r h, picture-raise q cs k c rs h) (unfold raise in refl)
 
 -- a picture stays there when an entry comes in
-picture-with : (q : ℕ) (cs : List Chunk) (i : ℕ) (x : Ref) (rs : List Ref) → picture q cs rs ≡ true → picture q cs (with-at i x rs) ≡ true
+pub picture-with : (q : ℕ) (cs : List Chunk) (i : ℕ) (x : Ref) (rs : List Ref) → picture q cs rs ≡ true → picture q cs (with-at i x rs) ≡ true
 unfolding picture with-at
 picture-with q cs zero x rs h = later (eqb (x .usage) Pict && eqb (x .number) q && not (eqb (getD cs (x .chunk) noChunk .type) Rect)) (picture q cs rs) h
   where
@@ -152,7 +152,7 @@ entry-tests profile cs i x rs ok =
     turn false b c d = refl
 
 -- rule 7 where no picture goes
-front-stays : (at at′ : ℕ) (rs rs′ : List Ref) (a b : List Chunk) → Like a b → optional at rs a ≡ accept
+pub front-stays : (at at′ : ℕ) (rs rs′ : List Ref) (a b : List Chunk) → Like a b → optional at rs a ≡ accept
     → (picture (frontNumber a) a rs ≡ true → picture (frontNumber a) b rs′ ≡ true) → accepted (optional at′ rs′ b) ≡ true
 front-stays at at′ rs rs′ a b l h f =
     ap accepted (optional-like at at′ rs rs′ a b l h)

@@ -14,7 +14,7 @@ use Rattle.edits.specs.Journal.{Rec, recBody, recBytes, trailer, recIn, 
 
 pub record RecOk (r : Rec) : Type 0 where
   pub kind-low : 1 ≤ r .kind
-  pub kind-high : r .kind ≤ 4
+  pub kind-high : r .kind ≤ 5
   pub usage-fits : r .usage < W
   pub number-fits : r .number < W
   pub place-fits : r .place < W
@@ -93,7 +93,7 @@ module _ (r : Rec) (ok : RecOk r) where
           read-body .1,
           ok .zeros-ok,
           le-leb 1 (r .kind) (ok .kind-low),
-          le-leb (r .kind) 4 (ok .kind-high),
+          le-leb (r .kind) 5 (ok .kind-high),
           le-leb 29 (length (p ++ recBytes r)) (omega (arith, long)),
           le-leb 25 (25 + length (r .body)) (omega arith),
           le-leb (25 + length (r .body)) (length (p ++ recBytes r) - 4) (omega (arith, long)),

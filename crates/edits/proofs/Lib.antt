@@ -24,11 +24,13 @@ pub mod JudgedLaws
 pub mod RemoveJudged
 pub mod ReplaceJudged
 pub mod InsertJudged
+pub mod LinkVerdict
 pub mod UndoJudged
 pub mod FitFacts
 pub mod OrderTold
 pub mod UndoTold
 pub mod InsertStarts
+pub mod LinkLaws
 pub mod AddInserts
 pub mod BlankLaws
 pub mod TooLong

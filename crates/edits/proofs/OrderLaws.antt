@@ -2,7 +2,7 @@
 use mathlib.Core.Path.{_≡_, refl, ap, _∙_}
 use Prim.Native.Nat.{ℕ, zero, suc, _+_, _-_, _≤_, _<_}
 use mathlib.Core.List.{List, [], _∷_, _++_, map}
-use mathlib.Core.Bool.{Bool, true, false, cond, _&&_, and-true}
+use mathlib.Core.Bool.{Bool, true, false, cond, _&&_, _||_, and-true}
 use native.Mathlib.Omega.{arith}
 use native.Mathlib.Nat.{le-of-suc-le-suc, not-suc-le-zero}
 use lib.ListN.{length}
@@ -13,8 +13,9 @@ use Rattle.blorb.specs.All.{All}
 use Rattle.blorb.specs.Sound.{RefOk}
 use Rattle.blorb.specs.Queries.{without}
 use Rattle.blorb.proofs.Checks.{and-both, both-true}
+use Rattle.edits.proofs.UndoLaws.{or-false}
 use Rattle.blorb.proofs.VerdictLaws.{inOrder}
-use Rattle.edits.specs.Edit.{with-at, lower, raise}
+use Rattle.edits.specs.Edit.{with-at, lower, raise, anyUpTo, linkPlace}
 
 -- from an earlier chunk on
 order-from : (j k : ℕ) (rs : List Ref) → j ≤ k → inOrder k rs ≡ true → inOrder j rs ≡ true
@@ -111,3 +112,31 @@ order-up c j k (r ∷ rs) h o =
 
 pub order-raise : (c : ℕ) (rs : List Ref) → inOrder 0 rs ≡ true → inOrder 0 (map (raise c) rs) ≡ true
 order-raise c rs o = order-up c 0 0 rs (omega arith) o
+
+-- in an index in order, an entry that isn't behind chunk k tells that of all before it
+up-to-first : (c k : ℕ) (rs : List Ref) → inOrder c rs ≡ true → anyUpTo k rs ≡ true → c ≤ k
+unfolding inOrder anyUpTo
+up-to-first c k [] o h = let z : _≡_ {A = Bool} false true = h in let y : _≡_ {A = ℕ} 0 1 = cc in absurd (omega arith)
+up-to-first c k (r ∷ rs) o h =
+    let p = and-both (leb c (r .chunk)) (inOrder (r .chunk) rs) o in
+    go (leb (r .chunk) k) refl h (λ q. up-to-first (r .chunk) k rs (p .1) q) (leb-true c (r .chunk) (p .0))
+  where
+    go : (b : Bool) → leb (r .chunk) k ≡ b → b || anyUpTo k rs ≡ true → (anyUpTo k rs ≡ true → r .chunk ≤ k) → c ≤ r .chunk → c ≤ k
+    go true e h f l = omega (arith, leb-true (r .chunk) k e)
+    go false e h f l = omega (arith, f h)
+
+-- a link's entry goes in behind the last one that isn't behind its chunk
+pub order-linked : (c k : ℕ) (x : Ref) (rs : List Ref) → x .chunk ≡ k → c ≤ k → inOrder c rs ≡ true → inOrder c (with-at (linkPlace k rs) x rs) ≡ true
+unfolding inOrder linkPlace with-at
+order-linked c k x [] e h o = both-true _ _ (le-leb c (x .chunk) (omega (arith, e))) refl
+order-linked c k x (r ∷ rs) e h o =
+    let p = and-both (leb c (r .chunk)) (inOrder (r .chunk) rs) o in
+    go (anyUpTo k (r ∷ rs)) refl (p .0) (p .1) (λ l. order-linked (r .chunk) k x rs e l (p .1))
+  where
+    go : (b : Bool) → anyUpTo k (r ∷ rs) ≡ b → leb c (r .chunk) ≡ true → inOrder (r .chunk) rs ≡ true
+        → (r .chunk ≤ k → inOrder (r .chunk) (with-at (linkPlace k rs) x rs) ≡ true) → inOrder c (with-at (cond b (suc (linkPlace k rs)) 0) x (r ∷ rs)) ≡ true
+    go true q a o f = both-true _ _ a (f (up-to-first (r .chunk) k (r ∷ rs) (both-true _ _ (le-leb (r .chunk) (r .chunk) (omega arith)) o) q))
+    go false q a o f =
+        let n : leb (r .chunk) k ≡ false = (unfold anyUpTo in or-false (leb (r .chunk) k) (anyUpTo k rs) q .0) in
+        both-true _ _ (le-leb c (x .chunk) (omega (arith, e)))
+        (both-true _ _ (le-leb (x .chunk) (r .chunk) (omega (arith, e, leb-false (r .chunk) k n))) o)

@@ -12,7 +12,7 @@ use Rattle.blorb.specs.Format.{Ref, Chunk}
 use Rattle.blorb.specs.Verdict.{Rules, accept, noChunk, pairIn}
 use Rattle.blorb.specs.Model.{Model}
 use Rattle.blorb.specs.Queries.{find, noRef, refAt, without, uses, shared}
-use Rattle.edits.specs.Edit.{lower, added, replaced, removed, removedBoth, removedEntry}
+use Rattle.edits.specs.Edit.{with-at, lower, added, replaced, removed, removedBoth, removedEntry, linkPlace, entered, linked}
 use Rattle.blorb.specs.All.{All}
 use Rattle.blorb.specs.Sound.{RefOk, Sound}
 use Rattle.blorb.proofs.Checks.{then-accept}
@@ -165,3 +165,29 @@ remove-gone R m i u n ok l h = go (shared m i)
     go true = (unfold removedEntry in look-missing (m .chunks) u n (without i (m .refs)) (pair-gone R (m .chunks) [] 24 u n i (m .refs) ok l h))
     go false = (unfold removedBoth in look-missing (without (refAt m i .chunk) (m .chunks)) u n (map (lower (refAt m i .chunk)) (without i (m .refs)))
         (pair-lowered (refAt m i .chunk) u n (without i (m .refs)) ∙ pair-gone R (m .chunks) [] 24 u n i (m .refs) ok l h))
+
+-- LINK: an entry more on a chunk that is there
+look-with : (cs : List Chunk) (u n i : ℕ) (x : Ref) (rs : List Ref) → same x u n ≡ false → lookIn cs u n (with-at i x rs) ≡ lookIn cs u n rs
+unfolding lookIn with-at
+look-with cs u n zero x rs ne = rw ne
+look-with cs u n (suc i) x [] ne = rw ne
+look-with cs u n (suc i) x (r ∷ rs) ne = rw (look-with cs u n i x rs ne)
+
+look-new : (cs : List Chunk) (u n i : ℕ) (x : Ref) (rs : List Ref) → same x u n ≡ true → pairIn u n rs ≡ false → lookIn cs u n (with-at i x rs) ≡ here (getD cs (x .chunk) noChunk)
+unfolding lookIn with-at pairIn
+look-new cs u n zero x rs e none = rw e
+look-new cs u n (suc i) x [] e none = rw e
+look-new cs u n (suc i) x (r ∷ rs) e none = let o = or-false (same r u n) (pairIn u n rs) none in rw (o .0) (look-new cs u n i x rs e (o .1))
+
+-- the new pair gives what the original (v, o) gives, and any other pair what it gave
+pub link-reads : (m : Model) (v o u n : ℕ) → find v o (m .refs) < length (m .refs) → pairIn u n (m .refs) ≡ false
+    → lookup (linked m (refAt m (find v o (m .refs)) .chunk) u n) u n ≡ lookup m v o
+unfolding lookup linked entered
+link-reads m v o u n h none =
+    let k : ℕ = refAt m (find v o (m .refs)) .chunk in
+    let x : Ref = record { usage = u; number = n; chunk = k } in
+    look-new (m .chunks) u n (linkPlace k (m .refs)) x (m .refs) (rw (eq-eqb u u refl, eq-eqb n n refl)) none ∙ sym (look-find (m .chunks) v o (m .refs) h)
+
+pub link-keeps : (m : Model) (k u n u′ n′ : ℕ) → (eqb u u′ && eqb n n′) ≡ false → lookup (linked m k u n) u′ n′ ≡ lookup m u′ n′
+unfolding lookup linked entered
+link-keeps m k u n u′ n′ ne = look-with (m .chunks) u′ n′ (linkPlace k (m .refs)) (record { usage = u; number = n; chunk = k }) (m .refs) ne

@@ -1,4 +1,4 @@
--- Whether the file is accepted after an entry has gone with its own chunk, as one test.
+-- Whether the file is accepted after an entry has gone, with its own chunk or alone, as one test.
 use mathlib.Core.Path.{_≡_, refl, ap, _∙_}
 use Prim.Native.Nat.{ℕ, zero, suc, _+_, _≤_, _<_}
 use mathlib.Core.List.{List, [], _∷_, _++_, map}
@@ -17,16 +17,17 @@ use Rattle.blorb.specs.Queries.{find, noRef, refAt, chunkAt, without, uses, sha
 use Rattle.blorb.proofs.AllLaws.{all-getD}
 use Rattle.blorb.specs.Sound.{RefOk, Sound}
 use Rattle.blorb.proofs.Checks.{then-accept, check-accept, pass}
+use Rattle.blorb.proofs.ModelLaws.{length-file}
 use Rattle.blorb.proofs.VerdictLaws.{refsFault, modelFault, inOrder}
-use Rattle.edits.specs.Edit.{remove, edited, lower, removed, removedBoth}
+use Rattle.edits.specs.Edit.{remove, edited, lower, removed, removedBoth, removedEntry}
 use Rattle.edits.specs.Run.{accepted}
-use Rattle.edits.proofs.OrderLaws.{order-removed}
+use Rattle.edits.proofs.OrderLaws.{order-without, order-removed}
 use Rattle.edits.proofs.AddVerdict.{second-any}
-use Rattle.edits.proofs.UndoLaws.{or-false, length-remaining}
-use Rattle.edits.proofs.FitLaws.{edit-sound}
+use Rattle.edits.proofs.UndoLaws.{or-false, length-without, length-remaining}
+use Rattle.edits.proofs.FitLaws.{edit-sound, unlisted-sound}
 use Rattle.edits.proofs.Lengths.{length-removed}
-use Rattle.edits.proofs.RemoveVerdict.{same-chunk, refs-removed}
-use Rattle.edits.proofs.FrontLaws.{like-without, optional-like, front-picture, picture-none}
+use Rattle.edits.proofs.RemoveVerdict.{same-chunk, refs-without, refs-removed}
+use Rattle.edits.proofs.FrontLaws.{like-self, like-without, optional-like, front-picture, picture-none}
 use Rattle.edits.proofs.ReadBack.{same, pair-gone}
 use Rattle.edits.proofs.JudgedLaws.{model-parts, accepted-ordered, accepted-front, isFront, find-at, chunk-in, chunk-plain}
 
@@ -131,3 +132,37 @@ module _ (profile : ℕ) (m : Model) (i : ℕ) (s : Sound m) (ok : modelFault (r
       ap (λ (z : Model). accepted (verdict (rulesOf profile) (file z))) removed-both
       ∙ accepted-ordered profile x (rw removed-both at removed-sound) o
       ∙ rw (le-leb (length (file x)) 16777216 le, a, le-leb (length (x .refs)) 4096 few, b) front-removed
+
+-- an entry that goes alone
+pub unlisted-length : (m : Model) (i : ℕ) → i < length (m .refs) → length (file (removedEntry m i)) + 12 ≡ length (file m)
+unfolding removedEntry base
+unlisted-length m i h = rw (length-file (removedEntry m i), length-file m) (omega (arith, length-without i (m .refs) h))
+
+module _ (profile : ℕ) (m : Model) (i : ℕ) (s : Sound m) (ok : modelFault (rulesOf profile) m ≡ accept) (h : i < length (m .refs)) where
+  front-unlisted : accepted (optional (base (length (removedEntry m i .refs))) (removedEntry m i .refs) (removedEntry m i .chunks))
+      ≡ not (isFront (m .chunks) (refAt m i .usage) (refAt m i .number))
+  unfolding removedEntry
+  front-unlisted =
+      let p = model-parts profile m ok in
+      let q : ℕ = frontNumber (m .chunks) in
+      let rs′ : List Ref = without i (m .refs) in
+      ap accepted (optional-like (base (length (m .refs))) (base (length rs′)) (m .refs) rs′ (m .chunks) (m .chunks) (like-self (m .chunks)) (p .seven))
+      ∙ accepted-front (typeIn Fspc (m .chunks)) (picture q (m .chunks) rs′) _
+      ∙ front-gone (typeIn Fspc (m .chunks)) (picture q (m .chunks) rs′) (same (refAt m i) Pict q)
+      (λ e. picture-without profile q (m .chunks) i (m .refs) (p .entries-fine) h (front-picture (base (length (m .refs))) (m .refs) (m .chunks) (p .seven) e))
+
+  -- the file without it is accepted unless the frontispiece's picture goes
+  pub unlisted-accepted : length (file m) ≤ 16777216 → inOrder 0 (m .refs) ≡ true
+      → accepted (verdict (rulesOf profile) (file (removedEntry m i))) ≡ not (isFront (m .chunks) (refAt m i .usage) (refAt m i .number))
+  unlisted-accepted short ord =
+      let p = model-parts profile m ok in
+      let x : Model = removedEntry m i in
+      let few : length (x .refs) ≤ 4096 = (unfold removedEntry in omega (arith, length-without i (m .refs) h, p .few)) in
+      let le : length (file x) ≤ 16777216 = omega (arith, unlisted-length m i h) in
+      let o : inOrder 0 (x .refs) ≡ true = (unfold removedEntry in order-without 0 i (m .refs) ord) in
+      let a : secondIndex (base (length (x .refs))) (x .chunks) ≡ accept
+      = (unfold removedEntry in second-any (base (length (m .refs))) (base (length (without i (m .refs)))) (m .chunks) (p .no-second)) in
+      let b : refsFault (rulesOf profile) (x .chunks) [] 24 (x .refs) ≡ accept
+      = (unfold removedEntry in refs-without (rulesOf profile) (m .chunks) [] [] 24 24 i (m .refs) (λ u n e. e) (p .entries-fine)) in
+      accepted-ordered profile x (unlisted-sound m i s) o
+      ∙ rw (le-leb (length (file x)) 16777216 le, a, le-leb (length (x .refs)) 4096 few, b) front-unlisted

@@ -9,14 +9,14 @@ use lib.Seq.{take-at, take-append-seam}
 use borrow.Author.Tests.{leb-true, ltb-true, not-true}
 use Rattle.blorb.specs.Verdict.{Rules, Verdict, accept, refuse, verdict, noChunk}
 use Rattle.blorb.specs.Model.{Model, model, file, startOf, base}
-use Rattle.edits.specs.Edit.{Edit, add, replace, remove, edited}
+use Rattle.edits.specs.Edit.{Edit, add, replace, remove, link, linkPlace, edited}
 use Rattle.blorb.specs.Queries.{find, shared, refAt, noRef, chunkAt, start}
 use Rattle.edits.specs.Journal.{recOf, removal, lastRec, wellFormed, fits, zeros}
 use Rattle.blorb.proofs.AllLaws.{all-getD}
 use Rattle.blorb.specs.Sound.{W, RefOk, ChunkOk, Sound}
 use Rattle.edits.specs.Run.{ArgsOk, hundred, written, noted, targetFault, editedFile, editRecord, undoneFile, editFault}
 use Rattle.edits.proofs.Applies.{Applies}
-use Rattle.edits.proofs.FitLaws.{edit-back, edit-sound}
+use Rattle.edits.proofs.FitLaws.{edit-back, edit-sound, linkPlace-le, linked-start}
 use Rattle.blorb.proofs.ModelLaws.{model-file, length-file, total-take, size-getD}
 use Rattle.blorb.proofs.Places.{body-size}
 use Rattle.edits.proofs.JournalLaws.{RecOk, last-rec, well-formed, length-recBytes}
@@ -50,6 +50,7 @@ target-applies m (replace u n t d) h =
     let p = then-accept _ _ h in
     (ltb-true _ _ (check-accept _ _ _ (p .0)), not-true _ (check-accept _ _ _ (then-accept _ _ (p .1) .0)))
 target-applies m (remove u n) h = ltb-true _ _ (check-accept _ _ _ h)
+target-applies m (link v o u n) h = ltb-true _ _ (check-accept _ _ _ h)
 
 hundred-accept : (v : Verdict) → hundred v ≡ accept → v ≡ accept
 hundred-accept accept h = refl
@@ -60,6 +61,10 @@ module _ (m : Model) (s : Sound m) (small : length (file m) ≤ 16777216) where
   start-small : (k : ℕ) → start m k < W
   unfolding start startOf
   start-small k = omega (arith, total-take k (m .chunks), length-file m)
+
+  next-small : (k : ℕ) → start m k + 12 < W
+  unfolding start startOf
+  next-small k = omega (arith, total-take k (m .chunks), length-file m)
 
   place-small : (i : ℕ) → i ≤ length (m .refs) → i < W
   unfolding base
@@ -123,6 +128,19 @@ module _ (m : Model) (s : Sound m) (small : length (file m) ≤ 16777216) where
     body-fits = body-small (find u n (m .refs)) (h .0);
     zeros-ok = refl;
   }
+  rec-ok (link v o u n) a h =
+      let k : ℕ = refAt m (find v o (m .refs)) .chunk in
+      record {
+        kind-low = omega arith;
+        kind-high = omega arith;
+        usage-fits = a .2;
+        number-fits = a .3;
+        place-fits = place-small (linkPlace k (m .refs)) (linkPlace-le k (m .refs));
+        start-fits = rw (linked-start m u n k) (next-small k);
+        type-fits = omega arith;
+        body-fits = omega arith;
+        zeros-ok = refl;
+      }
   rec-ok (remove u n) a h = removal-ok (shared m (find u n (m .refs))) u n (find u n (m .refs)) (a .0) (a .1) h
 
 -- a file that a run can stand on

@@ -22,12 +22,12 @@ use Rattle.blorb.proofs.Accept.{accept-back}
 use Rattle.blorb.proofs.ModelLaws.{length-file, size-getD}
 use Rattle.blorb.proofs.VerdictLaws.{modelFault, inOrder, file-judged, file-ordered}
 use Rattle.edits.specs.Edit.{lower, replaced, removed, removedBoth}
-use Rattle.edits.specs.Journal.{Rec, hasPair, fits, fits1, fits2, fits3, fits4, undone, undo1, undo2, undo3, undo4, oldChunk, oldPlace}
+use Rattle.edits.specs.Journal.{Rec, hasPair, fits, fits1, fits2, fits3, fits4, fits5, undone, undo1, undo2, undo3, undo4, undo5, oldChunk, oldPlace}
 use Rattle.edits.specs.Run.{accepted}
 use Rattle.edits.proofs.Lengths.{length-replaced}
 use Rattle.edits.proofs.BoolLaws.{and-parts}
 use Rattle.edits.proofs.JudgedLaws.{model-parts, isFront, find-at, chunk-in}
-use Rattle.edits.proofs.RemoveJudged.{removed-length, removed-accepted}
+use Rattle.edits.proofs.RemoveJudged.{removed-length, removed-accepted, unlisted-length, unlisted-accepted}
 use Rattle.edits.proofs.ReplaceJudged.{replaced-accepted}
 use Rattle.edits.proofs.InsertStarts.{place-inside}
 use Rattle.edits.proofs.InsertJudged.{entryTests, entered-length, entered-accepted, inserted-length, inserted-accepted}
@@ -102,21 +102,25 @@ undo1-accepted profile r m s ok ord short fit =
     ∙ removed-accepted profile m (r .place) s ok (omega (arith, f .count)) (f .alone) short ord
     ∙ (λ i. not (isFront (m .chunks) (f .usage-is i) (f .number-is i)))
 
--- ---- kind 2
-pub record Fits2 (r : Rec) (m : Model) : Type 0 where
+-- ---- kinds 2 and 5: the entry at the record's place has its pair and start, and q holds of it
+abbrev pub fitsAt : (ℕ → Bool) → Rec → Model → Bool
+fitsAt q r m =
+    ltb (r .place) (length (m .refs)) && hasPair r (refAt m (r .place))
+    && eqb (start m (refAt m (r .place) .chunk)) (r .start) && q (r .place)
+
+pub record FitsAt (q : ℕ → Bool) (r : Rec) (m : Model) : Type 0 where
   pub inside : r .place < length (m .refs)
   pub usage-is : refAt m (r .place) .usage ≡ r .usage
   pub number-is : refAt m (r .place) .number ≡ r .number
   pub starts : start m (refAt m (r .place) .chunk) ≡ r .start
-  pub alone : shared m (r .place) ≡ false
+  pub holds : q (r .place) ≡ true
 
-pub fits2-facts : (r : Rec) (m : Model) → fits2 r m ≡ true → Fits2 r m
-unfolding fits2
-fits2-facts r m h =
+pub fits-at : (q : ℕ → Bool) (r : Rec) (m : Model) → fitsAt q r m ≡ true → FitsAt q r m
+fits-at q r m h =
     let e : Ref = refAt m (r .place) in
     let a : Bool = ltb (r .place) (length (m .refs)) in
     let b : Bool = eqb (start m (e .chunk)) (r .start) in
-    let p3 = and-parts (a && hasPair r e && b) (not (shared m (r .place))) h in
+    let p3 = and-parts (a && hasPair r e && b) (q (r .place)) h in
     let p2 = and-parts (a && hasPair r e) b (p3 .0) in
     let p1 = and-parts a (hasPair r e) (p2 .0) in
     let p0 = and-parts (eqb (e .usage) (r .usage)) (eqb (e .number) (r .number)) (p1 .1) in
@@ -125,8 +129,23 @@ fits2-facts r m h =
       usage-is = eqb-true _ _ (p0 .0);
       number-is = eqb-true _ _ (p0 .1);
       starts = eqb-true _ _ (p2 .1);
-      alone = not-true _ (p3 .1);
+      holds = p3 .1;
     }
+
+-- kind 2: no other entry shares the chunk; kind 5: another does
+pub fits2-at : (r : Rec) (m : Model) → fits2 r m ≡ fitsAt (λ i. not (shared m i)) r m
+unfolding fits2
+fits2-at r m = refl
+
+pub fits5-at : (r : Rec) (m : Model) → fits5 r m ≡ fitsAt (λ i. shared m i) r m
+unfolding fits5
+fits5-at r m = refl
+
+pub fits2-facts : (r : Rec) (m : Model) → fits2 r m ≡ true → FitsAt (λ i. not (shared m i)) r m
+fits2-facts r m h = fits-at (λ i. not (shared m i)) r m (sym (fits2-at r m) ∙ h)
+
+pub fits5-facts : (r : Rec) (m : Model) → fits5 r m ≡ true → FitsAt (λ i. shared m i) r m
+fits5-facts r m h = fits-at (λ i. shared m i) r m (sym (fits5-at r m) ∙ h)
 
 -- the entry at that place is the one of that pair
 pub found-at : (profile : ℕ) (r : Rec) (m : Model) → modelFault (rulesOf profile) m ≡ accept → r .place < length (m .refs)
@@ -152,7 +171,7 @@ module _ (profile : ℕ) (r : Rec) (m : Model) (s : Sound m) (ok : modelFault (r
       let f = fits2-facts r m fit in
       let e : find (r .usage) (r .number) (m .refs) ≡ r .place = found-at profile r m ok (f .inside) (f .usage-is) (f .number-is) in
       let h : find (r .usage) (r .number) (m .refs) < length (m .refs) = rw e (f .inside) in
-      let al : shared m (find (r .usage) (r .number) (m .refs)) ≡ false = rw e (f .alone) in
+      let al : shared m (find (r .usage) (r .number) (m .refs)) ≡ false = rw e (not-true _ (f .holds)) in
       ap (λ (i : ℕ). accepted (verdict (rulesOf profile) (file (replaced m (refAt m i .chunk) (oldChunk r))))) (sym e)
       ∙ replaced-accepted profile m (r .usage) (r .number) (r .type) (r .body) s ok h al ht ord
       ∙ ap (λ (i : ℕ). leb (length (file m) - size (chunkAt m (refAt m i .chunk)) + size (oldChunk r)) 16777216
@@ -189,6 +208,21 @@ module _ (profile : ℕ) (r : Rec) (m : Model) (s : Sound m) (ok : modelFault (r
     unfolding undo4
     undo4-accepted = entered-accepted profile m (r .place) (oldPlace r m) (r .usage) (r .number) s ok old-ok
 
+-- ---- kind 5
+pub undo5-length : (r : Rec) (m : Model) → fits5 r m ≡ true → length (file (undo5 r m)) + 12 ≡ length (file m)
+unfolding undo5
+undo5-length r m fit = unlisted-length m (r .place) (fits5-facts r m fit .inside)
+
+-- accepted unless the frontispiece's picture goes
+pub undo5-accepted : (profile : ℕ) (r : Rec) (m : Model) → Sound m → modelFault (rulesOf profile) m ≡ accept → inOrder 0 (m .refs) ≡ true → length (file m) ≤ 16777216
+    → fits5 r m ≡ true
+    → accepted (verdict (rulesOf profile) (file (undo5 r m))) ≡ not (isFront (m .chunks) (r .usage) (r .number))
+unfolding undo5
+undo5-accepted profile r m s ok ord short fit =
+    let f = fits5-facts r m fit in
+    unlisted-accepted profile m (r .place) s ok (f .inside) short ord
+    ∙ (λ i. not (isFront (m .chunks) (f .usage-is i) (f .number-is i)))
+
 -- ---- by kind
 pub kind-1 : (r : Rec) (m : Model) → r .kind ≡ 1 → (fits r m ≡ fits1 r m) × (undone r m ≡ undo1 m)
 unfolding fits undone
@@ -205,6 +239,10 @@ kind-3 r m h = (rw h, rw h)
 pub kind-4 : (r : Rec) (m : Model) → r .kind ≡ 4 → (fits r m ≡ fits4 r m) × (undone r m ≡ undo4 r m)
 unfolding fits undone
 kind-4 r m h = (rw h, rw h)
+
+pub kind-5 : (r : Rec) (m : Model) → r .kind ≡ 5 → (fits r m ≡ fits5 r m) × (undone r m ≡ undo5 r m)
+unfolding fits undone
+kind-5 r m h = (rw h, rw h)
 
 -- an accepted file's model is as the laws above want it
 pub record AcceptedFile (profile : ℕ) (f : List ℕ) : Type 0 where

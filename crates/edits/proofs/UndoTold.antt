@@ -17,15 +17,15 @@ use Rattle.blorb.specs.All.{All}
 use Rattle.blorb.proofs.AllLaws.{all-take, all-drop}
 use Rattle.blorb.specs.Sound.{W}
 use Rattle.blorb.proofs.Accept.{rd32-small}
-use Rattle.edits.specs.Journal.{Rec, trailer, recIn, lastBody, lastRec, fits, fits1, fits2, fits3, fits4, undo2, oldChunk, oldPlace}
+use Rattle.edits.specs.Journal.{Rec, trailer, recIn, lastBody, lastRec, fits, fits1, fits2, fits3, fits4, fits5, undo2, oldChunk, oldPlace}
 use Rattle.edits.specs.Order.{between}
 use Rattle.edits.specs.Run.{accepted, undoneFile}
 use Rattle.edits.proofs.BoolLaws.{and-where}
 use Rattle.edits.proofs.JudgedLaws.{isFront}
 use Rattle.edits.proofs.InsertJudged.{entryTests}
-use Rattle.edits.proofs.UndoJudged.{AcceptedFile, kind-1, kind-2, kind-3, kind-4, fits2-facts, found-at, undo1-length, undo1-accepted, undo2-length, undo2-accepted, undo3-length, undo3-accepted, undo4-length, undo4-accepted}
+use Rattle.edits.proofs.UndoJudged.{AcceptedFile, kind-1, kind-2, kind-3, kind-4, kind-5, fits2-facts, found-at, undo1-length, undo1-accepted, undo2-length, undo2-accepted, undo3-length, undo3-accepted, undo4-length, undo4-accepted, undo5-length, undo5-accepted}
 use Rattle.edits.proofs.OrderTold.{order-inserted, order-entered}
-use Rattle.edits.proofs.FitFacts.{size-is, told1, told2, told3, told4, fits1-told, fits2-told, fits3-told, fits4-told}
+use Rattle.edits.proofs.FitFacts.{size-is, told1, told2, told3, told4, told5, fits1-told, fits2-told, fits3-told, fits4-told, fits5-told}
 
 -- a record read from bytes has numbers of 32 bits
 body-bytes : (j : List ℕ) → All Byte j → All Byte (lastBody j)
@@ -132,6 +132,16 @@ module _ (profile : ℕ) (f j : List ℕ) (st : AcceptedFile profile f) (bytes :
       && (leb (suc (length (m .refs))) 4096 && entryTests profile (r .usage) (r .number) (chunkAt m (oldPlace r m)) (m .refs)))))
       ∙ ap (λ (b : Bool). b && accepted4 profile r m (length f)) (fits4-told r m)
 
+  pub test-5 : lastRec j .kind ≡ 5 → (fits (lastRec j) (model f) && accepted (verdict (rulesOf profile) (undoneFile f j)))
+      ≡ (told5 (lastRec j) (model f) (find (lastRec j .usage) (lastRec j .number) (model f .refs)) && not (isFront (model f .chunks) (lastRec j .usage) (lastRec j .number)))
+  unfolding undoneFile
+  test-5 h =
+      let k = kind-5 r m h in
+      let z : Bool = not (isFront (m .chunks) (r .usage) (r .number)) in
+      (λ i. k .0 i && accepted (verdict (rulesOf profile) (file (k .1 i))))
+      ∙ and-where (fits5 r m) _ z (λ fit. undo5-accepted profile r m (st .sound) (st .judged) (st .ordered) (st .short) fit)
+      ∙ ap (λ (b : Bool). b && z) (fits5-told profile r m (st .sound) (st .judged))
+
   -- the length of the file after it, for 24
   pub after-1 : lastRec j .kind ≡ 1 → fits1 (lastRec j) (model f) ≡ true
       → length (undoneFile f j) + (12 + sizeOf (length (chunkAt (model f) (refAt (model f) (lastRec j .place) .chunk) .body))) ≡ length f
@@ -157,3 +167,7 @@ module _ (profile : ℕ) (f j : List ℕ) (st : AcceptedFile profile f) (bytes :
   after-4 h fit =
       let w = last-small j bytes in
       ap (λ (z : Model). length (file z)) (kind-4 r m h .1) ∙ undo4-length profile r m (st .sound) (st .judged) (w .0) (w .1) fit ∙ ap (λ (z : ℕ). z + 12) same-length
+
+  pub after-5 : lastRec j .kind ≡ 5 → fits5 (lastRec j) (model f) ≡ true → length (undoneFile f j) + 12 ≡ length f
+  unfolding undoneFile
+  after-5 h fit = ap (λ (z : Model). length (file z) + 12) (kind-5 r m h .1) ∙ undo5-length r m fit ∙ same-length

@@ -35,12 +35,12 @@ or-swap true true c = refl
 or-swap true false c = refl
 or-swap false b c = refl
 
-pair-snoc : (u n : ℕ) (e : List Ref) (r : Ref) → pairIn u n (e ++ (r ∷ [])) ≡ (same r u n || pairIn u n e)
+pub pair-snoc : (u n : ℕ) (e : List Ref) (r : Ref) → pairIn u n (e ++ (r ∷ [])) ≡ (same r u n || pairIn u n e)
 unfolding pairIn
 pair-snoc u n [] r = refl
 pair-snoc u n (x ∷ e) r = rw (pair-snoc u n e r) (or-swap (same x u n) (same r u n) (pairIn u n e))
 
-more-keep : (x r : Ref) (e e′ : List Ref) → More x e e′ → More x (e ++ (r ∷ [])) (e′ ++ (r ∷ []))
+pub more-keep : (x r : Ref) (e e′ : List Ref) → More x e e′ → More x (e ++ (r ∷ [])) (e′ ++ (r ∷ []))
 more-keep x r e e′ m u n = rw (pair-snoc u n e′ r, pair-snoc u n e r, m u n) (or-swap (same r u n) (same x u n) (pairIn u n e))
 
 eqb-turn : (a b : ℕ) → eqb a b ≡ eqb b a
@@ -50,7 +50,7 @@ eqb-turn a b = go (eqb a b) refl
     go true e = sym (eq-eqb b a (sym (eqb-true a b e)))
     go false e = sym (ne-eqb b a (λ q. eqb-false a b e (sym q)))
 
-same-turn : (x r : Ref) → same x (r .usage) (r .number) ≡ same r (x .usage) (x .number)
+pub same-turn : (x r : Ref) → same x (r .usage) (r .number) ≡ same r (x .usage) (x .number)
 same-turn x r = λ i. eqb-turn (x .usage) (r .usage) i && eqb-turn (x .number) (r .number) i
 
 module _ (R : Rules) (cs : List Chunk) (x : Ref) where

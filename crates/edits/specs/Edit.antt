@@ -2,7 +2,7 @@
 -- 12, only those behind, by 12 and the chunk's size, is proved in proofs/Starts.antt.
 use Prim.Native.Nat.{ℕ, suc, _+_, _-_}
 use mathlib.Core.List.{List, [], _∷_, _++_, map}
-use mathlib.Core.Bool.{Bool, cond, _&&_}
+use mathlib.Core.Bool.{Bool, false, cond, _&&_, _||_}
 use lib.ListN.{length, take, drop, set}
 use lib.Dec.{eqb, leb, ltb}
 use Rattle.blorb.specs.Bytes.{rd32}
@@ -12,11 +12,12 @@ use Rattle.blorb.specs.Lookup.{leftOut}
 use Rattle.blorb.specs.Model.{Model}
 use Rattle.blorb.specs.Queries.{without, find, refAt, shared}
 
--- a call's arguments: usage, number, type and data; usage, number
+-- a call's arguments: usage, number, type and data; usage, number; the original's usage and number, then the new entry's (02, P8)
 pub data Edit : Type 0 where
   add : ℕ → ℕ → ℕ → List ℕ → Edit
   replace : ℕ → ℕ → ℕ → List ℕ → Edit
   remove : ℕ → ℕ → Edit
+  link : ℕ → ℕ → ℕ → ℕ → Edit
 
 module _ {A : Type 0} where
   -- the list with x put in at i
@@ -60,6 +61,21 @@ inserted m i k u n c = record {
   chunks = with-at k c (m .chunks);
 }
 
+-- an entry of rs stands on chunk k or on one before it: its start isn't greater
+unfoldable pub anyUpTo : ℕ → List Ref → Bool
+anyUpTo k [] = false
+anyUpTo k (r ∷ rs) = leb (r .chunk) k || anyUpTo k rs
+
+-- "after the last entry whose start isn't greater than the chunk's" (02, P8), the chunk being k: behind all entries that have such a one at or
+-- behind them
+unfoldable pub linkPlace : ℕ → List Ref → ℕ
+linkPlace k [] = 0
+linkPlace k (r ∷ rs) = cond (anyUpTo k (r ∷ rs)) (suc (linkPlace k rs)) 0
+
+-- link: "a new entry on the chunk of an existing one", the chunk being k. "All starts grow by 12."
+unfoldable pub linked : Model → ℕ → ℕ → ℕ → Model
+linked m k u n = entered m (linkPlace k (m .refs)) k u n
+
 -- The data as the chunk holds it, of the data given to add or replace: "add and replace of type 'FORM' take the whole file likewise", so the
 -- header that a lookup gives with such a chunk is not in it (02, P3).
 unfoldable pub held : ℕ → List ℕ → List ℕ
@@ -78,3 +94,4 @@ unfoldable pub edited : Model → Edit → Model
 edited m (add u n t d) = added m u n (givenChunk t d)
 edited m (replace u n t d) = replaced m (refAt m (find u n (m .refs)) .chunk) (givenChunk t d)
 edited m (remove u n) = removed m (find u n (m .refs))
+edited m (link v o u n) = linked m (refAt m (find v o (m .refs)) .chunk) u n

@@ -8,7 +8,7 @@ use Rattle.blorb.specs.Bytes.{be32, rd32}
 use Rattle.blorb.specs.Format.{Ref, Chunk, chunkOf, isStart}
 use Rattle.blorb.specs.Queries.{start, placeAt, find, shared, refAt, chunkAt}
 use Rattle.blorb.specs.Model.{Model, base}
-use Rattle.edits.specs.Edit.{Edit, add, replace, remove, replaced, entered, inserted}
+use Rattle.edits.specs.Edit.{Edit, add, replace, remove, link, replaced, removedEntry, entered, inserted, linkPlace, linked}
 
 -- "Each record: kind (1 byte), usage, number, index place from 0, start, type, m (4 bytes each), m data bytes"
 pub record Rec : Type 0 where
@@ -34,7 +34,8 @@ unfoldable pub removal : Bool → Model → ℕ → ℕ → ℕ → Rec
 removal true m u n i = record { kind = 4; usage = u; number = n; place = i; start = start m (refAt m i .chunk); type = 0; body = [] }
 removal false m u n i = record { kind = 3; usage = u; number = n; place = i; start = start m (refAt m i .chunk); type = chunkAt m (refAt m i .chunk) .type; body = chunkAt m (refAt m i .chunk) .body }
 
--- "1 added (place the old count; start, type, m zero); 2 replaced (entry's place, chunk's start, old type, old data)"
+-- "1 added (place the old count; start, type, m zero); 2 replaced (entry's place, chunk's start, old type, old data)"; "kind 5 (place, start in the new
+-- file; type and m zero)" (02, P8)
 unfoldable pub recOf : Model → Edit → Rec
 recOf m (add u n t d) = record { kind = 1; usage = u; number = n; place = length (m .refs); start = 0; type = 0; body = [] }
 recOf m (replace u n t d) =
@@ -42,6 +43,9 @@ recOf m (replace u n t d) =
     let k = refAt m i .chunk in
     record { kind = 2; usage = u; number = n; place = i; start = start m k; type = chunkAt m k .type; body = chunkAt m k .body }
 recOf m (remove u n) = removal (shared m (find u n (m .refs))) m u n (find u n (m .refs))
+recOf m (link v o u n) =
+    let k = refAt m (find v o (m .refs)) .chunk in
+    record { kind = 5; usage = u; number = n; place = linkPlace k (m .refs); start = start (linked m k u n) k; type = 0; body = [] }
 
 -- reading the last record of j, a journal's first U bytes: its trailer first
 unfoldable pub trailer : List ℕ → ℕ
@@ -68,15 +72,15 @@ lastRec j = recIn (lastBody j)
 unfoldable pub zeros : Rec → Bool
 zeros r =
     (not (eqb (r .kind) 1) || (eqb (r .start) 0 && eqb (r .type) 0 && eqb (length (r .body)) 0))
-    && (not (eqb (r .kind) 4) || (eqb (r .type) 0 && eqb (length (r .body)) 0))
+    && (not (eqb (r .kind) 4 || eqb (r .kind) 5) || (eqb (r .type) 0 && eqb (length (r .body)) 0))
 
 -- "The last record is well formed if U is at least 29, its trailer lies between 25 and U − 4, m agrees, the kind is 1 to 4 and the fields
--- named zero are zero."
+-- named zero are zero"; "a well-formed kind is now 1 to 5" (02, P8)
 unfoldable pub wellFormed : List ℕ → Bool
 wellFormed j =
     leb 29 (length j) && leb 25 (trailer j) && leb (trailer j) (length j - 4)
     && eqb (25 + rd32 (drop 21 (lastBody j))) (trailer j)
-    && leb 1 (lastRec j .kind) && leb (lastRec j .kind) 4 && zeros (lastRec j)
+    && leb 1 (lastRec j .kind) && leb (lastRec j .kind) 5 && zeros (lastRec j)
 
 -- the entry has the record's pair
 abbrev pub hasPair : Rec → Ref → Bool
@@ -105,12 +109,18 @@ fits3 r m =
 unfoldable pub fits4 : Rec → Model → Bool
 fits4 r m = leb (r .place) (length (m .refs)) && isStart (r .start - 12) (base (length (m .refs))) (m .chunks)
 
-abbrev pub byKind {ℓ} : {A : Type ℓ} → ℕ → A → A → A → A → A
-byKind k a b c d = cond (eqb k 1) a (cond (eqb k 2) b (cond (eqb k 3) c d))
+-- "the entry at that place has that usage, number and start and shares its chunk" (02, P8)
+unfoldable pub fits5 : Rec → Model → Bool
+fits5 r m =
+    ltb (r .place) (length (m .refs)) && hasPair r (refAt m (r .place))
+    && eqb (start m (refAt m (r .place) .chunk)) (r .start) && shared m (r .place)
+
+abbrev pub byKind {ℓ} : {A : Type ℓ} → ℕ → A → A → A → A → A → A
+byKind k a b c d e = cond (eqb k 1) a (cond (eqb k 2) b (cond (eqb k 3) c (cond (eqb k 4) d e)))
 
 -- the record fits this file
 unfoldable pub fits : Rec → Model → Bool
-fits r m = byKind (r .kind) (fits1 r m) (fits2 r m) (fits3 r m) (fits4 r m)
+fits r m = byKind (r .kind) (fits1 r m) (fits2 r m) (fits3 r m) (fits4 r m) (fits5 r m)
 
 -- what the file holds after the undo: "both go"; "type and data go back"; "entry and chunk go in there"; "the entry goes in"
 unfoldable pub undo1 : Model → Model
@@ -131,5 +141,9 @@ undo3 r m = inserted m (r .place) (oldPlace r m) (r .usage) (r .number) (oldChun
 unfoldable pub undo4 : Rec → Model → Model
 undo4 r m = entered m (r .place) (oldPlace r m) (r .usage) (r .number)
 
+-- "undo drops it" (02, P8)
+unfoldable pub undo5 : Rec → Model → Model
+undo5 r m = removedEntry m (r .place)
+
 unfoldable pub undone : Rec → Model → Model
-undone r m = byKind (r .kind) (undo1 m) (undo2 r m) (undo3 r m) (undo4 r m)
+undone r m = byKind (r .kind) (undo1 m) (undo2 r m) (undo3 r m) (undo4 r m) (undo5 r m)

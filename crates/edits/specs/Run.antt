@@ -7,7 +7,7 @@ use lib.Dec.{eqb, leb, ltb}
 use Rattle.blorb.specs.Verdict.{Rules, Verdict, accept, refuse, _then_, check, verdict}
 use Rattle.blorb.specs.Model.{Model, model, file}
 use Rattle.blorb.specs.Tags.{FORM}
-use Rattle.edits.specs.Edit.{Edit, add, replace, remove, isWhole, edited}
+use Rattle.edits.specs.Edit.{Edit, add, replace, remove, link, isWhole, edited}
 use Rattle.blorb.specs.Queries.{find, shared}
 use Rattle.edits.specs.Journal.{recOf, recBytes, lastRec, wellFormed, fits, undone}
 
@@ -31,6 +31,7 @@ abbrev pub ArgsOk : Edit → Type 0
 ArgsOk (add u n t d) = (u < 4294967296) × (n < 4294967296) × (t < 4294967296)
 ArgsOk (replace u n t d) = (u < 4294967296) × (n < 4294967296) × (t < 4294967296)
 ArgsOk (remove u n) = (u < 4294967296) × (n < 4294967296)
+ArgsOk (link v o u n) = (v < 4294967296) × (o < 4294967296) × (u < 4294967296) × (n < 4294967296)
 
 -- and so a call's; an undo has no arguments
 abbrev pub CallOk : Call → Type 0
@@ -64,7 +65,7 @@ noted journal U r = take U journal ++ (r ++ drop (U + length r) journal)
 unfoldable pub wholeFault : ℕ → List ℕ → Verdict
 wholeFault t d = check (not (eqb t FORM) || isWhole d) 30 0
 
--- 22: "no such entry"; 23: "the chunk to be replaced is shared"; 30: "after 23 and before 100 + k"
+-- 22: "no such entry", of a link "for a missing original" (02, P8); 23: "the chunk to be replaced is shared"; 30: "after 23 and before 100 + k"
 unfoldable pub targetFault : Model → Edit → Verdict
 targetFault m (add u n t d) = wholeFault t d
 targetFault m (replace u n t d) =
@@ -72,6 +73,7 @@ targetFault m (replace u n t d) =
     then check (not (shared m (find u n (m .refs)))) 23 0
     then wholeFault t d
 targetFault m (remove u n) = check (ltb (find u n (m .refs)) (length (m .refs))) 22 0
+targetFault m (link v o u n) = check (ltb (find v o (m .refs)) (length (m .refs))) 22 0
 
 -- the file after an edit, and the edit's record
 unfoldable pub editedFile : List ℕ → Edit → List ℕ

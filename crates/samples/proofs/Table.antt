@@ -10,6 +10,7 @@ use Rattle.blorb.specs.declared.Usage.the-variants as usage
 use Rattle.blorb.specs.All.{All}
 use Rattle.edits.specs.Edit.{add, replace, remove, with-at, lower, raise, added, replaced, removedBoth, removedEntry, removed, edited, entered, inserted}
 use Rattle.edits.specs.Edit.{held, isWhole}
+use Rattle.edits.specs.Edit.{anyUpTo, linkPlace, linked}
 use Rattle.edits.specs.Blank.{blanked, blankFile}
 use Rattle.blorb.specs.Verdict.{accept, refuse, _then_, check, headFault, chunkFault, walkFault, secondIndex, indexFault, pairIn, lastPlace, refFault, entriesFault, restFault, layoutFault, verdict, reading}
 use Rattle.edits.specs.Run.{wholeFault}
@@ -25,13 +26,13 @@ use Rattle.blorb.specs.Model.{base, startOf, entryOf, file, modelOf, model}
 use Rattle.blorb.specs.Queries.{without, find, uses, shared, start, frontPlace}
 use Rattle.blorb.specs.Usages.{usageOf}
 use Rattle.blorb.specs.Lookup.{leftOut}
-use Rattle.edits.specs.Journal.{recBody, recBytes, removal, recOf, trailer, recIn, lastBody, lastRec, zeros, wellFormed, fits1, fits2, fits3, fits4, fits, undo1, undo2, undo3, undo4, undone}
+use Rattle.edits.specs.Journal.{recBody, recBytes, removal, recOf, trailer, recIn, lastBody, lastRec, zeros, wellFormed, fits1, fits2, fits3, fits4, fits5, fits, undo1, undo2, undo3, undo4, undo5, undone}
 use Rattle.reader.specs.Reading.{indexOf, readOf, askedOf, lookupOf}
 use Rattle.index.specs.Hits.{hitIn}
 
 -- opens every definition that a row computes with: a definition opens what its own line names
 unfoldable pub computed : ℕ
-unfolding be32 rd32 sized size chunkBytes chunksBytes total fileBytes chunkIn chunksIn chunksOf entryIn entriesIn entryBytes entriesBytes indexChunk entriesOf isStart placeOf refOf _then_ check headFault chunkFault walkFault secondIndex indexFault pairIn lastPlace refFault entriesFault restFault layoutFault verdict reading oneOf plainAllows adriftAllows allows picture typeIn single chunkRule chunkRules optional profileVerdict base startOf entryOf file modelOf model without find uses shared start frontPlace usageOf with-at lower raise entered inserted added replaced removedBoth removedEntry removed held edited recBody recBytes removal recOf trailer recIn lastBody lastRec zeros wellFormed fits1 fits2 fits3 fits4 fits undo1 undo2 undo3 undo4 undone leftOut isWhole wholeFault targetFault editedFile editRecord undoneFile editFault undoFault indexOf readOf askedOf hitIn lookupOf written noted afterEdit afterUndo after fault step run answers blanked blankFile
+unfolding be32 rd32 sized size chunkBytes chunksBytes total fileBytes chunkIn chunksIn chunksOf entryIn entriesIn entryBytes entriesBytes indexChunk entriesOf isStart placeOf refOf _then_ check headFault chunkFault walkFault secondIndex indexFault pairIn lastPlace refFault entriesFault restFault layoutFault verdict reading oneOf plainAllows adriftAllows allows picture typeIn single chunkRule chunkRules optional profileVerdict base startOf entryOf file modelOf model without find uses shared start frontPlace usageOf with-at lower raise entered inserted anyUpTo linkPlace linked added replaced removedBoth removedEntry removed held edited recBody recBytes removal recOf trailer recIn lastBody lastRec zeros wellFormed fits1 fits2 fits3 fits4 fits5 fits undo1 undo2 undo3 undo4 undo5 undone leftOut isWhole wholeFault targetFault editedFile editRecord undoneFile editFault undoFault indexOf readOf askedOf hitIn lookupOf written noted afterEdit afterUndo after fault step run answers blanked blankFile
 computed = 0
 
 -- the record of the replacement of Snd 7, whose type was t and whose data "eel", in kindOf Snd t

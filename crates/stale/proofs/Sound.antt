@@ -14,8 +14,8 @@ use Rattle.blorb.specs.Sound.{W, Sound}
 use Rattle.blorb.proofs.VerdictLaws.{modelFault}
 use Rattle.blorb.proofs.Places.{startOf-placeOf}
 use Rattle.blorb.proofs.Checks.{and-both}
-use Rattle.edits.specs.Journal.{Rec, oldChunk, oldPlace, fits1, fits4, undo1, undo2, undo3, undo4}
-use Rattle.edits.proofs.FitLaws.{replaced-sound}
+use Rattle.edits.specs.Journal.{Rec, oldChunk, oldPlace, fits1, fits4, undo1, undo2, undo3, undo4, undo5}
+use Rattle.edits.proofs.FitLaws.{replaced-sound, unlisted-sound}
 use Rattle.edits.proofs.RemoveJudged.{removed-sound}
 use Rattle.edits.proofs.InsertJudged.{entered-sound, inserted-sound}
 use Rattle.edits.proofs.InsertStarts.{place-inside}
@@ -43,3 +43,7 @@ module _ (profile : ℕ) (r : Rec) (m : Model) (s : Sound m) (ok : modelFault (r
       let p = and-both (leb (r .place) (length (m .refs))) (isStart (r .start - 12) (base (length (m .refs))) (m .chunks)) fit in
       let there = startOf-placeOf (r .start - 12) (base (length (m .refs))) (m .chunks) (p .1) .1 in
       entered-sound profile m (r .place) (oldPlace r m) (r .usage) (r .number) s ok (record { usage-fits = hu; number-fits = hn; chunk-there = there })
+
+  pub sound5 : Sound (undo5 r m)
+  unfolding undo5
+  sound5 = unlisted-sound m (r .place) s

@@ -28,8 +28,8 @@ use Rattle.table.specs.Answers.{tableOf, agree, checkOf}
 use Rattle.table.specs.TableOf.{SameEntries}
 use Rattle.table.specs.declared.Checked.the-variants as checked
 use Rattle.table.proofs.Promises.{pairs-once, same-accepted, accepted-same, stale-refused}
-use Rattle.edits.specs.Edit.{Edit, add, replace, remove, givenChunk, added, replaced, removed, removedEntry, removedBoth, edited, raise, entered, inserted}
-use Rattle.edits.specs.Journal.{Rec, lastRec, oldChunk, oldPlace, fits, undone, undo1, undo2, undo3, undo4, fits1, fits2, fits3, fits4, wellFormed}
+use Rattle.edits.specs.Edit.{Edit, add, replace, remove, link, givenChunk, added, replaced, removed, removedEntry, removedBoth, edited, raise, entered, inserted, linkPlace, linked}
+use Rattle.edits.specs.Journal.{Rec, lastRec, oldChunk, oldPlace, fits, undone, undo1, undo2, undo3, undo4, undo5, fits1, fits2, fits3, fits4, fits5, wellFormed}
 use Rattle.edits.specs.Run.{State, Call, edit, undo, ArgsOk, CallOk, accepted, editedFile, undoneFile, editFault, undoFault, fault, step}
 use Rattle.edits.specs.Run.{after, afterEdit, afterUndo}
 use Rattle.edits.specs.Starts.{moved, behind}
@@ -39,11 +39,11 @@ use Rattle.edits.proofs.UndoLaws.{length-without, length-remaining}
 use Rattle.edits.proofs.FitLaws.{edit-sound}
 use Rattle.edits.proofs.RunLaws.{Good, made, take-written, target-applies}
 use Rattle.edits.proofs.Applies.{Applies}
-use Rattle.edits.proofs.UndoJudged.{AcceptedFile, accepted-facts, fits1-facts, fits2-facts}
+use Rattle.edits.proofs.UndoJudged.{AcceptedFile, accepted-facts, fits1-facts, fits2-facts, fits5-facts}
 use Rattle.edits.proofs.UndoTold.{last-small}
 use Rattle.stale.specs.Leaves.{MovesNone, EditLeaves, UndoLeaves, fileIn, Leaves, Caught}
 use Rattle.stale.proofs.Entries.{same-count, unmoved-same, same-unmoved}
-use Rattle.stale.proofs.Sound.{sound1, sound2, sound3, sound4}
+use Rattle.stale.proofs.Sound.{sound1, sound2, sound3, sound4, sound5}
 
 -- two files have the same entries exactly if P
 pub record Exactly (P : Type 0) (f g : List ℕ) : Type 0 where
@@ -98,6 +98,10 @@ module _ (profile : ℕ) (f : List ℕ) (bytes : All Byte f) (fine : profileVerd
       go true e = omega (arith, length-without i (model f .refs) l)
       go false e = omega (arith, length-remaining (model f) i (refAt (model f) i .chunk) l)
 
+  linked-more : (k u n : ℕ) → length (linked (model f) k u n .refs) ≡ length (model f .refs) → ⊥
+  unfolding linked entered
+  linked-more k u n e = omega (arith, length-with (linkPlace k (model f .refs)) (record { usage = u; number = n; chunk = k }) (model f .refs))
+
   pub edit-exactly : (e : Edit) → ArgsOk e → Applies (model f) e → profileVerdict profile (editedFile f e) ≡ accept → Exactly (EditLeaves f e) f (editedFile f e)
   unfolding editedFile edited added
   edit-exactly (add u n t d) a p fine2 =
@@ -111,6 +115,9 @@ module _ (profile : ℕ) (f : List ℕ) (bytes : All Byte f) (fine : profileVerd
   edit-exactly (remove u n) a p fine2 =
       other-count profile f fine (edited (model f) (remove u n)) (edit-sound (model f) (remove u n) (facts .sound) a p) fine2 (removed-fewer (find u n (model f
       .refs)) p)
+  edit-exactly (link v o u n) a p fine2 =
+      other-count profile f fine (edited (model f) (link v o u n)) (edit-sound (model f) (link v o u n) (facts .sound) a p) fine2
+      (linked-more (refAt (model f) (find v o (model f .refs)) .chunk) u n)
 
   -- ---- an undo, by the record's kind
 
@@ -122,8 +129,8 @@ module _ (profile : ℕ) (f : List ℕ) (bytes : All Byte f) (fine : profileVerd
         omega arith
 
     pub undo-exactly : fits r (model f) ≡ true → profileVerdict profile (file (undone r (model f))) ≡ accept → Exactly (UndoLeaves f r) f (file (undone r (model f)))
-    unfolding fits undone undo1 undo2 undo3 undo4 inserted entered
-    undo-exactly = go (eqb (r .kind) 1) (eqb (r .kind) 2) (eqb (r .kind) 3)
+    unfolding fits undone undo1 undo2 undo3 undo4 undo5 inserted entered removedEntry
+    undo-exactly = go (eqb (r .kind) 1) (eqb (r .kind) 2) (eqb (r .kind) 3) (eqb (r .kind) 4)
       where
         m : Model
         m = model f
@@ -131,21 +138,24 @@ module _ (profile : ℕ) (f : List ℕ) (bytes : All Byte f) (fine : profileVerd
         entry : Rec → Model → Ref
         entry r m = record { usage = r .usage; number = r .number; chunk = oldPlace r m }
 
-        go : (a b c : Bool) → cond a (fits1 r m) (cond b (fits2 r m) (cond c (fits3 r m) (fits4 r m))) ≡ true
-            → profileVerdict profile (file (cond a (undo1 m) (cond b (undo2 r m) (cond c (undo3 r m) (undo4 r m))))) ≡ accept
-            → Exactly (cond a ⊥ (cond b (MovesNone f (refAt m (r .place) .chunk) (oldChunk r)) (cond c ⊥ ⊥))) f
-            (file (cond a (undo1 m) (cond b (undo2 r m) (cond c (undo3 r m) (undo4 r m)))))
-        go true b c fit fine2 = other-count profile f fine (undo1 m) (sound1 profile r m (facts .sound) (facts .judged) fit) fine2 (λ e. take-less e fit)
-        go false true c fit fine2 =
+        go : (a b c d : Bool) → cond a (fits1 r m) (cond b (fits2 r m) (cond c (fits3 r m) (cond d (fits4 r m) (fits5 r m)))) ≡ true
+            → profileVerdict profile (file (cond a (undo1 m) (cond b (undo2 r m) (cond c (undo3 r m) (cond d (undo4 r m) (undo5 r m)))))) ≡ accept
+            → Exactly (cond a ⊥ (cond b (MovesNone f (refAt m (r .place) .chunk) (oldChunk r)) (cond c ⊥ (cond d ⊥ ⊥)))) f
+            (file (cond a (undo1 m) (cond b (undo2 r m) (cond c (undo3 r m) (cond d (undo4 r m) (undo5 r m))))))
+        go true b c d fit fine2 = other-count profile f fine (undo1 m) (sound1 profile r m (facts .sound) (facts .judged) fit) fine2 (λ e. take-less e fit)
+        go false true c d fit fine2 =
             let p = fits2-facts r m fit in
             replaced-exactly profile f fine (refAt m (r .place) .chunk) (oldChunk r) (chunk-in (r .place) (p .inside)) (sound2 profile r m (facts .sound) (facts .judged)
             ht) fine2
-        go false false true fit fine2 =
+        go false false true d fit fine2 =
             other-count profile f fine (undo3 r m) (sound3 profile r m (facts .sound) (facts .judged) hu hn ht) fine2
             (λ e. omega (arith, length-with (r .place) (entry r m) (map (raise (oldPlace r m)) (m .refs)), length-map (m .refs) (raise (oldPlace r m))))
-        go false false false fit fine2 =
+        go false false false true fit fine2 =
             other-count profile f fine (undo4 r m) (sound4 profile r m (facts .sound) (facts .judged) hu hn fit) fine2
             (λ e. omega (arith, length-with (r .place) (entry r m) (m .refs)))
+        go false false false false fit fine2 =
+            other-count profile f fine (undo5 r m) (sound5 profile r m (facts .sound) (facts .judged)) fine2
+            (λ e. omega (arith, length-without (r .place) (m .refs) (fits5-facts r m fit .inside)))
 
 -- ---- a call on the lent buffers
 
@@ -161,7 +171,7 @@ accepted-is : (v : Verdict) → accepted v ≡ true → v ≡ accept
 accepted-is accept h = refl
 accepted-is (refuse k p) h = cc
 
--- a successful call under a profile: an add, a replacement, a removal or an undo, in any state of the buffers
+-- a successful call under a profile: an add, a replacement, a removal, a link or an undo, in any state of the buffers
 pub call-caught : (profile : ℕ) (s : State) (c : Call) (t : List ℕ) → All Byte (s .buffer) → All Byte (s .journal) → CallOk c → fault (rulesOf profile) s c ≡ accept
     → checkOf profile (fileIn s) (rowsOf t) (length t) ≡ checked.Accepted → Caught profile (Leaves s c) (fileIn s) (fileIn (step (rulesOf profile) s c)) t
 unfolding step after afterEdit afterUndo fault editFault undoFault undoneFile
@@ -209,6 +219,12 @@ module _ (profile : ℕ) (s : State) (t : List ℕ) (bytes : All Byte (s .buffer
       → checkOf profile (fileIn (step (rulesOf profile) s (edit (remove u n)))) (rowsOf t) (length t)
       ≡ checked.Refused 35 (agree (tableOf (fileIn s)) (tableOf (fileIn (step (rulesOf profile) s (edit (remove u n))))))
   remove-stale u n a h = call-caught profile s (edit (remove u n)) t bytes bytesj a h good .else-35 (λ x. x)
+
+  -- and every link
+  pub link-stale : (v o u n : ℕ) → ArgsOk (link v o u n) → fault (rulesOf profile) s (edit (link v o u n)) ≡ accept
+      → checkOf profile (fileIn (step (rulesOf profile) s (edit (link v o u n)))) (rowsOf t) (length t)
+      ≡ checked.Refused 35 (agree (tableOf (fileIn s)) (tableOf (fileIn (step (rulesOf profile) s (edit (link v o u n))))))
+  link-stale v o u n a h = call-caught profile s (edit (link v o u n)) t bytes bytesj a h good .else-35 (λ x. x)
 
   -- a refused call leaves it good: "A refused call changes nothing."
   pub refused-good : (c : Call) (k p : ℕ) → fault (rulesOf profile) s c ≡ refuse k p → checkOf profile (fileIn (step (rulesOf profile) s c)) (rowsOf t) (length t) ≡ checked.Accepted

@@ -1,4 +1,4 @@
--- When a successful edit or undo leaves the file's finding table good. Every add and every removal changes the index; a replacement moves "only starts
+-- When a successful edit or undo leaves the file's finding table good. Every add, removal and link changes the index; a replacement moves "only starts
 -- behind it .. by the change in size" (01, The edits), so it changes no entry where the size stays or where no entry starts behind the chunk.
 -- That a table is refused with 35 in every other case is proved in proofs/Stale.
 use mathlib.Core.Path.{_≡_}
@@ -12,7 +12,7 @@ use Rattle.reader.specs.Reading.{indexOf}
 use Rattle.rows.specs.Rows.{rowsOf}
 use Rattle.table.specs.Answers.{tableOf, agree, checkOf}
 use Rattle.table.specs.declared.Checked.the-variants as checked
-use Rattle.edits.specs.Edit.{Edit, add, replace, remove, givenChunk}
+use Rattle.edits.specs.Edit.{Edit, add, replace, remove, link, givenChunk}
 use Rattle.edits.specs.Journal.{Rec, lastRec, oldChunk, byKind}
 use Rattle.edits.specs.Run.{State, Call, edit, undo}
 
@@ -25,10 +25,11 @@ abbrev pub EditLeaves : List ℕ → Edit → Type 0
 EditLeaves f (add u n t d) = ⊥
 EditLeaves f (replace u n t d) = MovesNone f (refAt (model f) (find u n (model f .refs)) .chunk) (givenChunk t d)
 EditLeaves f (remove u n) = ⊥
+EditLeaves f (link v o u n) = ⊥
 
 -- the undo of f by a record: of a replacement (kind 2) as the replacement itself, of any other kind never
 abbrev pub UndoLeaves : List ℕ → Rec → Type 0
-UndoLeaves f r = byKind (r .kind) ⊥ (MovesNone f (refAt (model f) (r .place) .chunk) (oldChunk r)) ⊥ ⊥
+UndoLeaves f r = byKind (r .kind) ⊥ (MovesNone f (refAt (model f) (r .place) .chunk) (oldChunk r)) ⊥ ⊥ ⊥
 
 -- the file in a state's buffer
 abbrev pub fileIn : State → List ℕ

@@ -77,7 +77,7 @@ pub record Ends (l : List ℕ) (u : ℕ) (r : Record) : Type 0 where
   pub lies : lastRec (take u l) .body ≡ take (r .length) (drop (u - 4 - r .length) l)
   pub old : oldChunk (lastRec (take u l)) ≡ chunkOf (r .sort) (take (r .length) (drop (u - 4 - r .length) l))
   pub kind-low : 1 ≤ r .kind
-  pub kind-high : r .kind ≤ 4
+  pub kind-high : r .kind ≤ 5
   pub back : (b : List ℕ) (len : ℕ) → afterUndo (state b len l u) .U ≡ u - (29 + r .length)
 
 pub good-ends : (l : List ℕ) (u : ℕ) (r : Record) → u ≤ length l → lastOf (take u l) ≡ Good r → Ends l u r

@@ -2,7 +2,7 @@
 use mathlib.Core.Path.{_≡_, refl, sym, ap, subst, _∙_}
 use Prim.Native.Nat.{ℕ, _+_, _*_, _-_, _≤_, _<_}
 use mathlib.Core.List.{List}
-use mathlib.Core.Bool.{Bool, true, false, _&&_, not, and-false}
+use mathlib.Core.Bool.{Bool, true, false, _&&_, _||_, not, and-false}
 use native.Mathlib.Omega.{arith}
 use lib.ListN.{length, take, drop}
 use lib.Seq.{length-take-le}
@@ -31,16 +31,16 @@ use Rattle.undoing.specs.declared.Undoing.{Undoing}
 use Rattle.undoing.specs.declared.Undoing.the-variants.{Not}
 use Rattle.undoing.specs.LastRecord.{numbersOf, lastOf}
 use Rattle.reader.specs.Inspecting.{factsOf, inspectionOf}
-use Rattle.undoing.specs.UndoPlan.{goOf, undoingOf, undoPlan, fitting, fittingPlan, roomyBy, roomy, numbersIn, askedAt, UndoReady, ChunkInside, addedPlan, replacedPlan, removedPlan, unlistedPlan}
+use Rattle.undoing.specs.UndoPlan.{goOf, undoingOf, undoPlan, fitting, fittingPlan, roomyBy, roomy, numbersIn, askedAt, UndoReady, ChunkInside, addedPlan, replacedPlan, removedPlan, unlistedPlan, linkedPlan}
 use Rattle.undoing.proofs.LastRead.{Ends, good-ends, last-bad}
-use Rattle.undoing.proofs.UndoFits.{fits-added, fits-replaced, fits-removed, fits-unlisted, begins-there}
+use Rattle.undoing.proofs.UndoFits.{fits-added, fits-replaced, fits-removed, fits-unlisted, fits-linked, begins-there}
 
 -- where the reader is asked, by the record's kind
-pub asked-none : (r : Record) → r .kind < 3 → 0 ≡ askedAt r
-asked-none r h = rw (lt-leb 3 (r .kind) h)
+pub asked-none : (r : Record) → (eqb (r .kind) 3 || eqb (r .kind) 4) ≡ false → 0 ≡ askedAt r
+asked-none r h = rw h
 
-pub asked-start : (r : Record) → 3 ≤ r .kind → r .start - 12 ≡ askedAt r
-asked-start r h = rw (le-leb 3 (r .kind) h)
+pub asked-start : (r : Record) → (eqb (r .kind) 3 || eqb (r .kind) 4) ≡ true → r .start - 12 ≡ askedAt r
+asked-start r h = rw h
 
 -- a well-formed record, by its kind
 module _ (profile : ℕ) (b : List ℕ) (l : ℕ) (j : List ℕ) (u : ℕ) (r : Record) (t : Facts) (a : UndoReady profile b l j u r t) where
@@ -59,12 +59,12 @@ module _ (profile : ℕ) (b : List ℕ) (l : ℕ) (j : List ℕ) (u : ℕ) (r : 
   pub file-is : l ≡ length (take l b)
   file-is = sym (length-take-le l b (a .inside))
 
-  -- what the reader tells: enough for kinds 1 and 2, whose plans don't depend on the offset
+  -- what the reader tells: enough for kinds 1, 2 and 5, whose plans don't depend on the offset
   facts-are : t ≡ factsOf (model (take l b)) (lastRec (take u j) .usage) (lastRec (take u j) .number) (askedAt (numbersOf (lastRec (take u j))))
   facts-are = a .facts-are ∙ (λ i. factsOf (model (take l b)) (numbers i .usage) (numbers i .number) (askedAt (numbers i)))
 
   -- kinds 3 and 4: asked about the record's start less 12
-  start-facts : 3 ≤ r .kind → t ≡ factsOf (model (take l b)) (lastRec (take u j) .usage) (lastRec (take u j) .number) (lastRec (take u j) .start - 12)
+  start-facts : (eqb (r .kind) 3 || eqb (r .kind) 4) ≡ true → t ≡ factsOf (model (take l b)) (lastRec (take u j) .usage) (lastRec (take u j) .number) (lastRec (take u j) .start - 12)
   start-facts h =
       a .facts-are ∙ ap (λ (z : ℕ). factsOf (model (take l b)) (r .usage) (r .number) z) (sym (asked-start r h))
       ∙ (λ i. factsOf (model (take l b)) (numbers i .usage) (numbers i .number) (numbers i .start - 12))
@@ -89,16 +89,20 @@ module _ (profile : ℕ) (b : List ℕ) (l : ℕ) (j : List ℕ) (u : ℕ) (r : 
   asked-replaced x h e =
       e ∙ (λ i. replacedPlan profile (facts-are i) (file-is i) (numbers i) (body-is i)) ∙ fits-replaced profile (take l b) (take u j) file-facts (a .bytes) (kind-is 2 h)
 
-  pub asked-removed : (x : Undoing) → (r .kind ≡ 1 → ⊥) → (r .kind ≡ 4 → ⊥) → (r .kind ≡ 2 → ⊥)
+  pub asked-removed : (x : Undoing) → (r .kind ≡ 1 → ⊥) → (r .kind ≡ 4 → ⊥) → (r .kind ≡ 5 → ⊥) → (r .kind ≡ 2 → ⊥)
       → x ≡ removedPlan profile t (take l b) r (take (u - 4 - (u - 4 - r .length)) (drop (u - 4 - r .length) j)) → x ≡ fittingPlan profile (take l b) (take u j)
-  asked-removed x n1 n4 n2 e =
+  asked-removed x n1 n4 n5 n2 e =
       let h : r .kind ≡ 3 = omega (arith, ends .kind-low, ends .kind-high) in
-      e ∙ (λ i. removedPlan profile (start-facts (omega arith) i) (take l b) (numbers i) (body-is i)) ∙ fits-removed profile (take l b) (take u j) file-facts
+      e ∙ (λ i. removedPlan profile (start-facts (rw h) i) (take l b) (numbers i) (body-is i)) ∙ fits-removed profile (take l b) (take u j) file-facts
       (a .bytes) (kind-is 3 h)
 
   pub asked-unlisted : (x : Undoing) → r .kind ≡ 4 → x ≡ unlistedPlan profile t (take l b) r → x ≡ fittingPlan profile (take l b) (take u j)
   asked-unlisted x h e =
-      e ∙ (λ i. unlistedPlan profile (start-facts (omega arith) i) (take l b) (numbers i)) ∙ fits-unlisted profile (take l b) (take u j) file-facts (a .bytes) (kind-is 4 h)
+      e ∙ (λ i. unlistedPlan profile (start-facts (rw h) i) (take l b) (numbers i)) ∙ fits-unlisted profile (take l b) (take u j) file-facts (a .bytes) (kind-is 4 h)
+
+  pub asked-linked : (x : Undoing) → r .kind ≡ 5 → x ≡ linkedPlan t l r → x ≡ fittingPlan profile (take l b) (take u j)
+  asked-linked x h e =
+      e ∙ (λ i. linkedPlan (facts-are i) (file-is i) (numbers i)) ∙ fits-linked profile (take l b) (take u j) file-facts (a .bytes) (kind-is 5 h)
 
   -- the index lies in the file
   pub index-inside : (length (take l b) ≤ 16777216) × (t .count ≤ 4096) × (24 + 12 * (t .count) ≤ length (take l b))
@@ -114,7 +118,7 @@ module _ (profile : ℕ) (b : List ℕ) (l : ℕ) (j : List ℕ) (u : ℕ) (r : 
   pub asked-begins : r .kind ≡ 4 → (length (take l b) ≤ 16777216) × ChunkInside (t .begins) (take l b) (r .start - 12) × (t .count ≤ 4096)
       × (24 + 12 * (t .count) ≤ length (take l b))
   asked-begins h =
-      let k : 3 ≤ r .kind = omega arith in (
+      let k : (eqb (r .kind) 3 || eqb (r .kind) 4) ≡ true = rw h in (
         index-inside .0,
         subst (λ (z : Facts × Record). ChunkInside (z .0 .begins) (take l b) (z .1 .start - 12))
             (λ i. (sym (start-facts k) i, sym numbers i)) (begins-there profile (take l b) (take u j) file-facts (a .bytes)),

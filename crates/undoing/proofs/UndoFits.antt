@@ -20,25 +20,25 @@ use Rattle.blorb.specs.All.{All}
 use Rattle.blorb.specs.Sound.{W, Sound}
 use Rattle.blorb.proofs.Places.{size-pos, startOf-placeOf}
 use Rattle.blorb.proofs.Codec.{length-chunkBytes}
-use Rattle.edits.specs.Journal.{Rec, lastRec, fits, fits1, fits2, oldChunk, oldPlace}
+use Rattle.edits.specs.Journal.{Rec, lastRec, fits, fits1, fits2, fits5, oldChunk, oldPlace}
 use Rattle.edits.specs.Run.{accepted, undoneFile}
 use Rattle.edits.proofs.BoolLaws.{and-parts, and-where}
 use Rattle.edits.proofs.JudgedLaws.{isFront}
 use Rattle.edits.proofs.InsertJudged.{entryTests, entry-new, entry-twice}
-use Rattle.edits.proofs.UndoJudged.{AcceptedFile, fits1-facts, fits2-facts, found-at, kind-1, kind-2, kind-4}
+use Rattle.edits.proofs.UndoJudged.{AcceptedFile, fits1-facts, fits2-facts, fits5-facts, found-at, kind-1, kind-2, kind-4, kind-5}
 use Rattle.edits.proofs.FitFacts.{size-is, told3, told4}
 use Rattle.edits.specs.Order.{between}
 use Rattle.edits.proofs.OrderTold.{between-alike}
 use Rattle.blorb.proofs.Parts.{start-in}
-use Rattle.edits.proofs.UndoTold.{entryStart, accepted2, accepted4, test-1, test-2, test-3, test-4, after-1, after-2, after-3, after-4}
+use Rattle.edits.proofs.UndoTold.{entryStart, accepted2, accepted4, test-1, test-2, test-3, test-4, test-5, after-1, after-2, after-3, after-4, after-5}
 use Rattle.reader.specs.declared.Piece.{Piece}
 use Rattle.reader.specs.declared.Facts.{Facts}
 use Rattle.undoing.specs.declared.Undoing.{Undoing}
 use Rattle.undoing.specs.declared.Undoing.the-variants.{Go}
 use Rattle.undoing.specs.LastRecord.{numbersOf}
 use Rattle.reader.specs.Inspecting.{pieceOf, targetBy, targetOf, frontBy, frontOf, factsOf}
-use Rattle.undoing.specs.UndoPlan.{chunkStart, chunkSize, goOf, fitting, fittingPlan, frontIs, entryFine, ChunkInside, onPiece, fitsAdded, addedPlan, fitsReplaced, oldFine, replacedPlan, startIn, removedPlan, unlistedPlan}
-use Rattle.undoing.proofs.ChunkAt.{drop-start, type-at, length-at, body-at}
+use Rattle.undoing.specs.UndoPlan.{chunkStart, chunkSize, goOf, fitting, fittingPlan, frontIs, entryFine, ChunkInside, onPiece, fitsAdded, addedPlan, fitsReplaced, oldFine, replacedPlan, startIn, removedPlan, unlistedPlan, fitsLinked, linkedPlan}
+use Rattle.undoing.proofs.ChunkAt.{drop-start, length-at, chunk-in-place}
 
 -- what the reader's answers mean
 front-told : (m : Model) (u n : ℕ) → frontIs (frontOf m) u n ≡ isFront (m .chunks) u n
@@ -85,6 +85,9 @@ at-3 r m h = (rw h, rw h)
 
 pub at-4 : (r : Rec) (m : Model) → r .kind ≡ 4 → (chunkStart r m ≡ r .start - 12) × (chunkSize r m ≡ 0)
 at-4 r m h = (rw h, rw h)
+
+pub at-5 : (r : Rec) (m : Model) → r .kind ≡ 5 → (chunkStart r m ≡ start m (refAt m (r .place) .chunk)) × (chunkSize r m ≡ 0)
+at-5 r m h = (rw h, rw h)
 
 -- a chunk ends in the file
 pub chunk-ends : (m : Model) (k : ℕ) → Sound m → k < length (m .chunks) → length (file m) < W → start m k + size (chunkAt m k) ≤ length (file m)
@@ -174,6 +177,26 @@ module _ (profile : ℕ) (f j : List ℕ) (st : AcceptedFile profile f) (bytes :
           (s ∙ sym (size-is (chunkAt m (refAt m (r .place) .chunk))) ∙ sym (at-2 r m h .1))
           (ap (λ (z : ℕ). length f - z + sizeOf (length (r .body))) s ∙ sym (after-2 profile f j st bytes h fit))
 
+  pub fits-linked : lastRec j .kind ≡ 5 → linkedPlan told (length f) (numbersOf (lastRec j)) ≡ fittingPlan profile f j
+  unfolding targetOf
+  fits-linked h =
+      let b : Bool = ltb at (length (m .refs)) in
+      let p : Piece = pieceOf m at in
+      let t : Bool = fitsLinked p (numbersOf r) in
+      on-found b m at (λ (z : Piece). fitsLinked z (numbersOf r) && not (frontIs (frontOf m) (r .usage) (r .number)))
+      (λ (z : Piece). Go (length (m .refs)) (z .start) 0 (length f - 12) (numbersOf r))
+      ∙ same-plan (b && (t && not (frontIs (frontOf m) (r .usage) (r .number)))) (Go (length (m .refs)) (p .start) 0 (length f - 12) (numbersOf r))
+      ((λ i. b && (t && not (front-told m (r .usage) (r .number) i))) ∙ sym (and-assoc b t (not (isFront (m .chunks) (r .usage) (r .number)))) ∙ sym (test-5 profile f j st bytes h))
+      (λ ok. rest (sym (kind-5 r m h .0) ∙ the-fit ok))
+    where
+      rest : fits5 (lastRec j) (model f) ≡ true
+          → Go (length (model f .refs)) (pieceOf (model f) at .start) 0 (length f - 12) (numbersOf (lastRec j)) ≡ goOf f j
+      rest fit =
+          let q = fits5-facts r m fit in
+          let i : at ≡ r .place = found-at profile r m (st .judged) (q .inside) (q .usage-is) (q .number-is) in
+          go-is _ _ _ (ap (λ (z : ℕ). start m (refAt m z .chunk)) i ∙ sym (at-5 r m h .0)) (sym (at-5 r m h .1))
+          (omega (arith, after-5 profile f j st bytes h fit))
+
   -- the start in an entry of the index is that of its chunk
   start-read : (i : ℕ) → i < length (model f .refs) → startIn f i ≡ entryStart (model f) i
   start-read i h = ap (λ (z : List ℕ). rd32 (drop (32 + 12 * i) z)) (sym (st .whole)) ∙ start-in m i (st .sound) (omega (arith, st .short)) h
@@ -212,13 +235,7 @@ module _ (profile : ℕ) (f j : List ℕ) (st : AcceptedFile profile f) (bytes :
     begun = omega (arith, chunk-ends m k (st .sound) (starts .1) small, starts .0, size-is c, its-length, ap length (st .whole))
 
     read-there : chunkIn (drop (lastRec j .start - 12) f) ≡ c
-    unfolding chunkIn
-    read-there =
-        let x : ℕ = r .start - 12 in
-        let t : rd32 (drop x f) ≡ c .type = (λ i. rd32 (drop (sym (starts .0) i) (sym (st .whole) i))) ∙ type-at m k (st .sound) (starts .1) small in
-        let n : rd32 (drop 4 (drop x f)) ≡ length (c .body) = ap rd32 (drop-drop 4 x f) ∙ its-length in
-        let d : take (length (c .body)) (drop (x + 8) f) ≡ c .body = (λ i. take (length (c .body)) (drop (sym (starts .0) i + 8) (sym (st .whole) i))) ∙ body-at m k (st .sound) (starts .1) small in
-        (λ i. record { type = t i; body = ((λ z. take (n z) (drop-drop 8 x f z)) ∙ d) i })
+    read-there = (λ i. chunkIn (drop (sym (starts .0) i) (sym (st .whole) i))) ∙ chunk-in-place m k (st .sound) (starts .1) small
 
   pub fits-unlisted : lastRec j .kind ≡ 4 → unlistedPlan profile told f (numbersOf (lastRec j)) ≡ fittingPlan profile f j
   fits-unlisted h =

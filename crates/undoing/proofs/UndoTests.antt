@@ -21,7 +21,7 @@ use Rattle.reader.specs.declared.Target.{Target}
 use Rattle.reader.specs.declared.Target.the-variants as target
 use Rattle.undoing.specs.declared.Undoing.{Undoing}
 use Rattle.undoing.specs.declared.Undoing.the-variants.{Go, Not}
-use Rattle.undoing.specs.UndoPlan.{fitting, onPiece, frontIs, entryFine, ChunkInside, fitsAdded, addedPlan, fitsReplaced, oldFine, replacedPlan, fitsRemoved, startIn, removedFine, removedPlan, unlistedPlan, roomy}
+use Rattle.undoing.specs.UndoPlan.{fitting, onPiece, frontIs, entryFine, ChunkInside, fitsAdded, addedPlan, fitsReplaced, oldFine, replacedPlan, fitsRemoved, startIn, removedFine, removedPlan, unlistedPlan, fitsLinked, linkedPlan, roomy}
 
 -- a test that the code found to hold or not
 pub not-fitting : (a b : Bool) (x : Undoing) → a ≡ b → not a ≡ true → Not 21 0 ≡ fitting b x
@@ -54,6 +54,23 @@ module _ (t : Facts) (l : ℕ) (r : Record) (p : Piece) (a f : Bool) (found : t 
   added-fits s x h es ex =
       piece-fits (t .target) p found (a && not f) added-test added-go (λ i. ea i && not (ef i)) h (Go (t .count) (p .start) s x r)
       (λ i. Go (t .count) (p .start) (es i) ((ex ∙ ap (λ (z : ℕ). l - (12 + z)) es) i) r)
+
+-- kind 5: the same
+module _ (t : Facts) (l : ℕ) (r : Record) (p : Piece) (a f : Bool) (found : t .target ≡ target.At p)
+    (ea : a ≡ fitsLinked p r) (ef : f ≡ frontIs (t .front) (r .usage) (r .number)) where
+  abbrev linked-test : Piece → Bool
+  linked-test z = fitsLinked z r && not (frontIs (t .front) (r .usage) (r .number))
+
+  abbrev linked-go : Piece → Undoing
+  linked-go z = Go (t .count) (z .start) 0 (l - 12) r
+
+  pub linked-not : not (a && not f) ≡ true → Not 21 0 ≡ linkedPlan t l r
+  linked-not h = piece-not (t .target) p found (a && not f) linked-test linked-go (λ i. ea i && not (ef i)) h
+
+  pub linked-fits : (x : ℕ) → not (a && not f) ≡ false → x ≡ l - 12 → Go (t .count) (p .start) 0 x r ≡ linkedPlan t l r
+  linked-fits x h ex =
+      piece-fits (t .target) p found (a && not f) linked-test linked-go (λ i. ea i && not (ef i)) h (Go (t .count) (p .start) 0 x r)
+      (λ i. Go (t .count) (p .start) 0 (ex i) r)
 
 -- kind 2: no such entry
 pub replaced-none : (profile : ℕ) (t : Facts) (l : ℕ) (r : Record) (d : List ℕ) → t .target ≡ target.Nothing → Not 21 0 ≡ replacedPlan profile t l r d

@@ -31,12 +31,13 @@ use Rattle.undoing.specs.declared.Undoing.the-variants.{Go, Not}
 use Rattle.undoing.specs.LastRecord.{numbersOf, lastOf}
 use Rattle.reader.specs.Inspecting.{factsOf}
 
--- the chunk that an undo of record r is about: where it stands, or where it goes in, and the bytes that it has now
+-- the chunk that an undo of record r is about: where it stands, or where it goes in, and the bytes of it that go or are replaced
 abbrev pub chunkStart : Rec → Model → ℕ
 chunkStart r m = byKind (r .kind) (start m (refAt m (r .place) .chunk)) (start m (refAt m (r .place) .chunk)) (r .start - 12) (r .start - 12)
+    (start m (refAt m (r .place) .chunk))
 
 abbrev pub chunkSize : Rec → Model → ℕ
-chunkSize r m = byKind (r .kind) (size (chunkAt m (refAt m (r .place) .chunk))) (size (chunkAt m (refAt m (r .place) .chunk))) 0 0
+chunkSize r m = byKind (r .kind) (size (chunkAt m (refAt m (r .place) .chunk))) (size (chunkAt m (refAt m (r .place) .chunk))) 0 0 0
 
 -- what the undo of the last record of j in the file f goes on with: the count, that chunk, the length after it, and the record's numbers
 unfoldable pub goOf : List ℕ → List ℕ → Undoing
@@ -75,7 +76,7 @@ numbersIn Bad = record { kind = 0; usage = 0; number = 0; place = 0; start = 0; 
 
 -- the offset that the reader is asked about: only an undo of kinds 3 and 4 wants to know whether a chunk begins there
 abbrev pub askedAt : Record → ℕ
-askedAt r = cond (leb 3 (r .kind)) (r .start - 12) 0
+askedAt r = cond (eqb (r .kind) 3 || eqb (r .kind) 4) (r .start - 12) 0
 
 -- the well-formed last record r of the first u journal bytes, and what the reader tells of the accepted file in the first l bytes
 pub record UndoReady (profile : ℕ) (b : List ℕ) (l : ℕ) (j : List ℕ) (u : ℕ) (r : Record) (t : Facts) : Type 0 where
@@ -158,3 +159,11 @@ unlistedPlan profile t s r =
     && (leb (length s + 12) 16777216 && (ltb (t .count) 4096
     && entryFine (r .usage) (r .number) (allows profile (r .usage) (chunkIn (drop (r .start - 12) s))) (t .target)))))
     (Go (t .count) (r .start - 12) 0 (length s + 12) r)
+
+-- kind 5: the entry has the record's place, and its chunk, which another entry has too, starts where the record says (02, P8)
+abbrev pub fitsLinked : Piece → Record → Bool
+fitsLinked p r = eqb (p .place) (r .place) && (eqb (p .start) (r .start) && p .shared)
+
+abbrev pub linkedPlan : Facts → ℕ → Record → Undoing
+linkedPlan t l r =
+    onPiece (t .target) (λ p. fitting (fitsLinked p r && not (frontIs (t .front) (r .usage) (r .number))) (Go (t .count) (p .start) 0 (l - 12) r))

@@ -37,7 +37,7 @@ fn record_at(jrn: &[u8], at: usize) -> Record
     }
 }
 
-// The kind is 1 to 4, and the fields that it names zero are zero.
+// The kind is 1 to 5, and the fields that it names zero are zero.
 fn is_allowed(kind: u8, start: u32, sort: u32, length: u32) -> bool
     ensures { λ r. ⌜ r ≡ kindRule kind start sort length ⌝ }
 {
@@ -45,7 +45,7 @@ fn is_allowed(kind: u8, start: u32, sort: u32, length: u32) -> bool
     if kind == 1 {
         return (start == 0) & bare;
     }
-    if kind == 4 {
+    if (kind == 4) | (kind == 5) {
         return bare;
     }
     (kind == 2) | (kind == 3)

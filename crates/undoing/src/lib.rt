@@ -21,7 +21,7 @@ ghost use Rattle.blorb.specs.Rules.{allows};
 ghost use Rattle.blorb.specs.Verdict.{knownUsage};
 ghost use Rattle.edits.specs.Order.{between};
 ghost use Rattle.undoing.specs.LastRecord.{lastOf};
-ghost use Rattle.undoing.specs.UndoPlan.{undoPlan, fittingPlan, roomy, numbersIn, askedAt, UndoReady, frontIs, entryFine, ChunkInside, fitsAdded, addedPlan, fitsReplaced, oldFine, replacedPlan, fitsRemoved, startIn, removedPlan, unlistedPlan};
+ghost use Rattle.undoing.specs.UndoPlan.{undoPlan, fittingPlan, roomy, numbersIn, askedAt, UndoReady, frontIs, entryFine, ChunkInside, fitsAdded, addedPlan, fitsReplaced, oldFine, replacedPlan, fitsRemoved, startIn, removedPlan, unlistedPlan, fitsLinked, linkedPlan};
 
 pub mod journal;
 
@@ -242,7 +242,7 @@ fn plan_removed(s: &[u8], profile: u32, facts: Facts, r: Record, d: &[u8]) -> Un
 }
 
 // Rule 5 for the chunk that begins at `at` of the file `s`.
-fn chunk_allowed(s: &[u8], profile: u32, at: usize, usage: u32) -> bool
+pub fn chunk_allowed(s: &[u8], profile: u32, at: usize, usage: u32) -> bool
     requires { ⌜ at + (8 + rd32 (drop (at + 4) (now s))) ≤ length (now s) ⌝ }
     ensures { λ r. ⌜ r ≡ allows profile usage (chunkIn (drop at (now (s .entry)))) ⌝ }
 {
@@ -287,6 +287,40 @@ fn plan_unlisted(s: &[u8], profile: u32, facts: Facts, r: Record) -> Undoing
     }
 }
 
+fn fits_linked(p: Piece, r: Record) -> bool
+    ensures { λ x. ⌜ x ≡ fitsLinked p r ⌝ }
+{
+    (p.place == r.place as usize) & ((p.start == r.start) & p.shared)
+}
+
+// Kind 5: the entry goes; its chunk stays, for another entry has it too.
+fn plan_linked(facts: Facts, len: usize, r: Record) -> Undoing
+    ensures { λ x. ⌜ x ≡ linkedPlan facts len r ⌝ }
+{
+    let target = facts.target;
+    let Target::At(p) = target else {
+        return Undoing::Not {
+            number: 21,
+            place: 0,
+        };
+    };
+    let count = facts.count;
+    let front = facts.front;
+    if !(fits_linked(p, r) & !is_front(front, r.usage, r.number)) {
+        return Undoing::Not {
+            number: 21,
+            place: 0,
+        };
+    }
+    Undoing::Go {
+        count,
+        at: p.start as usize,
+        size: 0,
+        to: less(len, 12),
+        record: r,
+    }
+}
+
 // 21 of a well-formed last record `r`, or how its undo goes on, by its kind.
 fn plan_fitting(
     buf: &[u8],
@@ -306,6 +340,9 @@ fn plan_fitting(
     }
     if kind == 4 {
         return plan_unlisted(&buf[..len], profile, facts, r);
+    }
+    if kind == 5 {
+        return plan_linked(facts, len, r);
     }
     let end = used - 4;
     let from = end - r.length as usize;
@@ -365,14 +402,14 @@ fn last_numbers(jrn: &[u8], used: usize) -> Record
     }
 }
 
-// The offset to ask the reader about. Kinds 1 and 2 need none, and 0 spares the reader the walk to it.
+// The offset to ask the reader about. Only kinds 3 and 4 need one, and 0 spares the reader the walk to it.
 fn asked_offset(r: Record) -> usize
     ensures { λ x. ⌜ x ≡ askedAt r ⌝ }
 {
-    if r.kind < 3 {
-        return 0;
+    if (r.kind == 3) | (r.kind == 4) {
+        return less(r.start as usize, 12);
     }
-    less(r.start as usize, 12)
+    0
 }
 
 // An undo's refusal, or how it goes on.

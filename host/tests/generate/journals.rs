@@ -26,7 +26,7 @@ pub fn undo_state(rng: &mut Rng) -> State {
         _ => {
             let length = rng.between(29, 90);
             let mut records = rng.bytes(length);
-            records[0] = rng.between(0, 5) as u8;
+            records[0] = rng.between(0, 7) as u8;
             set_number(&mut records, 21, length as u32 - 29);
             set_number(&mut records, length - 4, length as u32 - 4);
             lend(rng, file, records, 40, 10)
@@ -51,7 +51,7 @@ fn edited_state(rng: &mut Rng, file: Vec<u8>) -> State {
     let (file_more, journal_more) = (room(rng, 16_000), room(rng, 16_000));
     let mut state = lend(rng, file, Vec::new(), file_more, journal_more);
     for _ in 0..rng.between(1, 4) {
-        let call = Call::Edit(edit_call(rng, &state.file[..state.length], 34, 33));
+        let call = Call::Edit(edit_call(rng, &state.file[..state.length], [27, 26, 24]));
         state = reference::call(&call, &state).1;
     }
     state.file.truncate(state.length + rng.pick(&[0, 1, 20, 200, 4000, 100_000]));
@@ -62,10 +62,11 @@ fn edited_state(rng: &mut Rng, file: Vec<u8>) -> State {
 /// A record written for this file. About half of them fit; the others miss in one way.
 fn made_record(rng: &mut Rng, file: &[u8]) -> Record {
     let file = File::open(file, rng.profile).expect("a good file");
-    let mut record = match rng.below(4) {
+    let mut record = match rng.below(5) {
         0 => record_of_add(&file),
         1 => record_of_replace(rng, &file),
-        kind => record_of_remove(rng, &file, kind as u8 + 1),
+        2 => record_of_link(rng, &file),
+        kind => record_of_remove(rng, &file, kind as u8),
     };
     if rng.chance(50) {
         miss(rng, &file, &mut record);
@@ -89,6 +90,18 @@ fn record_of_replace(rng: &mut Rng, file: &File) -> Record {
     let (tag, data) = suited(rng, &entry.usage);
     let start = file.starts()[entry.chunk] as u32;
     Record { kind: 2, usage: entry.usage, number: entry.number, place: place as u32, start, tag, data }
+}
+
+/// Mostly of an entry that shares its chunk, where there is one.
+fn record_of_link(rng: &mut Rng, file: &File) -> Record {
+    let sharing = |place: &usize| file.entries.iter().filter(|entry| entry.chunk == file.entries[*place].chunk).count() > 1;
+    let shared: Vec<usize> = (0..file.entries.len()).filter(sharing).collect();
+    let place = if !shared.is_empty() && rng.chance(90) { rng.pick(&shared) } else { rng.below(file.entries.len() + 1) };
+    let (usage, number, start) = match file.entries.get(place) {
+        Some(entry) => (entry.usage, entry.number, file.starts()[entry.chunk]),
+        None => (*b"Pict", 1, 36),
+    };
+    Record { kind: 5, usage, number, place: place as u32, start: start as u32, tag: [0; 4], data: Vec::new() }
 }
 
 fn record_of_remove(rng: &mut Rng, file: &File, kind: u8) -> Record {
@@ -131,7 +144,7 @@ fn usage_for(rng: &mut Rng, file: &File, chunk: usize) -> Tag {
 fn miss(rng: &mut Rng, file: &File, record: &mut Record) {
     let existing = if file.entries.is_empty() { None } else { Some(rng.pick(&file.entries)) };
     match rng.below(12) {
-        0 => record.kind = rng.pick(&[0, 1, 2, 3, 4, 5, 255]),
+        0 => record.kind = rng.pick(&[0, 1, 2, 3, 4, 5, 6, 7, 255]),
         1 => record.usage = if rng.chance(50) { unknown_usage(rng) } else { *rng.pick(&USAGES) },
         2 => record.number = other_value(rng, record.number),
         3 => record.place = if rng.chance(40) { file.entries.len() as u32 + 1 } else { other_value(rng, record.place) },
@@ -155,7 +168,7 @@ fn damage_record(rng: &mut Rng, state: &mut State) {
     let trailer = reference::number_at(&state.journal, used - 4) as usize;
     let start = (used - 4).saturating_sub(trailer);
     match rng.below(12) {
-        0 => state.journal[start] = rng.pick(&[0, 1, 2, 3, 4, 5, 255]),
+        0 => state.journal[start] = rng.pick(&[0, 1, 2, 3, 4, 5, 6, 7, 255]),
         field @ 1..=6 => change_number(rng, &mut state.journal, start + 4 * field - 3),
         7 => change_number(rng, &mut state.journal, used - 4),
         8 => state.journal[start + rng.below(used - start)] ^= 1 << rng.below(8),

@@ -7,7 +7,7 @@ use Rattle.blorb.specs.Bytes.{Byte}
 use Rattle.blorb.proofs.Accept.{bytes-all}
 use Rattle.blorb.specs.All.{All}
 use Rattle.edits.specs.Run.{written}
-use Rattle.editor.proofs.UndoBack.{ready, back-added, written-added, back-replaced, written-replaced, back-removed, written-removed, back-unlisted, written-unlisted, kind-3-left}
+use Rattle.editor.proofs.UndoBack.{ready, back-gone, written-gone, back-replaced, written-replaced, back-removed, written-removed, back-unlisted, written-unlisted, kind-3-left}
 use borrow.Author.Needs.{needs}
 use Rattle.editor.proofs.write_back.Statement.{statement}
 use Rattle.editor.proofs.write_back.Tie as tie
@@ -29,7 +29,7 @@ remove-bytes-requires c κs =
     let b = now (a .buf) in
     let bb : All Byte b = bytes-all b (λ i. omega (arith, c .before .before .before .before .slice-known .given i)) in
     let w = ready _ b (a .len) (now (a .jrn)) (a .used) (a .count) (a .at) (a .size) _ (a .r) bb (c .before .before .before .before .before .pre .1) in
-    back-added _ b (a .len) (now (a .jrn)) (a .used) (a .count) (a .at) (a .size) _ (a .r) bb w (c .before .if1 .taken)
+    back-gone _ b (a .len) (now (a .jrn)) (a .used) (a .count) (a .at) (a .size) _ (a .r) bb w (c .before .if1 .taken)
 
 -- src/undoing.rt:313:9
 same-length : tie.Need-same-length
@@ -42,7 +42,7 @@ returns c =
     let b = now (a .buf) in
     let bb : All Byte b = bytes-all b (λ i. omega (arith, c .before .before .before .before .before .before .before .slice-known .given i)) in
     let w = ready _ b (a .len) (now (a .jrn)) (a .used) (a .count) (a .at) (a .size) _ (a .r) bb (c .before .before .before .before .before .before .before .before .pre .1) in
-    c .before .before .remove-bytes .ensures ∙ ap (λ (z : List ℕ). written b (a .len) z) (written-added _ b (a .len) (now (a .jrn)) (a .used) (a .count) (a .at) (a .size) _ (a .r) bb w (c .before .before .before .before .if1 .taken))
+    c .before .before .remove-bytes .ensures ∙ ap (λ (z : List ℕ). written b (a .len) z) (written-gone _ b (a .len) (now (a .jrn)) (a .used) (a .count) (a .at) (a .size) _ (a .r) bb w (c .before .before .before .before .if1 .taken))
 
 -- src/undoing.rt:316:9
 insert-entry-requires : tie.Need-insert-entry-requires

@@ -7,21 +7,17 @@ use Rattle.undoing.proofs.asked_offset.Reads as reads
 use Rattle.undoing.proofs.asked_offset.Lts as lts
 use Rattle.undoing.proofs.less.Reads as less-reads
 
--- src/undoing.rt:327:9
-returns : tie.Need-returns
-returns c = asked-none (c .before .before .args .r) (c .if1 .taken)
-
--- src/undoing.rt:329:10
 cast-less : tie.Need-cast-less
 cast-less c = search needs
 
--- src/undoing.rt:329:5
 less-requires : tie.Need-less-requires
 less-requires c κs = search needs
 
--- src/undoing.rt:323:1
+returns : tie.Need-returns
+returns c = c .less .ensures ∙ asked-start (c .before .before .before .before .before .args .r) (c .before .before .if1 .taken)
+
 returns-2 : tie.Need-returns-2
-returns-2 c = c .less .ensures ∙ asked-start (c .before .before .before .before .args .r) (c .before .before .if1 .left)
+returns-2 c = asked-none (c .before .before .before .args .r) (c .if1 .left)
 
 pub asked-offset-spec : {M : Type 1} → statement M
-asked-offset-spec = tie.close (tie.spec returns cast-less less-requires returns-2)
+asked-offset-spec = tie.close (tie.spec cast-less less-requires returns returns-2)

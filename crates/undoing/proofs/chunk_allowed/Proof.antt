@@ -11,43 +11,33 @@ use Rattle.undoing.proofs.chunk_allowed.Lts as lts
 use Rattle.blorb.proofs.be32_at.Reads as be32-at-reads
 use Rattle.blorb.proofs.type_allowed.Reads as type-allowed-reads
 
--- src/undoing.rt:177:9
 be32-at-requires : tie.Need-be32-at-requires
 be32-at-requires c κs = search needs
 
--- src/undoing.rt:178:31
 add-be32-at : tie.Need-add-be32-at
 add-be32-at c = search needs
 
--- src/undoing.rt:178:13
 be32-at-requires-2 : tie.Need-be32-at-requires-2
 be32-at-requires-2 c κs = search needs
 
--- src/undoing.rt:179:16
 add-from : tie.Need-add-from
 add-from c = search needs
 
--- src/undoing.rt:180:15
 add-end : tie.Need-add-end
 add-end c = search needs
 
--- src/undoing.rt:181:45
 sub-type-allowed : tie.Need-sub-type-allowed
 sub-type-allowed c = search needs
 
--- src/undoing.rt:181:45
 part-type-allowed-start : tie.Need-part-type-allowed-start
 part-type-allowed-start c = search needs
 
--- src/undoing.rt:181:45
 part-type-allowed-end : tie.Need-part-type-allowed-end
 part-type-allowed-end c = search needs
 
--- src/undoing.rt:181:5
 type-allowed-requires : tie.Need-type-allowed-requires
 type-allowed-requires c κs = search needs
 
--- src/undoing.rt:173:1
 returns : tie.Need-returns
 returns c =
     let a = c .before .before .before .before .before .args in

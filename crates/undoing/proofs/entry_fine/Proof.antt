@@ -10,29 +10,23 @@ use Rattle.undoing.proofs.entry_fine.Lts as lts
 use Rattle.judging.proofs.judge.number_fits.Reads as number-fits-reads
 use Rattle.undoing.proofs.known_usage.Reads as known-usage-reads
 
--- src/undoing.rt:139:26
 enum-told : tie.Need-enum-told
 enum-told c = search needs
 
--- src/undoing.rt:140:28
 enum-told-2 : tie.Need-enum-told-2
 enum-told-2 c = search needs
 
--- src/undoing.rt:140:28
 known-usage-requires : tie.Need-known-usage-requires
 known-usage-requires c κs = search needs
 
--- src/undoing.rt:140:60
 number-fits-requires : tie.Need-number-fits-requires
 number-fits-requires c κs = search needs
 
--- src/undoing.rt:135:1
 returns : tie.Need-returns
 returns c =
     let a = c .before .before .args in
     ap (λ (z : Target). entryFine (a .usage) (a .number) (a .allowed) z) (sym (c .enum-told .given .1))
 
--- src/undoing.rt:135:1
 returns-2 : tie.Need-returns-2
 returns-2 c =
     let a = c .before .before .before .before .args in

@@ -8,23 +8,18 @@ use Rattle.undoing.proofs.fits_added.Reads as reads
 use Rattle.undoing.proofs.fits_added.Lts as lts
 use Rattle.undoing.proofs.chunk_size.Reads as chunk-size-reads
 
--- src/undoing.rt:66:15
 cast-end : tie.Need-cast-end
 cast-end c = search needs
 
--- src/undoing.rt:66:34
 chunk-size-requires : tie.Need-chunk-size-requires
 chunk-size-requires c κs = search needs
 
--- src/undoing.rt:66:15
 add-end : tie.Need-add-end
 add-end c = search needs
 
--- src/undoing.rt:67:46
 add-result : tie.Need-add-result
 add-result c = search needs
 
--- src/undoing.rt:63:1
 returns : tie.Need-returns
 returns c =
     let a = c .before .before .before .before .args in

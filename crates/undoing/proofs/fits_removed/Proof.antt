@@ -7,19 +7,15 @@ use Rattle.undoing.proofs.fits_removed.Reads as reads
 use Rattle.undoing.proofs.fits_removed.Lts as lts
 use Rattle.undoing.proofs.less.Reads as less-reads
 
--- src/undoing.rt:147:6
 cast-result : tie.Need-cast-result
 cast-result c = search needs
 
--- src/undoing.rt:147:63
 cast-less : tie.Need-cast-less
 cast-less c = search needs
 
--- src/undoing.rt:147:58
 less-requires : tie.Need-less-requires
 less-requires c κs = search needs
 
--- src/undoing.rt:144:1
 returns : tie.Need-returns
 returns c =
     let a = c .before .before .before .before .before .args in

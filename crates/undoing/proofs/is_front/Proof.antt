@@ -8,23 +8,18 @@ use Rattle.undoing.proofs.is_front.Reads as reads
 use Rattle.undoing.proofs.is_front.Lts as lts
 use Rattle.judging.proofs.judge.is_picture.Reads as is-picture-reads
 
--- src/undoing.rt:44:39
 enum-known-front : tie.Need-enum-known-front
 enum-known-front c = search needs
 
--- src/undoing.rt:44:46
 is-picture-requires : tie.Need-is-picture-requires
 is-picture-requires c κs = search needs
 
--- src/undoing.rt:45:27
 enum-told : tie.Need-enum-told
 enum-told c = search needs
 
--- src/undoing.rt:40:1
 returns : tie.Need-returns
 returns c = c .is-picture .ensures ∙ ap (λ (f : Front). frontIs f (c .before .before .before .before .args .usage) (c .before .before .before .before .args .number)) (sym (c .before .before .front .given .1))
 
--- src/undoing.rt:40:1
 returns-2 : tie.Need-returns-2
 returns-2 c = search needs
 

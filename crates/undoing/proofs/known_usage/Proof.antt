@@ -7,23 +7,18 @@ use Rattle.undoing.proofs.known_usage.Reads as reads
 use Rattle.undoing.proofs.known_usage.Lts as lts
 use Rattle.blorb.proofs.Usage.of_code.Reads as of-code-reads
 
--- src/undoing.rt:128:11
 of-code-requires : tie.Need-of-code-requires
 of-code-requires c κs = search needs
 
--- src/undoing.rt:129:25
 enum-told : tie.Need-enum-told
 enum-told c = search needs
 
--- src/undoing.rt:130:27
 enum-told-2 : tie.Need-enum-told-2
 enum-told-2 c = search needs
 
--- src/undoing.rt:125:1
 returns : tie.Need-returns
 returns c = sym (known-is _ _ (sym (c .before .before .of-code .ensures) ∙ c .enum-told .given .1) .0)
 
--- src/undoing.rt:125:1
 returns-2 : tie.Need-returns-2
 returns-2 c = sym (known-not _ (sym (c .before .before .of-code .ensures) ∙ c .enum-told2 .given .1))
 

@@ -7,23 +7,18 @@ use Rattle.undoing.proofs.last_numbers.Reads as reads
 use Rattle.undoing.proofs.last_numbers.Lts as lts
 use Rattle.undoing.proofs.journal.last_record.Reads as last-record-reads
 
--- src/undoing.rt:265:11
 last-record-requires : tie.Need-last-record-requires
 last-record-requires c κs = search needs
 
--- src/undoing.rt:266:20
 enum-known-r : tie.Need-enum-known-r
 enum-known-r c = search needs
 
--- src/undoing.rt:267:22
 enum-told : tie.Need-enum-told
 enum-told c = search needs
 
--- src/undoing.rt:261:1
 returns : tie.Need-returns
 returns c = ap numbersIn (sym (c .before .r .given .1) ∙ c .before .before .before .last-record .ensures)
 
--- src/undoing.rt:261:1
 returns-2 : tie.Need-returns-2
 returns-2 c = ap numbersIn (sym (c .enum-told .given .1) ∙ c .before .before .last-record .ensures)
 

@@ -9,31 +9,24 @@ use Rattle.undoing.proofs.old_fine.Lts as lts
 use Rattle.blorb.proofs.type_allowed.Reads as type-allowed-reads
 use Rattle.undoing.proofs.is_front.Reads as is-front-reads
 
--- src/undoing.rt:120:39
 cast-type-allowed : tie.Need-cast-type-allowed
 cast-type-allowed c = search needs
 
--- src/undoing.rt:120:55
 cast-type-allowed-2 : tie.Need-cast-type-allowed-2
 cast-type-allowed-2 c = search needs
 
--- src/undoing.rt:120:9
 type-allowed-requires : tie.Need-type-allowed-requires
 type-allowed-requires c κs = search needs
 
--- src/undoing.rt:121:6
 cast-result : tie.Need-cast-result
 cast-result c = search needs
 
--- src/undoing.rt:122:24
 is-front-requires : tie.Need-is-front-requires
 is-front-requires c κs = search needs
 
--- src/undoing.rt:122:62
 cast-result-2 : tie.Need-cast-result-2
 cast-result-2 c = search needs
 
--- src/undoing.rt:117:1
 returns : tie.Need-returns
 returns c =
     let a = c .before .before .before .before .before .before .before .args in

@@ -1,12 +1,13 @@
 use native.Mathlib.Omega.{arith}
 use denote.Ref.{now}
-use Rattle.undoing.proofs.UndoAsked.{file-is, record-room, index-inside, asked-added, asked-replaced, asked-removed, asked-unlisted, asked-begins}
+use Rattle.undoing.proofs.UndoAsked.{file-is, record-room, index-inside, asked-added, asked-replaced, asked-removed, asked-unlisted, asked-linked, asked-begins}
 use borrow.Author.Needs.{needs}
 use Rattle.undoing.proofs.plan_fitting.Statement.{statement}
 use Rattle.undoing.proofs.plan_fitting.Tie as tie
 use Rattle.undoing.proofs.plan_fitting.Reads as reads
 use Rattle.undoing.proofs.plan_fitting.Lts as lts
 use Rattle.undoing.proofs.plan_added.Reads as plan-added-reads
+use Rattle.undoing.proofs.plan_linked.Reads as plan-linked-reads
 use Rattle.undoing.proofs.plan_removed.Reads as plan-removed-reads
 use Rattle.undoing.proofs.plan_replaced.Reads as plan-replaced-reads
 use Rattle.undoing.proofs.plan_unlisted.Reads as plan-unlisted-reads
@@ -34,18 +35,26 @@ returns-2 c =
     let a = c .before .before .before .before .before .before .args in
     asked-unlisted (a .profile) (now (a .buf)) (a .len) (now (a .jrn)) (a .used) (a .r) (a .facts) (c .before .before .before .before .before .before .pre) _ (c .before .before .if2 .taken) (c .plan-unlisted .ensures)
 
+plan-linked-requires : tie.Need-plan-linked-requires
+plan-linked-requires c κs = search needs
+
+returns-3 : tie.Need-returns-3
+returns-3 c =
+    let a = c .before .before .before .before .before .before .args in
+    asked-linked (a .profile) (now (a .buf)) (a .len) (now (a .jrn)) (a .used) (a .r) (a .facts) (c .before .before .before .before .before .before .pre) _ (c .before .if3 .taken) (c .plan-linked .ensures)
+
 sub-end : tie.Need-sub-end
 sub-end c =
-    let a = c .before .before .before .before .args in
-    omega (arith, record-room (a .profile) (now (a .buf)) (a .len) (now (a .jrn)) (a .used) (a .r) (a .facts) (c .before .before .before .before .pre))
+    let a = c .before .before .before .before .before .args in
+    omega (arith, record-room (a .profile) (now (a .buf)) (a .len) (now (a .jrn)) (a .used) (a .r) (a .facts) (c .before .before .before .before .before .pre))
 
 cast-from : tie.Need-cast-from
 cast-from c = search needs
 
 sub-from : tie.Need-sub-from
 sub-from c =
-    let a = c .before .before .before .before .before .args in
-    omega (arith, record-room (a .profile) (now (a .buf)) (a .len) (now (a .jrn)) (a .used) (a .r) (a .facts) (c .before .before .before .before .before .pre))
+    let a = c .before .before .before .before .before .before .args in
+    omega (arith, record-room (a .profile) (now (a .buf)) (a .len) (now (a .jrn)) (a .used) (a .r) (a .facts) (c .before .before .before .before .before .before .pre))
 
 sub-d : tie.Need-sub-d
 sub-d c = search needs
@@ -59,27 +68,25 @@ part-d-end c = search needs
 plan-replaced-requires : tie.Need-plan-replaced-requires
 plan-replaced-requires c κs = search needs
 
-returns-3 : tie.Need-returns-3
-returns-3 c =
-    let a = c .before .before .before .before .before .before .before .before .args in
-    asked-replaced (a .profile) (now (a .buf)) (a .len) (now (a .jrn)) (a .used) (a .r) (a .facts) (c .before .before .before .before .before .before .before .before .pre) _ (c .before .if3 .taken) (c .plan-replaced .ensures)
-
-slice-aggregate-plan-removed : tie.Need-slice-aggregate-plan-removed
-slice-aggregate-plan-removed c =
-    let a = c .before .before .before .before .before .before .before .before .args in
-    file-is (a .profile) (now (a .buf)) (a .len) (now (a .jrn)) (a .used) (a .r) (a .facts) (c .before .before .before .before .before .before .before .before .pre)
-
-plan-removed-requires : tie.Need-plan-removed-requires
-plan-removed-requires c κs =
-    let a = c .before .before .before .before .before .before .before .before .args in
-    index-inside (a .profile) (now (a .buf)) (a .len) (now (a .jrn)) (a .used) (a .r) (a .facts) (c .before .before .before .before .before .before .before .before .pre)
-
 returns-4 : tie.Need-returns-4
 returns-4 c =
     let a = c .before .before .before .before .before .before .before .before .before .args in
-    asked-removed (a .profile) (now (a .buf)) (a .len) (now (a .jrn)) (a .used) (a .r) (a .facts)
-    (c .before .before .before .before .before .before .before .before .before .pre) _ (c .before .before .before .before .before .before .if1 .left)
-    (c .before .before .before .before .before .if2 .left) (c .before .before .if3 .left) (c .plan-removed .ensures)
+    asked-replaced (a .profile) (now (a .buf)) (a .len) (now (a .jrn)) (a .used) (a .r) (a .facts) (c .before .before .before .before .before .before .before .before .before .pre) _ (c .before .if4 .taken) (c .plan-replaced .ensures)
+
+slice-aggregate-plan-removed : tie.Need-slice-aggregate-plan-removed
+slice-aggregate-plan-removed c =
+    let a = c .before .before .before .before .before .before .before .before .before .args in
+    file-is (a .profile) (now (a .buf)) (a .len) (now (a .jrn)) (a .used) (a .r) (a .facts) (c .before .before .before .before .before .before .before .before .before .pre)
+
+plan-removed-requires : tie.Need-plan-removed-requires
+plan-removed-requires c κs =
+    let a = c .before .before .before .before .before .before .before .before .before .args in
+    index-inside (a .profile) (now (a .buf)) (a .len) (now (a .jrn)) (a .used) (a .r) (a .facts) (c .before .before .before .before .before .before .before .before .before .pre)
+
+returns-5 : tie.Need-returns-5
+returns-5 c =
+    let a = c .before .before .before .before .before .before .before .before .before .before .args in
+    asked-removed (a .profile) (now (a .buf)) (a .len) (now (a .jrn)) (a .used) (a .r) (a .facts) (c .before .before .before .before .before .before .before .before .before .before .pre) _ (c .before .before .before .before .before .before .before .if1 .left) (c .before .before .before .before .before .before .if2 .left) (c .before .before .before .before .before .if3 .left) (c .before .before .if4 .left) (c .plan-removed .ensures)
 
 pub plan-fitting-spec : {M : Type 1} → statement M
 plan-fitting-spec =
@@ -90,6 +97,8 @@ plan-fitting-spec =
     slice-aggregate-plan-unlisted
     plan-unlisted-requires
     returns-2
+    plan-linked-requires
+    returns-3
     sub-end
     cast-from
     sub-from
@@ -97,7 +106,7 @@ plan-fitting-spec =
     part-d-start
     part-d-end
     plan-replaced-requires
-    returns-3
+    returns-4
     slice-aggregate-plan-removed
     plan-removed-requires
-    returns-4)
+    returns-5)

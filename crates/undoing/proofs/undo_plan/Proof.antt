@@ -25,43 +25,34 @@ returns c =
     let a = c .before .before .before .args in
     unknown-profile (a .profile) (now (a .buf)) (a .len) (now (a .jrn)) (a .used) (c .if1 .taken)
 
--- src/undoing.rt:284:9
 returns-2 : tie.Need-returns-2
 returns-2 c =
     let a = c .before .before .before .before .args in
     short-buffer (a .profile) (now (a .buf)) (a .len) (now (a .jrn)) (a .used) (c .before .if1 .left) (c .if2 .taken)
 
--- src/undoing.rt:287:9
 returns-3 : tie.Need-returns-3
 returns-3 c =
     let a = c .before .before .before .before .before .args in
     short-journal (a .profile) (now (a .buf)) (a .len) (now (a .jrn)) (a .used) (c .before .before .if1 .left) (c .if3 .taken)
 
--- src/undoing.rt:289:9
 last-numbers-requires : tie.Need-last-numbers-requires
 last-numbers-requires c κs = search needs
 
--- src/undoing.rt:290:30
 slice-aggregate-inspect : tie.Need-slice-aggregate-inspect
 slice-aggregate-inspect c = sym (length-take-le _ _ (c .before .before .before .if2 .left))
 
--- src/undoing.rt:290:62
 asked-offset-requires : tie.Need-asked-offset-requires
 asked-offset-requires c κs = search needs
 
--- src/undoing.rt:290:11
 inspect-requires : tie.Need-inspect-requires
 inspect-requires c κs = search needs
 
--- src/undoing.rt:291:31
 enum-known-number : tie.Need-enum-known-number
 enum-known-number c = search needs
 
--- src/undoing.rt:292:27
 enum-known-facts : tie.Need-enum-known-facts
 enum-known-facts c = search needs
 
--- src/undoing.rt:294:17
 returns-4 : tie.Need-returns-4
 returns-4 c =
     let a = c .before .before .before .before .before .before .before .before .before .before .before .before .before .args in
@@ -69,7 +60,6 @@ returns-4 c =
     nothing-used (a .profile) (now (a .buf)) (a .len) (now (a .jrn)) (a .used) (c .before .before .before .before .before .before .before .before .before .before .if1 .left) (c .before .before .before .before .before .before .before .before .before .if2 .left) (c .before .before .before .before .before .before .before .before .if3 .left) (r .usage) (r .number) (c .before .before .before .before .before .asked-offset .result)
     (c .before .before .facts .given .0 .0) (sym (c .before .before .before .before .inspect .ensures) ∙ c .before .before .facts .given .1) (c .if4 .taken)
 
--- src/undoing.rt:297:17
 returns-5 : tie.Need-returns-5
 returns-5 c =
     let a = c .before .before .before .before .before .before .before .before .before .before .before .before .before .before .before .args in
@@ -77,7 +67,6 @@ returns-5 c =
     unformed (a .profile) (now (a .buf)) (a .len) (now (a .jrn)) (a .used) (c .before .before .before .before .before .before .before .before .before .before .before .before .if1 .left) (c .before .before .before .before .before .before .before .before .before .before .before .if2 .left) (c .before .before .before .before .before .before .before .before .before .before .if3 .left) (r .usage) (r .number) (c .before .before .before .before .before .before .before .asked-offset .result)
     (c .before .before .before .before .facts .given .0 .0) (sym (c .before .before .before .before .before .before .inspect .ensures) ∙ c .before .before .before .before .facts .given .1) (c .before .before .if4 .left) r (c .before .before .before .before .before .before .before .before .before .last-numbers .ensures) (c .if5 .taken)
 
--- src/undoing.rt:299:23
 plan-fitting-requires : tie.Need-plan-fitting-requires
 plan-fitting-requires c κs =
     let a = c .before .before .before .before .before .before .before .before .before .before .before .before .before .before .before .args in
@@ -88,11 +77,9 @@ plan-fitting-requires c κs =
     (c .before .before .before .before .facts .given .0 .0) (sym (c .before .before .before .before .before .before .inspect .ensures) ∙ c .before .before .before .before .facts .given .1) (c .before .before .if4 .left) r (c .before .before .before .before .before .before .before .before .before .last-numbers .ensures) (c .if5 .left)
     bb bj refl refl (c .before .before .before .before .before .before .before .asked-offset .ensures)
 
--- src/undoing.rt:299:13
 with-room-requires : tie.Need-with-room-requires
 with-room-requires c κs = search needs
 
--- src/undoing.rt:280:1
 returns-6 : tie.Need-returns-6
 returns-6 c =
     let a = c .before .before .before .before .before .before .before .before .before .before .before .before .args in
@@ -100,7 +87,6 @@ returns-6 c =
     unread (a .profile) (now (a .buf)) (a .len) (now (a .jrn)) (a .used) (c .before .before .before .before .before .before .before .before .before .if1 .left) (c .before .before .before .before .before .before .before .before .if2 .left) (c .before .before .before .before .before .before .before .if3 .left) (r .usage) (r .number) (c .before .before .before .before .asked-offset .result)
     (c .before .number .given .0 .0) (c .before .number .given .0 .1 .0) (sym (c .before .before .before .inspect .ensures) ∙ c .before .number .given .1)
 
--- src/undoing.rt:280:1
 returns-7 : tie.Need-returns-7
 returns-7 c =
     let a = c .before .before .before .before .before .before .before .before .before .before .before .before .before .before .before .before .before .args in

@@ -5,23 +5,18 @@ use Rattle.undoing.proofs.with_room.Tie as tie
 use Rattle.undoing.proofs.with_room.Reads as reads
 use Rattle.undoing.proofs.with_room.Lts as lts
 
--- src/undoing.rt:244:24
 enum-known-plan : tie.Need-enum-known-plan
 enum-known-plan c = search needs
 
--- src/undoing.rt:245:23
 enum-known-plan-2 : tie.Need-enum-known-plan-2
 enum-known-plan-2 c = search needs
 
--- src/undoing.rt:247:17
 returns : tie.Need-returns
 returns c = no-room _ _ _ _ _ _ _ (c .before .before .plan2 .given .1) (c .if1 .taken)
 
--- src/undoing.rt:240:1
 returns-2 : tie.Need-returns-2
 returns-2 c = room-not _ _ _ _ (c .before .plan .given .1)
 
--- src/undoing.rt:240:1
 returns-3 : tie.Need-returns-3
 returns-3 c = room-for _ _ _ _ _ _ _ (c .before .before .plan2 .given .1) (c .if1 .left)
 

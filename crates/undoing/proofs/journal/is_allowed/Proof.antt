@@ -4,17 +4,14 @@ use Rattle.undoing.proofs.journal.is_allowed.Tie as tie
 use Rattle.undoing.proofs.journal.is_allowed.Reads as reads
 use Rattle.undoing.proofs.journal.is_allowed.Lts as lts
 
--- src/journal.rt:45:9
 returns : tie.Need-returns
 returns c = rw (eq-eqb _ _ (c .if1 .taken))
 
--- src/journal.rt:48:9
 returns-2 : tie.Need-returns-2
-returns-2 c = rw (ne-eqb _ _ (c .before .if1 .left), eq-eqb _ _ (c .if2 .taken))
+returns-2 c = rw (ne-eqb _ _ (c .before .if1 .left), c .if2 .taken)
 
--- src/journal.rt:40:1
 returns-3 : tie.Need-returns-3
-returns-3 c = rw (ne-eqb _ _ (c .before .if1 .left), ne-eqb _ _ (c .if2 .left))
+returns-3 c = rw (ne-eqb _ _ (c .before .if1 .left), c .if2 .left)
 
 pub is-allowed-spec : {M : Type 1} → statement M
 is-allowed-spec = tie.close (tie.spec returns returns-2 returns-3)

@@ -11,52 +11,40 @@ use Rattle.blorb.proofs.be32_at.Reads as be32-at-reads
 use Rattle.undoing.proofs.journal.is_allowed.Reads as is-allowed-reads
 use Rattle.undoing.proofs.journal.record_at.Reads as record-at-reads
 
--- src/journal.rt:59:9
 returns : tie.Need-returns
 returns c = is-bad _ (short-part _ _ (c .before .before .pre) (c .if1 .taken))
 
--- src/journal.rt:61:15
 sub-end : tie.Need-sub-end
 sub-end c = search needs
 
--- src/journal.rt:62:13
 be32-at-requires : tie.Need-be32-at-requires
 be32-at-requires c κs = search needs
 
--- src/journal.rt:64:9
 returns-2 : tie.Need-returns-2
 returns-2 c = is-bad _ (low-trailer _ _ (c .before .before .before .before .pre) (c .before .before .if1 .left) (rw (← c .before .be32-at .ensures .0) (c .if2 .taken)))
 
--- src/journal.rt:67:9
 returns-3 : tie.Need-returns-3
 returns-3 c = is-bad _ (high-trailer _ _ (c .before .before .before .before .before .pre) (c .before .before .before .if1 .left) (rw (← c .before .before .be32-at .ensures .0) (c .if3 .taken)))
 
--- src/journal.rt:69:9
 record-at-requires : tie.Need-record-at-requires
 record-at-requires c κs = search needs
 
--- src/journal.rt:71:13
 cast-if4 : tie.Need-cast-if4
 cast-if4 c = search needs
 
--- src/journal.rt:71:8
 add-if4 : tie.Need-add-if4
 add-if4 c = search needs
 
--- src/journal.rt:72:9
 returns-4 : tie.Need-returns-4
 returns-4 c = other-length _ _ _ _ (c .before .before .before .before .before .before .before .pre) (c .before .before .before .before .be32-at .ensures .0) (c .before .before .before .if2 .left) (c .before .before .if3 .left) (c .before .record-at .ensures) (c .if4 .taken)
 
--- src/journal.rt:74:9
 is-allowed-requires : tie.Need-is-allowed-requires
 is-allowed-requires c κs = search needs
 
--- src/journal.rt:75:9
 returns-5 : tie.Need-returns-5
 returns-5 c = not-allowed _ _ _ _ (c .before .before .before .before .before .before .before .before .before .pre) (c .before .before .before .before .before .before .be32-at .ensures .0) (c .before .before .before .before .before .if2 .left) (c .before .before .before .before .if3 .left) (c .before .before .before .record-at .ensures) (c .before .before .if4 .left)
     (sym (c .before .is-allowed .ensures) ∙ not-true _ (c .if5 .taken))
 
--- src/journal.rt:54:1
 returns-6 : tie.Need-returns-6
 returns-6 c = is-good _ _ _ _ (c .before .before .before .before .before .before .before .before .before .pre) (c .before .before .before .before .before .before .be32-at .ensures .0) (c .before .before .before .before .before .if2 .left) (c .before .before .before .before .if3 .left) (c .before .before .before .record-at .ensures) (c .before .before .if4 .left)
     (sym (c .before .is-allowed .ensures) ∙ not-false _ (c .if5 .left))

@@ -8,83 +8,63 @@ use Rattle.undoing.proofs.journal.record_at.Reads as reads
 use Rattle.undoing.proofs.journal.record_at.Lts as lts
 use Rattle.blorb.proofs.be32_at.Reads as be32-at-reads
 
--- src/journal.rt:29:15
 shared-slice-read-t4 : tie.Need-shared-slice-read-t4
 shared-slice-read-t4 c = search needs
 
--- src/journal.rt:30:36
 add-be32-at : tie.Need-add-be32-at
 add-be32-at c = search needs
 
--- src/journal.rt:30:16
 be32-at-requires : tie.Need-be32-at-requires
 be32-at-requires c κs = search needs
 
--- src/journal.rt:30:16
 cast-t7 : tie.Need-cast-t7
 cast-t7 c = search needs
 
--- src/journal.rt:31:37
 add-be32-at-2 : tie.Need-add-be32-at-2
 add-be32-at-2 c = search needs
 
--- src/journal.rt:31:17
 be32-at-requires-2 : tie.Need-be32-at-requires-2
 be32-at-requires-2 c κs = search needs
 
--- src/journal.rt:31:17
 cast-t10 : tie.Need-cast-t10
 cast-t10 c = search needs
 
--- src/journal.rt:32:36
 add-be32-at-3 : tie.Need-add-be32-at-3
 add-be32-at-3 c = search needs
 
--- src/journal.rt:32:16
 be32-at-requires-3 : tie.Need-be32-at-requires-3
 be32-at-requires-3 c κs = search needs
 
--- src/journal.rt:32:16
 cast-t13 : tie.Need-cast-t13
 cast-t13 c = search needs
 
--- src/journal.rt:33:36
 add-be32-at-4 : tie.Need-add-be32-at-4
 add-be32-at-4 c = search needs
 
--- src/journal.rt:33:16
 be32-at-requires-4 : tie.Need-be32-at-requires-4
 be32-at-requires-4 c κs = search needs
 
--- src/journal.rt:33:16
 cast-t16 : tie.Need-cast-t16
 cast-t16 c = search needs
 
--- src/journal.rt:34:35
 add-be32-at-5 : tie.Need-add-be32-at-5
 add-be32-at-5 c = search needs
 
--- src/journal.rt:34:15
 be32-at-requires-5 : tie.Need-be32-at-requires-5
 be32-at-requires-5 c κs = search needs
 
--- src/journal.rt:34:15
 cast-t19 : tie.Need-cast-t19
 cast-t19 c = search needs
 
--- src/journal.rt:35:37
 add-be32-at-6 : tie.Need-add-be32-at-6
 add-be32-at-6 c = search needs
 
--- src/journal.rt:35:17
 be32-at-requires-6 : tie.Need-be32-at-requires-6
 be32-at-requires-6 c κs = search needs
 
--- src/journal.rt:35:17
 cast-t22 : tie.Need-cast-t22
 cast-t22 c = search needs
 
--- src/journal.rt:24:1
 returns : tie.Need-returns
 unfolding recordAt
 returns c = λ i. record {

@@ -1,0 +1,3 @@
+pub mod IndexRead
+pub mod PlaceLaws
+pub mod LinkFault

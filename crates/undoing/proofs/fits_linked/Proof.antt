@@ -1,0 +1,15 @@
+use mathlib.Core.Path.{refl}
+use borrow.Author.Needs.{needs}
+use Rattle.undoing.proofs.fits_linked.Statement.{statement}
+use Rattle.undoing.proofs.fits_linked.Tie as tie
+use Rattle.undoing.proofs.fits_linked.Reads as reads
+use Rattle.undoing.proofs.fits_linked.Lts as lts
+
+cast-result : tie.Need-cast-result
+cast-result c = search needs
+
+returns : tie.Need-returns
+returns c = refl
+
+pub fits-linked-spec : {M : Type 1} → statement M
+fits-linked-spec = tie.close (tie.spec cast-result returns)
