@@ -9,6 +9,7 @@ mod large;
 mod reference;
 mod samples;
 mod tables;
+mod two_editors;
 
 use archive::{first_difference, Buffers, Lent};
 use generate::{Rng, PART};
@@ -585,12 +586,15 @@ pub fn check_run(
     let mut state = start;
     let mut ledger = Ledger::new(&state.file[..state.length], state.profile, state.file.len(), state.journal.len());
     let row = if state.profile == ADRIFT { "ledger ADRIFT" } else { "ledger" };
+    let mut lengths = two_editors::Lengths::new(&state);
     let mut buffers = Buffers::new(&state, rng.below(16));
     for step in 0..calls {
+        two_editors::check(tally, rng, &state);
         let call = next(rng, &state, step);
         let (answer, after) = check_call_on(tally, &mut buffers, &call, &state);
         tally.count(row, answer.refusal);
-        if let Some(complaint) = against_ledger(&mut ledger, &call, answer, &after) {
+        let complaint = against_ledger(&mut ledger, &call, answer, &after);
+        if let Some(complaint) = complaint.or_else(|| lengths.check(tally, &call, &state, answer)) {
             tally.fail(&describe(&call, &state), &format!("call {step} of the run: {complaint}"));
         }
         state = after;
@@ -693,6 +697,9 @@ fn rows() -> Vec<(&'static str, Vec<u64>)> {
         ("undone", vec![1, 2, 3, 4, 5]),
         // 116 of a link: 1 where the later of the two is the old entry.
         ("link 116", vec![0, 1]),
+        ("length after", vec![0, 1, 2, 3, 4, 5]),
+        ("either order", vec![1, 2, 3, 4, 5]),
+        ("later wins", vec![2]),
     ];
     calls.into_iter().flatten().chain(others).collect()
 }
@@ -723,7 +730,8 @@ fn print_table(tally: &Tally, complete: bool) -> bool {
     println!("how often each number was seen (built: refusals by construction, pairs: k with the next in order in one file,");
     println!("ledger: answers in runs, undone: kinds of records; 52 and 30: what 52 and 30 came before; as plain: of what was good under");
     println!("ADRIFT; lookup FORM: whole chunks of even and odd length; wrong head: answers to data of type 'FORM' with a wrong head;");
-    println!("link 116: 0 where the new entry is the later one, 1 where the old one is):");
+    println!("link 116: 0 where the new entry is the later one, 1 where the old one is; length after: sums of a run's changes behind an edit of");
+    println!("this kind, 0 behind an undo; either order, later wins: a replacement and an edit of this kind, all four calls carried out):");
     let mut good = true;
     for (row, numbers) in rows() {
         let seen: BTreeMap<u64, u64> =

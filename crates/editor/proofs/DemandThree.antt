@@ -42,18 +42,18 @@ elements (x ∷ xs) (u ∷ us) h = (h .0 .1, elements xs us (h .1))
 four : (xs : List ℕ) (vs : List Val) → Is (Array (UInt w8) 4) xs vs → rd32 xs < 4294967296
 four xs vs h = rd32-small xs (elements xs (h .0) (h .1 .1))
 
-bounded : (x : Act) → CallOk (turnOf x .call)
+pub bounded : (x : Act) → CallOk (turnOf x .call)
 bounded (by-add x) = let (b, (l, (j, (u, (p, (usage, (number, (kind, rest)))))))) = x .typed in (four _ _ usage, number .1, four _ _ kind)
 bounded (by-replace x) = let (b, (l, (j, (u, (p, (usage, (number, (kind, rest)))))))) = x .typed in (four _ _ usage, number .1, four _ _ kind)
 bounded (by-remove x) = let (b, (l, (j, (u, (p, (usage, (number, rest))))))) = x .typed in (four _ _ usage, number .1)
 bounded (by-link x) = let (b, (l, (j, (u, (p, (usage, (number, (new, (chosen, rest))))))))) = x .typed in (four _ _ usage, number .1, four _ _ new, chosen .1)
 bounded (by-undo x) = tt
 
-all-bounded : (xs : List Act) → All CallOk (map runs.callOf (map turnOf xs))
+pub all-bounded : (xs : List Act) → All CallOk (map runs.callOf (map turnOf xs))
 all-bounded [] = tt
 all-bounded (x ∷ xs) = (bounded x, all-bounded xs)
 
-ran : (profile : ℕ) (s : State) (xs : List Act) → Follows profile s xs → Ran profile s (map turnOf xs)
+pub ran : (profile : ℕ) (s : State) (xs : List Act) → Follows profile s xs → Ran profile s (map turnOf xs)
 ran profile s [] h = tt
 ran profile s (x ∷ xs) h = (
   subst (λ (z : State). Kept profile z (turnOf x)) (h .0) (subst (λ (p : ℕ). Kept p (stateOf x) (turnOf x)) (h .1) (called x)),

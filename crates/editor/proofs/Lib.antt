@@ -9,6 +9,7 @@ pub mod ReadsBack
 pub mod Runs
 pub mod Acts
 pub mod DemandThree
+pub mod TwoEditors
 pub mod UnknownProfile
 pub mod Instance
 pub mod UndoBack

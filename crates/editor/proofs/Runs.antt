@@ -11,11 +11,11 @@ use Rattle.edits.proofs.Demand3.{demand3}
 use Rattle.editor.specs.Called.{Called}
 use Rattle.editor.specs.Runs.{Turn, callOf, answerOf, stateAfter, Ran, endOf, AsLedger}
 
-stateAfter-is : (profile : ℕ) (s : State) (t : Turn) → Called profile s (t .call) (t .answer) (t .buffer) (t .journal)
+pub stateAfter-is : (profile : ℕ) (s : State) (t : Turn) → Called profile s (t .call) (t .answer) (t .buffer) (t .journal)
     → stateAfter t ≡ step (rulesOf profile) s (t .call)
 stateAfter-is profile s t c = λ i. record { buffer = c .file i; L = c .len i; journal = c .journal i; U = c .used i }
 
-ran-end : (profile : ℕ) (s : State) (ts : List Turn) → Ran profile s ts → endOf s ts ≡ run (rulesOf profile) s (map callOf ts)
+pub ran-end : (profile : ℕ) (s : State) (ts : List Turn) → Ran profile s ts → endOf s ts ≡ run (rulesOf profile) s (map callOf ts)
 unfolding run
 ran-end profile s [] h = refl
 ran-end profile s (t ∷ ts) h =

@@ -27,16 +27,16 @@ used-is f₀ (e ∷ es) = simp length-append (cong (λ (n : ℕ). n + length (ed
 
 module _ (R : Rules) (f₀ : List ℕ) (N J : ℕ) (known : R .known ≡ true) where
   -- every edit of the list was made on the file before it
-  abbrev Valid : List Edit → Type 0
+  abbrev pub Valid : List Edit → Type 0
   Valid [] = Good R f₀ × (length f₀ ≤ N)
   Valid (e ∷ es) = Valid es × ArgsOk e × (editFault R N J (ledgerFile f₀ es) (length (ledgerFile f₀ es)) (ledgerUsed f₀ es) e ≡ accept)
 
-  record Holds (es : List Edit) : Type 0 where
-    good : Good R (ledgerFile f₀ es)
-    room : length (ledgerFile f₀ es) ≤ N
-    used : ledgerUsed f₀ es ≤ J
+  pub record Holds (es : List Edit) : Type 0 where
+    pub good : Good R (ledgerFile f₀ es)
+    pub room : length (ledgerFile f₀ es) ≤ N
+    pub used : ledgerUsed f₀ es ≤ J
 
-  holds : (es : List Edit) → Valid es → Holds es
+  pub holds : (es : List Edit) → Valid es → Holds es
   unfolding ledgerFile ledgerUsed
   holds [] v = record { good = v .0; room = v .1; used = omega arith }
   holds (e ∷ es) v =
@@ -148,7 +148,7 @@ module _ (R : Rules) (f₀ : List ℕ) (N J : ℕ) (known : R .known ≡ true) w
       (λ i. record { result = fault-is s es c (b .valid) (b .match) i; L = n .match .L-is i; U = n .match .U-is i } ∷ r .0 i, r .1)
 
 module _ (R : Rules) (s : State) (cs : List Call) (b : Begins R s) (args : All CallOk cs) where
-  first : Both R (take (s .L) (s .buffer)) (length (s .buffer)) (length (s .journal)) (b .known) s []
+  pub first : Both R (take (s .L) (s .buffer)) (length (s .buffer)) (length (s .journal)) (b .known) s []
   unfolding ledgerFile ledgerUsed ledgerRecords
   first =
       let f : List ℕ = take (s .L) (s .buffer) in

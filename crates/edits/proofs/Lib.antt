@@ -35,3 +35,5 @@ pub mod AddInserts
 pub mod BlankLaws
 pub mod TooLong
 pub mod WholeForms
+pub mod Commute
+pub mod TwoEditors

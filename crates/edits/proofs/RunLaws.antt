@@ -52,7 +52,7 @@ target-applies m (replace u n t d) h =
 target-applies m (remove u n) h = ltb-true _ _ (check-accept _ _ _ h)
 target-applies m (link v o u n) h = ltb-true _ _ (check-accept _ _ _ h)
 
-hundred-accept : (v : Verdict) → hundred v ≡ accept → v ≡ accept
+pub hundred-accept : (v : Verdict) → hundred v ≡ accept → v ≡ accept
 hundred-accept accept h = refl
 hundred-accept (refuse k p) h = cc
 

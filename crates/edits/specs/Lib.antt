@@ -5,5 +5,6 @@ pub mod Journal
 pub mod KindRule
 pub mod Run
 pub mod Demand3
+pub mod TwoEditors
 pub mod Blank
 pub mod GoneSize

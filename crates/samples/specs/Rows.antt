@@ -8,6 +8,8 @@ use Rattle.blorb.specs.Rules.{rulesOf}
 use Rattle.edits.specs.Edit.{Edit}
 use Rattle.edits.specs.Blank.{blanked}
 use Rattle.edits.specs.Run.{State, Call, Answer, editFault, undoFault, editedFile, editRecord, undoneFile, answers, run}
+use Rattle.edits.specs.Demand3.{listAfter}
+use Rattle.edits.specs.TwoEditors.{fileIn, grown, fallen}
 use Rattle.reader.specs.declared.Reading.{Reading}
 use Rattle.reader.specs.declared.Asked.{Asked}
 use Rattle.reader.specs.declared.Looked.{Looked}
@@ -30,6 +32,8 @@ pub data Row : Type 0 where
   blanks : List ℕ → List ℕ → Row
   -- a state, the calls of a run, their answers, and the state after it
   runs : (profile : ℕ) → State → List Call → List Answer → State → Row
+  -- a state, the calls of a run, the edits not taken back (the last one first), what these added to the file's length and took from it, and L after it
+  measures : (profile : ℕ) → State → List Call → List Edit → (more less : ℕ) → ℕ → Row
 
 abbrev pub RowHolds : Row → Type 0
 RowHolds (reads p f r) = readOf p f ≡ r
@@ -40,3 +44,5 @@ RowHolds (refuses p f e k q) = editFault (rulesOf p) 100 100 f (length f) 0 e �
 RowHolds (undoes p f j g) = (undoFault (rulesOf p) 100 100 f (length f) (length j) j ≡ accept) × (undoneFile f j ≡ g)
 RowHolds (blanks b c) = blanked b ≡ c
 RowHolds (runs p s cs ans t) = (answers (rulesOf p) s cs ≡ ans) × (run (rulesOf p) s cs ≡ t)
+RowHolds (measures p s cs es more less l) =
+    (listAfter (rulesOf p) s cs ≡ es) × (grown (fileIn s) es ≡ more) × (fallen (fileIn s) es ≡ less) × (run (rulesOf p) s cs .L ≡ l)
