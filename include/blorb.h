@@ -10,8 +10,9 @@
  *
  * What is promised of every call, for all bytes, lengths and numbers that can be given to it:
  *
- *   - It answers. Nothing is allocated, nothing is kept between calls, no lock is taken, and nothing is printed. 8 KB of stack are
- *     enough (this is tested, not proved).
+ *   - It answers. Nothing is allocated, nothing is kept between calls, no lock is taken, and nothing is printed.
+ *   - It does not recurse. A call that stands under "Editing" takes at most BLORB_STACK_EDITING bytes of stack, every other one at most
+ *     BLORB_STACK_READING (this is checked in the machine code and measured, not proved).
  *   - The answer's `refusal` is 0 where the call was carried out; else it is one of the numbers below, and `place` is where
  *     in the file the reason lies (0 where a number has no place).
  *   - A refused call has written nothing: every lent byte is as it was. The `length` and `used` that a refused edit or undo hands
@@ -72,6 +73,16 @@ enum {
     BLORB_HEADER_SIZE = 8,     /* bytes before a chunk's data */
     BLORB_RECORD_SIZE = 29,    /* bytes of a journal record besides the old data that it keeps */
     BLORB_ROW_NUMBERS = 3      /* numbers of 32 bits in a row of a finding table */
+};
+
+/*
+ * Stack: bytes below the caller's stack pointer at the call, its return address among them. Not counted are arguments that the caller
+ * puts on the stack, and what memmove and memset of the C library take by themselves. docs/ARCHITECTURE.md of the library's source has
+ * the figure of each call.
+ */
+enum {
+    BLORB_STACK_READING = 768, /* at most, for every call but those that edit; 673 as compiled */
+    BLORB_STACK_EDITING = 1024 /* at most, for editing; 721 as compiled */
 };
 
 /* Usages and types as numbers: the four bytes, the first one highest. */

@@ -41,9 +41,12 @@ pub struct Tally {
     large: BTreeMap<&'static str, [u64; LARGE.len()]>,
 }
 
+/// A file is large, and many bytes are moved or copied, where they are more than this: eight parts.
+const MANY: usize = 8 * PART;
+
 /// What is counted of each editing call, and how often a default run must show it at least. `print_large` says what it means.
 const LARGE: [(&str, u64); 6] =
-    [("done", 500), ("part", 250), ("parts", 125), ("whole", 2), ("copied", 25), ("no room", 50)];
+    [("done", 500), ("many", 250), ("twice", 125), ("whole", 2), ("copied", 25), ("no room", 50)];
 
 impl Tally {
     pub fn count(&mut self, row: &'static str, number: u64) {
@@ -277,7 +280,7 @@ fn data_size(call: &Call) -> usize {
 
 /// Counts what the call shows of LARGE.
 fn count_large(tally: &mut Tally, call: &Call, refusal: u64, state: &State, after: &State) {
-    let (large_file, done) = (state.length > PART, refusal == 0);
+    let (large_file, done) = (state.length > MANY, refusal == 0);
     let moved = match large_file && done {
         true => moved(state.profile, &state.file[..state.length], &after.file[..after.length]),
         false => 0,
@@ -285,10 +288,10 @@ fn count_large(tally: &mut Tally, call: &Call, refusal: u64, state: &State, afte
     let copied = data_size(call).max(state.used.abs_diff(after.used).saturating_sub(29));
     let shows = [
         large_file && done,
-        moved > PART,
-        moved > 2 * PART,
+        moved > MANY,
+        moved > 2 * MANY,
         moved > 0 && moved % PART == 0,
-        copied > PART && done,
+        copied > MANY && done,
         large_file && (refusal == 24 || refusal == 25),
     ];
     let counts = tally.large.entry(call.name()).or_default();
@@ -706,8 +709,8 @@ fn rows() -> Vec<(&'static str, Vec<u64>)> {
 
 /// Prints how often LARGE was seen. False where so many inputs must show it more often.
 fn print_large(tally: &Tally, count: u64) -> bool {
-    println!("calls on files of over {PART} bytes, a part (done: carried out, part and parts: over one and two moved,");
-    println!("whole: whole parts moved, copied: data of over a part, in any file, no room: refused with 24 or 25):");
+    println!("calls on files of over {MANY} bytes (done: carried out, many and twice: over so many and twice as many moved,");
+    println!("whole: whole parts of {PART} moved, copied: data of over {MANY}, in any file, no room: refused with 24 or 25):");
     let mut good = true;
     for row in ["add", "replace", "remove", "link", "undo"] {
         let seen = tally.large.get(row).copied().unwrap_or_default();

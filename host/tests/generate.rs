@@ -98,14 +98,14 @@ impl Rng {
 // ---- Contents ------------------------------------------------------------------------------------------------------
 
 /// The most bytes that the library moves or copies at once.
-pub const PART: usize = 16_384;
+pub const PART: usize = 2_048;
 
-/// Sizes about one, two and three parts, for the data alone and with its chunk's header, about 1,024, and any up to 70,000.
+/// Sizes about whole parts, up to 24 of them, for the data alone and with its chunk's header, about 1,024, and any up to 70,000.
 fn large_size(rng: &mut Rng) -> usize {
     match rng.below(10) {
         0 => rng.between(1_020, 1_028),
-        1..=3 => PART * rng.between(1, 3) - 20 + rng.below(41),
-        4..=6 => PART * rng.between(1, 3) - 10 + rng.below(5),
+        1..=3 => PART * rng.between(1, 24) - 20 + rng.below(41),
+        4..=6 => PART * rng.between(1, 24) - 10 + rng.below(5),
         _ => rng.between(3_001, 70_000),
     }
 }
@@ -739,7 +739,7 @@ pub fn room(rng: &mut Rng, usual: usize) -> usize {
     match rng.below(4) {
         0 => usual,
         1 => large_size(rng) + usual % 40,
-        _ => rng.between(PART, 8 * PART),
+        _ => rng.between(8 * PART, 64 * PART),
     }
 }
 

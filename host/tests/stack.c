@@ -1,6 +1,6 @@
 /*
- * Every call on a stack of 8 KB, with a page before it that may not be touched: the editor moves bytes by way of an array of 16 KB
- * that the compiler is to leave out.
+ * Every call on a stack of 8 KB, the smallest device's, with a page before it that may not be touched, and the C library's own memmove
+ * and memset. What each call takes by itself: stack_depth.c.
  */
 #define _DEFAULT_SOURCE
 #include <stdio.h>
@@ -36,6 +36,9 @@ static void refused(size_t length, size_t used, uint64_t refusal)
     gives(blorb_read(wrong, length, profile).refusal, refusal);
     gives(blorb_entry(wrong, length, profile, 1).refusal, refusal);
     gives(blorb_lookup(wrong, length, profile, "Data", 2).refusal, refusal);
+    gives(blorb_table_build(wrong, length, profile, table, 6).refusal, refusal);
+    gives(blorb_table_check(wrong, length, profile, table, 6).refusal, refusal);
+    gives(blorb_columns_check(wrong, length, profile, columns, 6).refusal, refusal);
     gives(blorb_add(wrong, ROOM, length, journal, ROOM, used, profile, "Data", 9, "BINA", data, 1).refusal, refusal);
     gives(blorb_replace(wrong, ROOM, length, journal, ROOM, used, profile, "Data", 2, "BINA", data, 1).refusal, refusal);
     gives(blorb_remove(wrong, ROOM, length, journal, ROOM, used, profile, "Data", 2).refusal, refusal);
@@ -46,10 +49,12 @@ static void refused(size_t length, size_t used, uint64_t refusal)
 /* Every call refuses an unknown profile before it looks at the file. */
 static void unknown(size_t length, size_t used)
 {
+    uint32_t known = profile;
+
     memcpy(wrong, file, length);
     profile = 2;
     refused(length, used, BLORB_PROFILE);
-    profile = BLORB_ADRIFT;
+    profile = known;
 }
 
 /* The file of `length` bytes cut short, its FORM length right: every call finds the broken chunk. */
@@ -72,7 +77,6 @@ static void turned(size_t length, size_t used)
 
 static void every_call(void)
 {
-    profile = BLORB_ADRIFT;
     gives(blorb_version(), BLORB_VERSION);
     gives(blorb_sentence(BLORB_DONE) == NULL, 0);
     blorb_edit_answer a = blorb_blank(file, ROOM);
@@ -125,17 +129,23 @@ static void every_call(void)
     }
 }
 
+static void both_profiles(void)
+{
+    for (profile = BLORB_PLAIN; profile <= BLORB_ADRIFT; profile++)
+        every_call();
+}
+
 int main(void)
 {
     /* Once outside: the C library then has found its functions, for which it needs a stack of its own. */
-    every_call();
+    both_profiles();
     uint8_t *pages = mmap(NULL, PAGE + STACK, PROT_READ | PROT_WRITE, MAP_PRIVATE | MAP_ANONYMOUS, -1, 0);
     if (pages == MAP_FAILED || mprotect(pages, PAGE, PROT_NONE) != 0 || getcontext(&inside) != 0)
         return 2;
     inside.uc_stack.ss_sp = pages + PAGE;
     inside.uc_stack.ss_size = STACK;
     inside.uc_link = &outside;
-    makecontext(&inside, every_call, 0);
+    makecontext(&inside, both_profiles, 0);
     if (swapcontext(&outside, &inside) != 0)
         return 2;
     printf("stack: ok, %d calls on %d bytes\n", calls / 2, (int)STACK);

@@ -17,33 +17,34 @@ fn put_bytes(buf: &mut [u8], at: usize, d: &[u8])
     }
 }
 
-// The `n` bytes at `from` go to `to`, overlapping or not: the compiler makes one call of the C library's memmove of it, and the array goes.
+// The `n` bytes at `from` go to `to`, overlapping or not: the compiler makes one call of the C library's memmove of it, and the array goes. Where it
+// stayed, 2,048 bytes would fit on the stack of the smallest device.
 fn move_part(buf: &mut [u8], to: usize, from: usize, n: usize)
-    requires { ⌜ (n ≤ 16384) × ((to + n ≤ length (now buf)) × (from + n ≤ length (now buf))) ⌝ }
+    requires { ⌜ (n ≤ 2048) × ((to + n ≤ length (now buf)) × (from + n ≤ length (now buf))) ⌝ }
     ensures { λ _. ⌜ now (buf .exit) ≡ slid (now (buf .entry)) to from n ⌝ }
 {
-    let mut t = [0u8; 16384];
+    let mut t = [0u8; 2048];
     put_bytes(&mut t, 0, &buf[from..from + n]);
     put_bytes(buf, to, &t[..n]);
 }
 
 // The bytes of `d` at `at`, by an array for the same reason.
 fn copy_part(buf: &mut [u8], at: usize, d: &[u8])
-    requires { ⌜ (length (now d) ≤ 16384) × (at + length (now d) ≤ length (now buf)) ⌝ }
+    requires { ⌜ (length (now d) ≤ 2048) × (at + length (now d) ≤ length (now buf)) ⌝ }
     ensures { λ _. ⌜ now (buf .exit) ≡ laid (now (buf .entry)) at (now (d .entry)) (length (now (d .entry))) ⌝ }
 {
     let n = d.len();
-    let mut t = [0u8; 16384];
+    let mut t = [0u8; 2048];
     put_bytes(&mut t, 0, d);
     put_bytes(buf, at, &t[..n]);
 }
 
 // How many of `n` bytes go at once.
 fn part_of(n: usize) -> usize
-    ensures { λ r. ⌜ (r ≤ n) × ((r ≤ 16384) × ((0 < n) → (0 < r))) ⌝ }
+    ensures { λ r. ⌜ (r ≤ n) × ((r ≤ 2048) × ((0 < n) → (0 < r))) ⌝ }
 {
-    if 16384 < n {
-        return 16384;
+    if 2048 < n {
+        return 2048;
     }
     n
 }

@@ -26,7 +26,7 @@ whole : (c : lts.After-t3 (put-bytes-reads.Asked, put-bytes-reads.Learnt) reads.
     → length (take (length (now (c .before .before .before .before .before .before .before .args .d))) (c .before .before .before .put-bytes .last .0)) ≡ length (now (c .before .before .before .before .before .before .before .args .d))
 whole c =
     let d = now (c .before .before .before .before .before .before .before .args .d) in
-    ap length (laws.held (replicate 16384 0) d (c .before .before .before .put-bytes .last .0) (length d) (c .before .before .before .put-bytes .ensures) refl)
+    ap length (laws.held (replicate 2048 0) d (c .before .before .before .put-bytes .last .0) (length d) (c .before .before .before .put-bytes .ensures) refl)
 
 -- src/shift.rt:38:24
 slice-aggregate-put-bytes-2 : tie.Need-slice-aggregate-put-bytes-2
@@ -45,7 +45,7 @@ returns : tie.Need-returns
 returns c =
     let a = c .before .before .before .before .before .before .before .before .before .before .args in
     let d = now (a .d) in
-    laws.by-array (now (a .buf)) (replicate 16384 0) d (c .before .before .before .before .before .before .put-bytes .last .0) (c .before .before .put-bytes2 .last .0) (a .at) (length d)
+    laws.by-array (now (a .buf)) (replicate 2048 0) d (c .before .before .before .before .before .before .put-bytes .last .0) (c .before .before .put-bytes2 .last .0) (a .at) (length d)
     (c .before .before .put-bytes2 .ensures) (c .before .before .before .before .before .before .put-bytes .ensures) refl
 
 pub copy-part-spec : {M : Type 1} → statement M

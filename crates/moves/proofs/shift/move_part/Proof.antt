@@ -45,7 +45,7 @@ whole : (c : lts.After-t3 (put-bytes-reads.Asked, put-bytes-reads.Learnt) reads.
 whole c =
     let a = c .before .before .before .before .before .before .before .before .args in
     let l = laws.part-length (now (a .buf)) (a .from) (a .from + a .n - a .from) (a .n) (omega arith) (c .before .before .before .before .before .before .before .before .pre .1 .1) in
-    ap length (laws.held (replicate 16384 0) (take (a .from + a .n - a .from) (drop (a .from) (now (a .buf)))) (c .before .before .before .put-bytes .last .0) (a .n) (c .before .before .before .put-bytes .ensures) l) ∙ l
+    ap length (laws.held (replicate 2048 0) (take (a .from + a .n - a .from) (drop (a .from) (now (a .buf)))) (c .before .before .before .put-bytes .last .0) (a .n) (c .before .before .before .put-bytes .ensures) l) ∙ l
 
 -- src/shift.rt:27:24
 slice-aggregate-put-bytes-2 : tie.Need-slice-aggregate-put-bytes-2
@@ -68,7 +68,7 @@ returns c =
     let e = a .from + a .n - a .from in
     let l = laws.part-length b (a .from) e (a .n) (omega arith) (pre .1 .1) in
     laws.laid-part b b (c .before .before .put-bytes2 .last .0) (a .to) (a .from) e (a .n)
-    (laws.by-array b (replicate 16384 0) (take e (drop (a .from) b)) (c .before .before .before .before .before .before .put-bytes .last .0) (c .before .before .put-bytes2 .last .0) (a .to) (a .n)
+    (laws.by-array b (replicate 2048 0) (take e (drop (a .from) b)) (c .before .before .before .before .before .before .put-bytes .last .0) (c .before .before .put-bytes2 .last .0) (a .to) (a .n)
     (c .before .before .put-bytes2 .ensures) (c .before .before .before .before .before .before .put-bytes .ensures) l)
     (omega arith) (pre .1 .1)
 

@@ -1,0 +1,44 @@
+"""The calls that the stack checks go through, by group: a request that adds a call adds its row here and in stack_depth.c.
+
+For each call its function in C, None where it has none, and in the source, None where it is plain C (host/library), which the source's check does not
+read. Of every call: nothing that it runs may recurse. The reading calls may besides hold no array of over 64 bytes. `LIMITS` names the group's
+constant in include/blorb.h, which the stack of its calls may not exceed.
+"""
+import re
+
+CALLS = [
+    ("reading", "blorb_version", "capi::blorb_version"),
+    ("reading", "blorb_sentence", None),
+    ("reading", "blorb_read", "reader::read"),
+    ("reading", "blorb_entry", "reader::entry"),
+    ("reading", "blorb_lookup", "reader::lookup"),
+    ("reading", None, "reader::data"),
+    ("reading", None, "reader::inspect"),
+    ("reading", "blorb_table_check", "table::check"),
+    ("reading", "blorb_table_search", "table::search"),
+    ("reading", "blorb_columns_check", "table::columns_check"),
+    ("reading", "blorb_columns_search", "table::columns_search"),
+    ("building", "blorb_table_build", "table::build"),
+    ("building", "blorb_table_to_columns", "table::to_columns"),
+    ("building", "blorb_table_to_rows", "table::to_rows"),
+    ("editing", "blorb_blank", "editor::blank"),
+    ("editing", "blorb_add", "editor::add"),
+    ("editing", "blorb_replace", "editor::replace"),
+    ("editing", "blorb_remove", "editor::remove"),
+    ("editing", "blorb_link", "editor::link"),
+    ("editing", "blorb_undo", "editor::undo"),
+]
+LIMITS = {"reading": "BLORB_STACK_READING", "building": "BLORB_STACK_READING", "editing": "BLORB_STACK_EDITING"}
+MOST_ARRAY = 64           # bytes of an array that a reading call may hold
+MOST_IN_SOURCE = 4096     # bytes of arrays that an editing call may hold at once, if the compiler left all of them in
+
+
+def limits_of(header):
+    """The constants of the header's text, by group."""
+    found = {name: int(value) for name, value in re.findall(r"\b(BLORB_STACK_\w+) = (\d+)", header)}
+    return {group: found[name] for group, name in LIMITS.items()}
+
+
+def groups_of_c():
+    """The group of each C function."""
+    return {c: group for group, c, _ in CALLS if c is not None}
