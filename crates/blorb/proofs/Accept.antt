@@ -11,7 +11,28 @@ use lib.Dec.{eqb}
 use borrow.Author.Tests.{eqb-true, leb-true}
 use Rattle.blorb.specs.Bytes.{be32, rd32, Byte}
 use Rattle.blorb.proofs.ByteLaws.{be32-rd32}
-use Rattle.blorb.specs.Format.{Ref, refOf, Chunk, Entry, size, sized, total, chunkBytes, chunksBytes, fileBytes, chunkIn, chunksIn, chunksOf, entryIn, entriesIn, entryBytes, entriesBytes, indexChunk, entriesOf, isStart}
+use Rattle.blorb.specs.Format.{
+  Ref,
+  refOf,
+  Chunk,
+  Entry,
+  size,
+  sized,
+  total,
+  chunkBytes,
+  chunksBytes,
+  fileBytes,
+  chunkIn,
+  chunksIn,
+  chunksOf,
+  entryIn,
+  entriesIn,
+  entryBytes,
+  entriesBytes,
+  indexChunk,
+  entriesOf,
+  isStart,
+}
 use Rattle.blorb.specs.Tags.{FORM, IFRS, RIdx}
 use Rattle.blorb.specs.Verdict.{Rules, accept, headFault, chunkFault, walkFault, indexFault, entriesFault, restFault, layoutFault, verdict}
 use Rattle.blorb.specs.Model.{base, entryOf, file, model, modelOf}
@@ -68,7 +89,8 @@ chunk-back at s h ok =
     let e1 : be32 (rd32 s) ≡ take 4 s = again s h (omega arith) in
     let e2 : be32 m ≡ take 4 (drop 4 s) = again (drop 4 s) (all-drop Byte 4 s h) (simp length-drop (omega arith)) in
     let e3 : take (m % 2) (drop m (drop 8 s)) ≡ replicate (m % 2) 0
-    = pad-zero (m % 2) (drop m (drop 8 s)) (omega arith) (simp length-drop (omega arith)) (rw (drop-drop m 8 s, getD-drop (8 + m) s 0 0, add-zero (8 + m)) zero-pad) in
+    = pad-zero (m % 2) (drop m (drop 8 s)) (omega arith) (simp length-drop (omega arith)) (rw (drop-drop m 8 s, getD-drop (8 + m) s 0 0, add-zero (8 + m))
+    zero-pad) in
     let e4 : 4 + (4 + (m + m % 2)) ≡ 8 + (m + m % 2) = omega arith in (
       rw (lm, e1, e2, ← e3, ← take-add m (m % 2) (drop 8 s), ← drop-drop 4 4 s, ← take-add 4 (m + m % 2) (drop 4 s), ← take-add 4 (4 + (m + m % 2)) s)
           (ap (λ (k : ℕ). take k s) e4),
@@ -144,7 +166,8 @@ entries-back zero (b ∷ s) h l = absurd (omega arith)
 entries-back (suc n) s h l =
     rw (entry-back s h (omega arith), entries-back n (drop 12 s) (all-drop Byte 12 s h) (simp length-drop (omega arith))) (take-append-drop 12 s)
 
-pub index-back : (c : Chunk) → ReadOk c → c .type ≡ RIdx → indexFault (c .body) ≡ accept → (indexChunk (entriesOf c) ≡ c) × (12 + size c ≡ base (length (entriesOf c)))
+pub index-back : (c : Chunk) → ReadOk c → c .type ≡ RIdx → indexFault (c .body) ≡ accept → (indexChunk (entriesOf c) ≡ c)
+    × (12 + size c ≡ base (length (entriesOf c)))
 unfolding indexChunk entriesOf indexFault size sized base
 index-back c ok ty fault =
     let d : List ℕ = c .body in
@@ -152,20 +175,27 @@ index-back c ok ty fault =
     let l4 : 4 ≤ length d = leb-true _ _ (q .0) in
     let l : length d ≡ 4 + 12 * rd32 d = eqb-true _ _ (q .1) in
     let e : be32 (length (entriesIn (rd32 d) (drop 4 d))) ++ entriesBytes (entriesIn (rd32 d) (drop 4 d)) ≡ d
-    = rw (length-entriesIn (rd32 d) (drop 4 d), again d (ok .body-bytes) l4, entries-back (rd32 d) (drop 4 d) (all-drop Byte 4 d (ok .body-bytes)) (simp length-drop (omega arith)))
+    = rw (
+      length-entriesIn (rd32 d) (drop 4 d),
+      again d (ok .body-bytes) l4,
+      entries-back (rd32 d) (drop 4 d) (all-drop Byte 4 d (ok .body-bytes))
+          (simp length-drop (omega arith)),
+    )
     (take-append-drop 4 d) in
     (λ i. record { type = sym ty i; body = e i }, rw (length-entriesIn (rd32 d) (drop 4 d)) (omega arith))
 
 -- the entries' starts
 module _ (R : Rules) where
-  pub starts-ok : (at : ℕ) (cs : List Chunk) (earlier : List Ref) (p : ℕ) (es : List Entry) → entriesFault R at cs earlier p es ≡ accept → All (λ e. isStart (e .start) at cs ≡ true) es
+  pub starts-ok : (at : ℕ) (cs : List Chunk) (earlier : List Ref) (p : ℕ) (es : List Entry) → entriesFault R at cs earlier p es ≡ accept
+      → All (λ e. isStart (e .start) at cs ≡ true) es
   unfolding entriesFault
   starts-ok at cs earlier p [] h = tt
   starts-ok at cs earlier p (e ∷ es) h =
       let a = then-accept _ _ (then-accept _ _ h .1) in
       (check-accept _ _ _ (a .0), starts-ok at cs (earlier ++ (refOf at cs e ∷ [])) (p + 12) es (then-accept _ _ (then-accept _ _ (a .1) .1) .1))
 
-pub entryOf-refOf : (at : ℕ) (cs : List Chunk) (es : List Entry) → All (λ e. isStart (e .start) at cs ≡ true) es → map (entryOf at cs) (map (refOf at cs) es) ≡ es
+pub entryOf-refOf : (at : ℕ) (cs : List Chunk) (es : List Entry) → All (λ e. isStart (e .start) at cs ≡ true) es
+    → map (entryOf at cs) (map (refOf at cs) es) ≡ es
 unfolding refOf entryOf
 entryOf-refOf at cs [] ok = refl
 entryOf-refOf at cs (e ∷ es) ok =
@@ -181,11 +211,15 @@ entries-read zero s h = tt
 entries-read (suc n) s h =
     (record { usage-small = rd32-small s h; number-small = rd32-small (drop 4 s) (all-drop Byte 4 s h) }, entries-read n (drop 12 s) (all-drop Byte 12 s h))
 
-refs-ok : (at : ℕ) (cs : List Chunk) (es : List Entry) → All EntryRead es → All (λ e. isStart (e .start) at cs ≡ true) es → All (RefOk (length cs)) (map (refOf at cs) es)
+refs-ok : (at : ℕ) (cs : List Chunk) (es : List Entry) → All EntryRead es → All (λ e. isStart (e .start) at cs ≡ true) es → All (RefOk (length cs))
+    (map (refOf at cs) es)
 unfolding refOf
 refs-ok at cs [] h k = tt
-refs-ok at cs (e ∷ es) h k =
-    (record { usage-fits = h .0 .usage-small; number-fits = h .0 .number-small; chunk-there = startOf-placeOf (e .start) at cs (k .0) .1 }, refs-ok at cs es (h .1) (k .1))
+refs-ok at cs (e ∷ es) h k = (
+  record { usage-fits = h .0 .usage-small; number-fits = h .0 .number-small; chunk-there = startOf-placeOf (e .start) at cs (k .0) .1 },
+  refs-ok at cs es
+      (h .1) (k .1),
+)
 
 -- the whole file
 module _ (R : Rules) where
@@ -198,9 +232,14 @@ module _ (R : Rules) where
       let d = then-accept _ _ (then-accept _ _ (a .1) .1) in
       let f = then-accept _ _ (d .1) in
       let ix = index-back c (ok .0) (eqb-true _ _ (check-accept _ _ _ (a .0))) (d .0) in
-      let st : All (λ e. isStart (e .start) (base (length (entriesOf c))) cs ≡ true) (entriesOf c) = rw (← (ix .1)) (starts-ok R (12 + size c) cs [] 24 (entriesOf c) (f .0)) in (
+      let st : All (λ e. isStart (e .start) (base (length (entriesOf c))) cs ≡ true) (entriesOf c) =
+      rw (← (ix .1)) (starts-ok R (12 + size c) cs [] 24 (entriesOf c) (f .0)) in (
         rw (length-map, entryOf-refOf (base (length (entriesOf c))) cs (entriesOf c) st) (ap (λ (x : Chunk). x ∷ cs) (ix .0)),
-        record { refs-ok = refs-ok (base (length (entriesOf c))) cs (entriesOf c) (entries-read (rd32 (c .body)) (drop 4 (c .body)) (all-drop Byte 4 (c .body) (ok .0 .body-bytes))) st; chunks-ok = all-imp ReadOk ChunkOk (λ x r. record { type-fits = r .type-small }) cs (ok .1) },
+        record {
+          refs-ok = refs-ok (base (length (entriesOf c))) cs (entriesOf c) (entries-read (rd32 (c .body)) (drop 4 (c .body))
+              (all-drop Byte 4 (c .body) (ok .0 .body-bytes))) st;
+          chunks-ok = all-imp ReadOk ChunkOk (λ x r. record { type-fits = r .type-small }) cs (ok .1);
+        },
       )
 
   pub accept-back : (f : List ℕ) → All Byte f → verdict R f ≡ accept → (file (model f) ≡ f) × Sound (model f) × (length f ≤ 16777216)
@@ -216,7 +255,8 @@ module _ (R : Rules) where
       let long : 12 ≤ length f = leb-true 12 (length f) (check-accept _ _ _ (a2 .0)) in
       let w = walk-back (length f) 12 (drop 12 f) (all-drop Byte 12 f bytes) lw (a6 .0) in
       let l = layout-back (chunksOf f) (w .1) (a6 .1) in (
-        ap fileBytes (l .0) ∙ header-back f (chunksOf f) bytes long (eqb-true _ _ (check-accept _ _ _ (a3 .0))) (eqb-true _ _ (check-accept _ _ _ (a4 .0))) (eqb-true _ _ (check-accept _ _ _ (a4 .1))) (w .0),
+        ap fileBytes (l .0) ∙ header-back f (chunksOf f) bytes long (eqb-true _ _ (check-accept _ _ _ (a3 .0))) (eqb-true _ _ (check-accept _ _ _ (a4 .0)))
+            (eqb-true _ _ (check-accept _ _ _ (a4 .1))) (w .0),
         l .1,
         leb-true _ _ (check-accept _ _ _ (a1 .0)),
       )

@@ -171,13 +171,15 @@ module _ (R : Rules) where
 
 -- 17 to 19
 module _ (rs : List Ref) (all : List Chunk) where
-  single-told : (t n : ℕ) (earlier : List Chunk) (at : ℕ) (c : Chunk) → single rs all t n earlier at c ≡ accept → (typeIn t earlier ≡ false) × (length (c .body) ≡ n)
+  single-told : (t n : ℕ) (earlier : List Chunk) (at : ℕ) (c : Chunk) → single rs all t n earlier at c ≡ accept → (typeIn t earlier ≡ false)
+      × (length (c .body) ≡ n)
   unfolding single
   single-told t n earlier at c h =
       let q = then-accept _ _ h in
       (not-true _ (check-accept _ _ _ (q .0)), eqb-true _ _ (check-accept _ _ _ (q .1)))
 
-  single-fine : (t n : ℕ) (earlier : List Chunk) (at : ℕ) (c : Chunk) → (typeIn t earlier ≡ false) → (length (c .body) ≡ n) → single rs all t n earlier at c ≡ accept
+  single-fine : (t n : ℕ) (earlier : List Chunk) (at : ℕ) (c : Chunk) → (typeIn t earlier ≡ false) → (length (c .body) ≡ n)
+      → single rs all t n earlier at c ≡ accept
   unfolding single
   single-fine t n earlier at c h l = pass _ _ _ _ (rw h) ∙ holds-last _ _ _ (eq-eqb (length (c .body)) n l)
 
@@ -198,7 +200,8 @@ module _ (rs : List Ref) (all : List Chunk) where
   chunk-fine earlier at c k = go (eqb (c .type) RelN) (eqb (c .type) Fspc) refl refl
     where
       go : (x y : Bool) → eqb (c .type) RelN ≡ x → eqb (c .type) Fspc ≡ y
-          → cond x (single rs all RelN 2 earlier at c) (cond y (single rs all Fspc 4 earlier at c then check (picture (rd32 (c .body)) all rs) 19 (at + 8)) accept) ≡ accept
+          → cond x (single rs all RelN 2 earlier at c) (cond y (single rs all Fspc 4 earlier at c then check (picture (rd32 (c .body)) all rs) 19 (at + 8))
+          accept) ≡ accept
       go true y ex ey = let q = k .release (eqb-true _ _ ex) in single-fine RelN 2 earlier at c (q .0) (q .1)
       go false true ex ey = let q = k .front (eqb-true _ _ ey) in accepts _ _ (single-fine Fspc 4 earlier at c (q .0) (q .1)) ∙ holds-last _ _ _ (q .2)
       go false false ex ey = refl
@@ -223,9 +226,14 @@ module _ (rs : List Ref) (all : List Chunk) where
 
 -- rule 7 of plain files: no refusal 17 to 19 exactly when each chunk keeps it
 pub seven-exactly : (m : Model)
-    → (optional (base (length (m .refs))) (m .refs) (m .chunks) ≡ accept → ChunksKeep m) × (ChunksKeep m → optional (base (length (m .refs))) (m .refs) (m .chunks) ≡ accept)
+    → (optional (base (length (m .refs))) (m .refs) (m .chunks) ≡ accept → ChunksKeep m) × (ChunksKeep m → optional (base (length (m .refs))) (m .refs)
+    (m .chunks) ≡ accept)
 unfolding optional
-seven-exactly m = (each-told (m .refs) (m .chunks) [] (base (length (m .refs))) (m .chunks), each-fine (m .refs) (m .chunks) [] (base (length (m .refs))) (m .chunks))
+seven-exactly m = (
+  each-told (m .refs) (m .chunks) [] (base (length (m .refs))) (m .chunks),
+  each-fine (m .refs) (m .chunks) []
+      (base (length (m .refs))) (m .chunks),
+)
 
 -- rule 7 said in another way
 seven-as : (profile : ℕ) (S T : Model → Type 0) (f : List ℕ) (m : Model) → (S m → T m) → Keeps (rulesOf profile) S f m → Keeps (rulesOf profile) T f m
@@ -243,7 +251,14 @@ seven-as profile S T f m g k =
     }
 
 -- a file of bytes is accepted exactly when it keeps 01's rules
-pub under-exactly : (profile : ℕ) (f : List ℕ) → All Byte f → (verdict (rulesOf profile) f ≡ accept → KeepsUnder profile f) × (KeepsUnder profile f → verdict (rulesOf profile) f ≡ accept)
+pub under-exactly : (profile : ℕ) (f : List ℕ) → All Byte f → (verdict (rulesOf profile) f ≡ accept → KeepsUnder profile f) × (KeepsUnder profile f
+    → verdict (rulesOf profile) f ≡ accept)
 under-exactly profile f bytes =
-    let e = exactly (rulesOf profile) f bytes in
-    (λ h. let k = e .0 h in (k .0, seven-as profile _ _ f (k .0) (seven-exactly (k .0) .0) (k .1)), λ k. e .1 (k .0, seven-as profile _ _ f (k .0) (seven-exactly (k .0) .1) (k .1)))
+    let e = exactly (rulesOf profile) f bytes in (
+      λ h. let k = e .0 h in (k .0, seven-as profile _ _ f (k .0) (seven-exactly (k .0) .0) (k .1)),
+      λ k. e .1 (
+        k .0,
+        seven-as profile _ _ f (k .0)
+            (seven-exactly (k .0) .1) (k .1),
+      ),
+    )

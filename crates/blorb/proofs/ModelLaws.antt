@@ -52,7 +52,12 @@ module _ (m : Model) (s : Sound m) (small : length (file m) < W) where
   pub entries-ok : All EntryOk (entries m)
   unfolding entryOf startOf
   entries-ok = all-map (RefOk (length (m .chunks))) EntryOk (entryOf (base (length (m .refs))) (m .chunks))
-      (λ r ok. record { usage-fits = ok .usage-fits; number-fits = ok .number-fits; start-fits = omega (arith, total-take (r .chunk) (m .chunks), length-file m) })
+      (λ r ok. record {
+        usage-fits = ok .usage-fits;
+        number-fits = ok .number-fits;
+        start-fits =
+            omega (arith, total-take (r .chunk) (m .chunks), length-file m);
+      })
       (m .refs) (s .refs-ok)
 
   pub few : length (entries m) < W
@@ -61,7 +66,8 @@ module _ (m : Model) (s : Sound m) (small : length (file m) < W) where
 
   pub chunks-of : chunksOf (file m) ≡ indexChunk (entries m) ∷ m .chunks
   unfolding file total base indexChunk
-  chunks-of = chunksOf-fileBytes (indexChunk (entries m) ∷ m .chunks) (record { type-fits = omega arith }, s .chunks-ok) (omega (arith, length-fileBytes (indexChunk (entries m) ∷ m .chunks)))
+  chunks-of = chunksOf-fileBytes (indexChunk (entries m) ∷ m .chunks) (record { type-fits = omega arith }, s .chunks-ok)
+      (omega (arith, length-fileBytes (indexChunk (entries m) ∷ m .chunks)))
 
   pub model-file : model (file m) ≡ m
   unfolding model modelOf

@@ -53,12 +53,14 @@ unfolding chunksBytes
 chunks-cons c cs = refl
 
 -- chunks around one of them
-pub chunks-around : (cs : List Chunk) (k : ℕ) → k < length cs → chunksBytes cs ≡ chunksBytes (take k cs) ++ (chunkBytes (getD cs k noChunk) ++ chunksBytes (drop (suc k) cs))
+pub chunks-around : (cs : List Chunk) (k : ℕ) → k < length cs → chunksBytes cs ≡ chunksBytes (take k cs) ++ (chunkBytes (getD cs k noChunk) ++ chunksBytes
+    (drop (suc k) cs))
 chunks-around cs k h =
     ap chunksBytes (split-at cs k noChunk h) ∙ chunks-append (take k cs) (getD cs k noChunk ∷ drop (suc k) cs)
     ∙ ap (λ (z : List ℕ). chunksBytes (take k cs) ++ z) (chunks-cons (getD cs k noChunk) (drop (suc k) cs))
 
-pub chunks-set : (cs : List Chunk) (k : ℕ) (c : Chunk) → k < length cs → chunksBytes (set cs k c) ≡ chunksBytes (take k cs) ++ (chunkBytes c ++ chunksBytes (drop (suc k) cs))
+pub chunks-set : (cs : List Chunk) (k : ℕ) (c : Chunk) → k < length cs → chunksBytes (set cs k c) ≡ chunksBytes (take k cs)
+    ++ (chunkBytes c ++ chunksBytes (drop (suc k) cs))
 unfolding chunksBytes
 chunks-set [] k c h = absurd (not-suc-le-zero h)
 chunks-set (x ∷ cs) zero c h = refl

@@ -27,7 +27,8 @@ or-assoc true b c = refl
 or-assoc false b c = refl
 
 -- usages
-known-go : (a b c d : Bool) (k : Usage) (u : ℕ) → (a ≡ true → u ≡ codeOf Pict) → (b ≡ true → u ≡ codeOf Snd) → (c ≡ true → u ≡ codeOf Data) → (d ≡ true → u ≡ codeOf Exec)
+known-go : (a b c d : Bool) (k : Usage) (u : ℕ) → (a ≡ true → u ≡ codeOf Pict) → (b ≡ true → u ≡ codeOf Snd) → (c ≡ true → u ≡ codeOf Data)
+    → (d ≡ true → u ≡ codeOf Exec)
     → pickKnown a (Is Pict) (pickKnown b (Is Snd) (pickKnown c (Is Data) (pickKnown d (Is Exec) Unknown))) ≡ Is k → (a || b || c || d ≡ true) × (u ≡ codeOf k)
 known-go true b c d k u p q r s e = (refl, let z : Pict ≡ k = cc in rw (← z) (p refl))
 known-go false true c d k u p q r s e = (refl, let z : Snd ≡ k = cc in rw (← z) (q refl))
@@ -37,9 +38,11 @@ known-go false false false false k u p q r s e = let z : _≡_ {A = ℕ} 0 1 = c
 
 pub known-is : (u : ℕ) (k : Usage) → usageOf u ≡ Is k → (knownUsage u ≡ true) × (u ≡ codeOf k)
 unfolding usageOf
-known-is u k e = known-go (eqb u (codeOf Pict)) (eqb u (codeOf Snd)) (eqb u (codeOf Data)) (eqb u (codeOf Exec)) k u (eqb-true _ _) (eqb-true _ _) (eqb-true _ _) (eqb-true _ _) e
+known-is u k e = known-go (eqb u (codeOf Pict)) (eqb u (codeOf Snd)) (eqb u (codeOf Data)) (eqb u (codeOf Exec)) k u (eqb-true _ _) (eqb-true _ _)
+    (eqb-true _ _) (eqb-true _ _) e
 
-unknown-go : (a b c d : Bool) → pickKnown a (Is Pict) (pickKnown b (Is Snd) (pickKnown c (Is Data) (pickKnown d (Is Exec) Unknown))) ≡ Unknown → a || b || c || d ≡ false
+unknown-go : (a b c d : Bool) → pickKnown a (Is Pict) (pickKnown b (Is Snd) (pickKnown c (Is Data) (pickKnown d (Is Exec) Unknown))) ≡ Unknown
+    → a || b || c || d ≡ false
 unknown-go true b c d e = cc
 unknown-go false true c d e = cc
 unknown-go false false true d e = cc

@@ -13,7 +13,25 @@ use Rattle.blorb.specs.Bytes.{be32, rd32}
 use Rattle.blorb.proofs.ByteLaws.{length-be32, rd32-be32, drop-be32, drop-two}
 use Rattle.blorb.specs.Format.{Ref, refOf, Chunk, Entry, size, sized, total, chunkBytes, chunksBytes, fileBytes, chunksOf, entriesBytes, indexChunk}
 use Rattle.blorb.specs.Tags.{FORM, IFRS, RIdx}
-use Rattle.blorb.specs.Verdict.{Rules, Verdict, accept, _then_, check, headFault, chunkFault, walkFault, secondIndex, indexFault, refFault, entriesFault, restFault, layoutFault, verdict, knownUsage, lastPlace}
+use Rattle.blorb.specs.Verdict.{
+  Rules,
+  Verdict,
+  accept,
+  _then_,
+  check,
+  headFault,
+  chunkFault,
+  walkFault,
+  secondIndex,
+  indexFault,
+  refFault,
+  entriesFault,
+  restFault,
+  layoutFault,
+  verdict,
+  knownUsage,
+  lastPlace,
+}
 use Rattle.blorb.specs.Model.{Model, base, entryOf, file}
 use Rattle.blorb.specs.All.{All}
 use Rattle.blorb.specs.Sound.{W, RefOk, Sound}
@@ -67,7 +85,8 @@ unfolding walkFault
 walk-nil zero at = refl
 walk-nil (suc k) at = refl
 
-walk-step : (k at : ℕ) (s : List ℕ) → 0 < length s → walkFault (suc k) at s ≡ chunkFault at s then walkFault k (at + sized (rd32 (drop 4 s))) (drop (sized (rd32 (drop 4 s))) s)
+walk-step : (k at : ℕ) (s : List ℕ) → 0 < length s → walkFault (suc k) at s ≡ chunkFault at s then walkFault k (at + sized (rd32 (drop 4 s)))
+    (drop (sized (rd32 (drop 4 s))) s)
 unfolding walkFault
 walk-step k at [] h = absurd (not-suc-le-zero h)
 walk-step k at (b ∷ s) h = refl
@@ -189,7 +208,8 @@ module _ (R : Rules) where
       (pass _ _ _ _ (eq-eqb (indexChunk (entries m) .type) RIdx (unfold indexChunk in refl)))
 
   -- a file's first twelve bytes
-  head3 : (cs : List Chunk) → 4 + total cs < W → (rd32 (fileBytes cs) ≡ FORM) × (rd32 (drop 4 (fileBytes cs)) ≡ 4 + total cs) × (rd32 (drop 8 (fileBytes cs)) ≡ IFRS)
+  head3 : (cs : List Chunk) → 4 + total cs < W → (rd32 (fileBytes cs) ≡ FORM) × (rd32 (drop 4 (fileBytes cs)) ≡ 4 + total cs)
+      × (rd32 (drop 8 (fileBytes cs)) ≡ IFRS)
   unfolding fileBytes
   head3 cs h = (
     rd32-be32 FORM (be32 (4 + total cs) ++ (be32 IFRS ++ chunksBytes cs)) (omega arith),

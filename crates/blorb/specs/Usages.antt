@@ -3,7 +3,32 @@ use Prim.Native.Nat.{ℕ}
 use mathlib.Core.Bool.{Bool, true, false, _&&_, _||_}
 use lib.Dec.{eqb}
 use Rattle.blorb.specs.Tags as tags
-use Rattle.blorb.specs.Tags.{JPEG, PNG, Rect, GIF, WAV, MIDI, MP3, OGGV, MOD, SONG, TEXT, BINA, ZCOD, GLUL, TAD2, TAD3, HUGO, ALAN, ADRI, LEVE, AGT, MAGS, ADVS, EXEC}
+use Rattle.blorb.specs.Tags.{
+  JPEG,
+  PNG,
+  Rect,
+  GIF,
+  WAV,
+  MIDI,
+  MP3,
+  OGGV,
+  MOD,
+  SONG,
+  TEXT,
+  BINA,
+  ZCOD,
+  GLUL,
+  TAD2,
+  TAD3,
+  HUGO,
+  ALAN,
+  ADRI,
+  LEVE,
+  AGT,
+  MAGS,
+  ADVS,
+  EXEC,
+}
 use Rattle.blorb.specs.declared.Usage.{Usage}
 use Rattle.blorb.specs.declared.Usage.the-variants.{Pict, Snd, Data, Exec}
 use Rattle.blorb.specs.declared.Known.{Known}
@@ -45,4 +70,5 @@ dataType t = eqb t TEXT || eqb t BINA
 
 abbrev pub execType : ℕ → Bool
 execType t =
-    eqb t ZCOD || (eqb t GLUL || (eqb t TAD2 || (eqb t TAD3 || (eqb t HUGO || (eqb t ALAN || (eqb t ADRI || (eqb t LEVE || (eqb t AGT || (eqb t MAGS || (eqb t ADVS || eqb t EXEC))))))))))
+    eqb t ZCOD || (eqb t GLUL || (eqb t
+    TAD2 || (eqb t TAD3 || (eqb t HUGO || (eqb t ALAN || (eqb t ADRI || (eqb t LEVE || (eqb t AGT || (eqb t MAGS || (eqb t ADVS || eqb t EXEC))))))))))

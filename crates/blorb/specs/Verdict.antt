@@ -12,6 +12,10 @@ pub data Verdict : Type 0 where
   accept : Verdict
   refuse : ℕ → ℕ → Verdict
 
+abbrev pub accepted : Verdict → Bool
+accepted accept = true
+accepted (refuse k p) = false
+
 infixr 20 _then_
 -- the first refusal of two
 unfoldable pub _then_ : Verdict → Verdict → Verdict

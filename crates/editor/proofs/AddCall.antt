@@ -83,7 +83,14 @@ module _ (profile : ℕ) (b : List ℕ) (l J U u n t : ℕ) (d : List ℕ) (byte
 
     -- what add_fault asks
     pub told-pair : (verdict (rulesOf profile) f ≡ accept) × (Counted f (fs .count) × (fs .target ≡ targetOf (model f) u n))
-    told-pair = (opened-fine profile (length b) J f l U E ok, (stands-counted b l (fs .count) (told-stands .0), ap (λ (z : Facts). z .target) (asked-whole profile b l J U u n x fs op .1)))
+    told-pair = (
+      opened-fine profile (length b) J f l U E ok,
+      (
+        stands-counted b l (fs .count) (told-stands .0),
+        ap (λ (z : Facts). z .target)
+            (asked-whole profile b l J U u n x fs op .1),
+      ),
+    )
 
     pub plan-30 : (not (eqb t FORM) || isWhole d) ≡ false → No 30 0 ≡ planOf Vd K
     plan-30 e =
@@ -137,8 +144,18 @@ module _ (profile : ℕ) (b : List ℕ) (l J U u n t : ℕ) (d : List ℕ) (byte
       let sh = accept-short (rulesOf profile) (editedFile f E) (hundred-fine _ (h4 .0)) in
       let len = add-length o in
       let r29 = record-29 in
-      record { stands = open-stands profile b l U J k bytes o (q .1) .0; room = omega arith; short = omega arith; journal-room = omega arith; fine = q .0; new-length = sym len; new-record = sym r29 }
+      record {
+        stands = open-stands profile b l U J k bytes o (q .1) .0;
+        room = omega arith;
+        short = omega arith;
+        journal-room = omega arith;
+        fine =
+            q .0;
+        new-length = sym len;
+        new-record = sym r29;
+      }
 
-  pub record-written : (j : List ℕ) (k : ℕ) → k ≡ K → noted j U (recBytes (recordOf 1 (record { usage = u; number = n; start = 0 }) k 0 [])) ≡ noted j U (editRecord f E)
+  pub record-written : (j : List ℕ) (k : ℕ) → k ≡ K → noted j U (recBytes (recordOf 1 (record { usage = u; number = n; start = 0 }) k 0 [])) ≡ noted j U
+      (editRecord f E)
   unfolding recordOf editRecord recOf
   record-written j k e = rw e

@@ -55,12 +55,21 @@ open-stands profile b l u J k bytes h e =
     let inside : l ≤ length b = leb-true _ _ (p .0) in
     let g = accept-back (rulesOf profile) (take l b) bytes (a .1) in
     let len : length (take l b) ≡ l = length-take-le l b inside in
-    let fl : length (file (model (take l b))) ≡ length (take l b) = ap length (g .0) in
-    (record { inside = inside; whole = g .0; sound = g .1; entries = e; index = omega (arith, file-length (model (take l b))); short = omega (arith, g .2) }, leb-true _ _ (p .1))
+    let fl : length (file (model (take l b))) ≡ length (take l b) = ap length (g .0) in (
+      record { inside = inside; whole = g .0; sound = g .1; entries = e; index = omega (arith, file-length (model (take l b))); short = omega (arith, g .2) },
+      leb-true _ _ (p .1),
+    )
 
 -- the same with the count by another name
 pub stands-as : (b : List ℕ) (l k n : ℕ) → k ≡ n → Stands b l n → Stands b l k
-stands-as b l k n e s = record { inside = s .inside; whole = s .whole; sound = s .sound; entries = e ∙ s .entries; index = omega (arith, e, s .index); short = s .short }
+stands-as b l k n e s = record {
+  inside = s .inside;
+  whole = s .whole;
+  sound = s .sound;
+  entries = e ∙ s .entries;
+  index = omega (arith, e, s .index);
+  short = s .short;
+}
 
 -- the file by itself
 pub stands-counted : (b : List ℕ) (l k : ℕ) → Stands b l k → Counted (take l b) k
@@ -104,7 +113,9 @@ module _ (profile N J : ℕ) (f : List ℕ) (L U : ℕ) (e : Edit) where
   edit-unopened n p h = edit-split ∙ ap (λ (v : Verdict). v then behind) h ∙ (unfold _then_ in refl)
 
   pub edit-off-target : (n p : ℕ) → opening ≡ accept → targetFault (model f) e ≡ refuse n p → editRefusal profile N J f L U e ≡ refuse n p
-  edit-off-target n p h t = edit-split ∙ accepts _ _ h ∙ ap (λ (v : Verdict). v then (hundred (verdict (rulesOf profile) (editedFile f e)) then (check (leb (length (editedFile f e)) N) 24 0 then check (leb (U + length (editRecord f e)) J) 25 0))) t ∙ (unfold _then_ in refl)
+  edit-off-target n p h t = edit-split ∙ accepts _ _ h
+      ∙ ap (λ (v : Verdict). v then (hundred (verdict (rulesOf profile) (editedFile f e)) then (check (leb (length (editedFile f e)) N) 24 0 then check
+      (leb (U + length (editRecord f e)) J) 25 0))) t ∙ (unfold _then_ in refl)
 
   -- 100 + k, 24 and 25, as the code finds them: j is what was judged, x and y the new file's and the record's length
   pub edit-told : (j r : Outcome) (x y : ℕ) → opening ≡ accept → targetFault (model f) e ≡ accept → U ≤ J
@@ -122,20 +133,34 @@ pub called-refused : (profile : ℕ) (s : State) (c : Call) (n p : ℕ) → faul
     → Called profile s c (refusedWith n p (s .L) (s .U)) (s .buffer) (s .journal)
 called-refused profile s c n p h =
     let e : step (rulesOf profile) s c ≡ s = (unfold step in ap (λ (v : Verdict). answered v s (after s c)) h) in
-    record { outcome = sym h; len = ap (λ (z : State). z .L) (sym e); used = ap (λ (z : State). z .U) (sym e); file = ap (λ (z : State). z .buffer) (sym e); journal = ap (λ (z : State). z .journal) (sym e) }
+    record {
+      outcome = sym h;
+      len = ap (λ (z : State). z .L) (sym e);
+      used = ap (λ (z : State). z .U) (sym e);
+      file = ap (λ (z : State). z .buffer) (sym e);
+      journal = ap (λ (z : State). z .journal) (sym e);
+    }
 
 pub called-done : (profile : ℕ) (s : State) (c : Call) (l u : ℕ) (b j : List ℕ) → fault (rulesOf profile) s c ≡ accept
     → l ≡ after s c .L → u ≡ after s c .U → b ≡ after s c .buffer → j ≡ after s c .journal
     → Called profile s c (doneWith l u) b j
 called-done profile s c l u b j h el eu eb ej =
     let e : step (rulesOf profile) s c ≡ after s c = (unfold step in ap (λ (v : Verdict). answered v s (after s c)) h) in
-    record { outcome = sym h; len = el ∙ ap (λ (z : State). z .L) (sym e); used = eu ∙ ap (λ (z : State). z .U) (sym e); file = eb ∙ ap (λ (z : State). z .buffer) (sym e); journal = ej ∙ ap (λ (z : State). z .journal) (sym e) }
+    record {
+      outcome = sym h;
+      len = el ∙ ap (λ (z : State). z .L) (sym e);
+      used = eu ∙ ap (λ (z : State). z .U) (sym e);
+      file = eb
+          ∙ ap (λ (z : State). z .buffer) (sym e);
+      journal = ej ∙ ap (λ (z : State). z .journal) (sym e);
+    }
 
 pub called-as : (profile : ℕ) (s : State) (c c′ : Call) (r : Answer) (b j : List ℕ) → c ≡ c′ → Called profile s c r b j → Called profile s c′ r b j
 called-as profile s c c′ r b j e h = subst (λ (z : Call). Called profile s z r b j) e h
 
 -- the same of an answer that a function gave
-pub gave-refused : (profile : ℕ) (s : State) (c : Call) (r : Answer) (n p : ℕ) → r ≡ refusedWith n p (s .L) (s .U) → fault (rulesOf profile) s c ≡ refuse n p → Called profile s c r (s .buffer) (s .journal)
+pub gave-refused : (profile : ℕ) (s : State) (c : Call) (r : Answer) (n p : ℕ) → r ≡ refusedWith n p (s .L) (s .U) → fault (rulesOf profile) s c ≡ refuse n p
+    → Called profile s c r (s .buffer) (s .journal)
 gave-refused profile s c r n p e h = subst (λ (z : Answer). Called profile s c z (s .buffer) (s .journal)) (sym e) (called-refused profile s c n p h)
 
 pub gave-done : (profile : ℕ) (s : State) (c : Call) (r : Answer) (l u : ℕ) (b j : List ℕ) → r ≡ doneWith l u → fault (rulesOf profile) s c ≡ accept

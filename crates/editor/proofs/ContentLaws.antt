@@ -40,7 +40,19 @@ use Rattle.edits.proofs.AddVerdict.{added-verdict}
 use Rattle.edits.proofs.LinkVerdict.{linked-verdict}
 use Rattle.edits.proofs.RunLaws.{Good, target-applies}
 use Rattle.edits.proofs.FitLaws.{edit-sound, find-pair}
-use Rattle.edits.proofs.ReadBack.{same, look-missing, look-find, add-reads, add-keeps, replace-reads, replace-keeps, remove-gone, remove-keeps, link-reads, link-keeps}
+use Rattle.edits.proofs.ReadBack.{
+  same,
+  look-missing,
+  look-find,
+  add-reads,
+  add-keeps,
+  replace-reads,
+  replace-keeps,
+  remove-gone,
+  remove-keeps,
+  link-reads,
+  link-keeps,
+}
 use Rattle.editor.specs.ReadsBack.{Content, nothing, holds, contentOf, Holds, DataBytes, OwnPair, Apart, OtherPair}
 use Rattle.editor.proofs.CallLaws.{hundred-fine}
 
@@ -183,7 +195,8 @@ edit-told profile N J f L U e bytes args known h =
     }
 
 -- the pair of an accepted add was in no entry before: 16 would have refused it
-not-there : (profile : ℕ) (m : Model) (u n : ℕ) (c : Chunk) → Sound m → modelFault (rulesOf profile) m ≡ accept → modelFault (rulesOf profile) (added m u n c) ≡ accept → pairIn u n (m .refs) ≡ false
+not-there : (profile : ℕ) (m : Model) (u n : ℕ) (c : Chunk) → Sound m → modelFault (rulesOf profile) m ≡ accept → modelFault (rulesOf profile)
+    (added m u n c) ≡ accept → pairIn u n (m .refs) ≡ false
 unfolding refFault
 not-there profile m u n c s h k =
     let a = then-accept _ _ (sym (added-verdict (rulesOf profile) m u n c s h) ∙ k) in
@@ -192,7 +205,8 @@ not-there profile m u n c s h k =
     not-true _ (check-accept _ _ _ (then-accept _ _ (d .1) .1))
 
 -- and so was the new pair of an accepted link
-not-linked : (profile : ℕ) (m : Model) (k u n : ℕ) → modelFault (rulesOf profile) m ≡ accept → modelFault (rulesOf profile) (linked m k u n) ≡ accept → pairIn u n (m .refs) ≡ false
+not-linked : (profile : ℕ) (m : Model) (k u n : ℕ) → modelFault (rulesOf profile) m ≡ accept → modelFault (rulesOf profile) (linked m k u n) ≡ accept
+    → pairIn u n (m .refs) ≡ false
 not-linked profile m k u n h j =
     let a = then-accept _ _ (sym (linked-verdict profile m k u n h) ∙ j) in
     let b = then-accept _ _ (a .1) in
@@ -240,7 +254,8 @@ own-pair profile f (add u n t d) bytes k =
     (ap (λ (m : Model). lookup m u n) (k .same) ∙ add-reads (model f) u n (givenChunk t d) (k .sound) fresh)
 own-pair profile f (replace u n t d) bytes k =
     holds-given profile (editedFile f (replace u n t d)) u n t d (k .new) bytes (then-accept _ _ (then-accept _ _ (k .on-target) .1) .1)
-    (ap (λ (m : Model). lookup m u n) (k .same) ∙ replace-reads (model f) u n (givenChunk t d) (k .applies .0) (chunk-there (model f) (find u n (model f .refs)) (k .sound) (k .applies .0)))
+    (ap (λ (m : Model). lookup m u n) (k .same) ∙ replace-reads (model f) u n (givenChunk t d) (k .applies .0)
+    (chunk-there (model f) (find u n (model f .refs)) (k .sound) (k .applies .0)))
 own-pair profile f (remove u n) bytes k =
     let i : ℕ = find u n (model f .refs) in
     let refs = then-accept _ _ (then-accept _ _ (then-accept _ _ (k .judged) .1) .1) .0 in

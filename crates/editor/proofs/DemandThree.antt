@@ -1,5 +1,6 @@
 -- Demand 3, of the code: "For every list of edits and undos from an accepted file and an empty journal, refused calls included, the state and
--- every answer are the ledger's", with "one known profile for the whole run, its starting file accepted under it" (02, P12). Read Acts for what a run of the code is, edits/specs/Demand3 for where one begins, specs/Runs for `AsLedger`
+-- every answer are the ledger's", with "one known profile for the whole run, its starting file accepted under it" (02, P12). Read Acts for what a run of the
+-- code is, edits/specs/Demand3 for where one begins, specs/Runs for `AsLedger`
 -- and edits/specs/Run for the ledger. It holds since the contract of each function is `Called`, and Runs has demand 3 for whatever is `Called`.
 use mathlib.Core.Path.{_≡_, subst}
 use Prim.Native.Nat.{ℕ, _<_}

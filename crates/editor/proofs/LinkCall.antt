@@ -135,7 +135,8 @@ module _ (profile : ℕ) (b : List ℕ) (l J U v o u n : ℕ) (bytes : All Byte 
         unfolding editedFile edited
         judged-is =
             edit-told profile (length b) J f l U E j r _ _ (told .opened) (on-target (told .found .listed)) (told .found .used-in)
-            (judged ∙ ap (λ (z : ℕ). hundred (verdict (rulesOf profile) (file (linked m z u n)))) its-chunk) (sym (link-length (told .found))) (sym record-29) er
+            (judged ∙ ap (λ (z : ℕ). hundred (verdict (rulesOf profile) (file (linked m z u n)))) its-chunk) (sym (link-length (told .found)))
+            (sym record-29) er
 
         pub plan-refused : (k q : ℕ) → r ≡ outcome.Refused k q → Stay k q ≡ linkingOf Vd m v o
         plan-refused k q h = ap (λ (w : Verdict). linkingOf w m v o) (sym (judged-is ∙ ap verdictOf h))

@@ -17,7 +17,26 @@ use Rattle.blorb.proofs.AllLaws.{all-take}
 use Rattle.blorb.proofs.Accept.{accept-back}
 use Rattle.blorb.proofs.Checks.{then-accept, check-accept, pass, accepts, holds-last, both-true, and-both}
 use Rattle.edits.specs.Edit.{Edit}
-use Rattle.edits.specs.Run.{State, Call, edit, undo, ArgsOk, fault, step, answered, after, afterEdit, afterUndo, written, noted, editFault, undoFault, editedFile, editRecord, undoneFile}
+use Rattle.edits.specs.Run.{
+  State,
+  Call,
+  edit,
+  undo,
+  ArgsOk,
+  fault,
+  step,
+  answered,
+  after,
+  afterEdit,
+  afterUndo,
+  written,
+  noted,
+  editFault,
+  undoFault,
+  editedFile,
+  editRecord,
+  undoneFile,
+}
 use Rattle.edits.proofs.RunLaws.{length-written, take-written, length-noted, take-noted, Good, Made, made}
 use Rattle.editor.specs.declared.Outcome.the-variants.{Done, Refused}
 use Rattle.editor.specs.declared.Answer.{Answer}
@@ -46,7 +65,8 @@ pub reads-back : (profile : ℕ) (s : State) (e : Edit) → All Byte (s .buffer)
     → ReadsBack profile e (fileOf s) (fileAfter profile s (edit e))
 reads-back profile s e bytes args given h =
     let a = edit-fault profile s e h in
-    let t = edit-told profile (length (s .buffer)) (length (s .journal)) (fileOf s) (s .L) (s .U) e (all-take Byte (s .L) (s .buffer) bytes) args (a .0) (a .1) in
+    let t = edit-told profile (length (s .buffer)) (length (s .journal)) (fileOf s) (s .L) (s .U) e (all-take Byte (s .L) (s .buffer) bytes) args
+    (a .0) (a .1) in
     subst (λ (g : List ℕ). ReadsBack profile e (fileOf s) g) (sym (ap fileOf (edit-state profile s e h) ∙ file-edited s e))
     (record { own = own-pair profile (fileOf s) e given t; others = λ v k o. other-pair profile (fileOf s) e v k t o })
 
@@ -68,7 +88,8 @@ undo-fine profile N J f p U e m fine room =
     ∙ holds-last _ _ _ (rw (m .back p) (le-leb (length f) N room))
 
 undo-done : (profile : ℕ) (s : State) (e : Edit) → leb profile 1 ≡ true
-    → Made (rulesOf profile) (length (s .buffer)) (length (s .journal)) (fileOf s) (s .U) e → verdict (rulesOf profile) (fileOf s) ≡ accept → s .L ≤ length (s .buffer)
+    → Made (rulesOf profile) (length (s .buffer)) (length (s .journal)) (fileOf s) (s .U) e → verdict (rulesOf profile) (fileOf s) ≡ accept
+    → s .L ≤ length (s .buffer)
     → (fault (rulesOf profile) (afterEdit s e) undo ≡ accept) × (fileOf (afterUndo (afterEdit s e)) ≡ fileOf s)
 unfolding fault afterEdit afterUndo
 undo-done profile s e known m fine inside =

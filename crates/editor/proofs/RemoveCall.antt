@@ -135,7 +135,12 @@ module _ (profile : ℕ) (b : List ℕ) (l J U u n : ℕ) (bytes : All Byte (tak
   module _ (w : Found K) where
     pub new-length : length (editedFile f E) ≡ l - (12 + goneSize m i)
     unfolding editedFile edited
-    new-length = let p = find-pair u n (m .refs) (w .listed) in omega (arith, removed-length profile m i u n (w .stands .sound) (w .model-fine) (w .listed) (p .0) (p .1), w .length-l)
+    new-length = let p = find-pair u n (m .refs) (w .listed) in omega (
+      arith,
+      removed-length profile m i u n (w .stands .sound) (w .model-fine) (w .listed)
+          (p .0) (p .1),
+      w .length-l,
+    )
 
     pub record-length : length (editRecord f E) ≡ 29 + cond (shared m i) 0 (length (chunkAt m kc .body))
     unfolding editRecord recOf removal
@@ -166,7 +171,14 @@ module _ (profile : ℕ) (b : List ℕ) (l J U u n : ℕ) (bytes : All Byte (tak
     told p t =
         let w = asked-whole profile b l J U u n x fs e in
         let h = target-at m u n p (ap (λ (z : Facts). z .target) (sym (w .1)) ∙ t) in
-        record { opened = w .0; found = found (w .0) (ltb-true _ _ (h .0)); count-is = ap (λ (z : Facts). z .count) (w .1); front-is = ap (λ (z : Facts). z .front) (w .1); piece-is = h .1 }
+        record {
+          opened = w .0;
+          found = found (w .0) (ltb-true _ _ (h .0));
+          count-is = ap (λ (z : Facts). z .count) (w .1);
+          front-is =
+              ap (λ (z : Facts). z .front) (w .1);
+          piece-is = h .1;
+        }
 
     -- the entry is not there
     pub told-missing : fs .target ≡ target.Nothing → (O ≡ accept) × (ltb i K ≡ false)
@@ -203,15 +215,27 @@ module _ (profile : ℕ) (b : List ℕ) (l J U u n : ℕ) (bytes : All Byte (tak
     pub listed : (verdict (rulesOf profile) f ≡ accept) × (Listed f u n (p .start) a × (fs .front ≡ frontOf m))
     listed =
         let st = w .found .stands in
-        let ga = gone-now p (w .found) (w .piece-is) a ea in
-        (opened-fine profile (length b) J f l U E (w .opened), (record { found = w .found .listed; starts = start-is m i p (w .piece-is); gone = ga; small = omega (arith, gone-sized m i, w .found .ends, st .short) }, w .front-is))
+        let ga = gone-now p (w .found) (w .piece-is) a ea in (
+          opened-fine profile (length b) J f l U E (w .opened),
+          (
+            record {
+              found = w .found .listed;
+              starts = start-is m i p (w .piece-is);
+              gone = ga;
+              small =
+                  omega (arith, gone-sized m i, w .found .ends, st .short);
+            },
+            w .front-is,
+          ),
+        )
 
     module _ (x : ℕ) (ex : x ≡ cond (p .shared) 0 (p .length)) (j r : Outcome) (judged : verdictOf j ≡ hundred (verdict (rulesOf profile) (file (removed m i))))
         (e : verdictOf r ≡ verdictOf j then (check (leb (l - (12 + a)) (length b)) 24 0 then check (leb (29 + x) (J - U)) 25 0)) where
       judged-is : Vd ≡ verdictOf r
       unfolding editedFile edited
       judged-is =
-          edit-told profile (length b) J f l U E j r _ _ (w .opened) (on-target (w .found)) (w .found .used-in) judged (length-now p (w .found) (w .piece-is) a ea)
+          edit-told profile (length b) J f l U E j r _ _ (w .opened) (on-target (w .found)) (w .found .used-in) judged
+          (length-now p (w .found) (w .piece-is) a ea)
           (ap (λ (z : ℕ). 29 + z) ex ∙ record-now p (w .found) (w .piece-is)) e
 
       pub plan-refused : (k q : ℕ) → r ≡ outcome.Refused k q → Not k q ≡ removalOf Vd m u n
@@ -290,18 +314,22 @@ module _ (profile : ℕ) (b : List ℕ) (l J U u n : ℕ) (bytes : All Byte (tak
           },
         )
 
-    pub record-is : recordOf (cond (p .shared) 4 3) (record { usage = u; number = n; start = p .start }) (p .place) (cond (p .shared) 0 (p .kind)) (take (cond (p .shared) 0 (p .length)) (drop (p .start + 8) b)) ≡ recOf m E
+    pub record-is : recordOf (cond (p .shared) 4 3) (record { usage = u; number = n; start = p .start }) (p .place) (cond (p .shared) 0 (p .kind))
+        (take (cond (p .shared) 0 (p .length)) (drop (p .start + 8) b)) ≡ recOf m E
     unfolding recordOf recOf removal
     record-is =
-        ap (λ (z : Piece). recordOf (cond (z .shared) 4 3) (record { usage = u; number = n; start = z .start }) (z .place) (cond (z .shared) 0 (z .kind)) (take (cond (z .shared) 0 (z .length)) (drop (z .start + 8) b))) (r .piece-is)
+        ap (λ (z : Piece). recordOf (cond (z .shared) 4 3) (record { usage = u; number = n; start = z .start }) (z .place) (cond (z .shared) 0 (z .kind))
+        (take (cond (z .shared) 0 (z .length)) (drop (z .start + 8) b))) (r .piece-is)
         ∙ go (shared m i)
       where
-        go : (y : Bool) → recordOf (cond y 4 3) (record { usage = u; number = n; start = start m kc }) i (cond y 0 (chunkAt m kc .type)) (take (cond y 0 (length (chunkAt m kc .body))) (drop (start m kc + 8) b)) ≡ removal y m u n i
+        go : (y : Bool) → recordOf (cond y 4 3) (record { usage = u; number = n; start = start m kc }) i (cond y 0 (chunkAt m kc .type))
+            (take (cond y 0 (length (chunkAt m kc .body))) (drop (start m kc + 8) b)) ≡ removal y m u n i
         go true = refl
         go false = λ z. record { kind = 3; usage = u; number = n; place = i; start = start m kc; type = chunkAt m kc .type; body = body-of (r .found) z }
 
 -- the call, once its plan goes on: a bytes go, and x bytes of data are kept
-module _ (profile : ℕ) (b j : List ℕ) (l U u n : ℕ) (bytes : All Byte (take l b)) (k : ℕ) (p : Piece) (r : Ready profile b l (length j) U u n bytes k p) (x : ℕ) (ex : x ≡ cond (p .shared) 0 (p .length)) where
+module _ (profile : ℕ) (b j : List ℕ) (l U u n : ℕ) (bytes : All Byte (take l b)) (k : ℕ) (p : Piece) (r : Ready profile b l (length j) U u n bytes k p)
+    (x : ℕ) (ex : x ≡ cond (p .shared) 0 (p .length)) where
   pub part-in : p .start + 8 + x ≤ length b
   part-in = omega (arith, body-in profile b l (length j) U u n bytes k p r, r .found .stands .inside)
 
@@ -311,15 +339,19 @@ module _ (profile : ℕ) (b j : List ℕ) (l U u n : ℕ) (bytes : All Byte (tak
   pub record-room : U + (29 + length (take (p .start + 8 + x - (p .start + 8)) (drop (p .start + 8) b))) ≤ length j
   record-room = let h = part-length b (p .start + 8) x part-in in omega (arith, used-room)
 
-  pub made : (a kd t : ℕ) (c : Answer) (b′ j′ : List ℕ) → a ≡ cond (p .shared) 0 (8 + (p .length + p .length % 2)) → kd ≡ cond (p .shared) 4 3 → t ≡ cond (p .shared) 0 (p .kind)
+  pub made : (a kd t : ℕ) (c : Answer) (b′ j′ : List ℕ) → a ≡ cond (p .shared) 0 (8 + (p .length + p .length % 2)) → kd ≡ cond (p .shared) 4 3
+      → t ≡ cond (p .shared) 0 (p .kind)
       → c ≡ doneWith (l - (12 + a)) (U + (29 + x)) → b′ ≡ written b l (file (removed (model (take l b)) (p .place)))
-      → j′ ≡ noted j U (recBytes (recordOf kd (record { usage = u; number = n; start = p .start }) (p .place) t (take (p .start + 8 + x - (p .start + 8)) (drop (p .start + 8) b))))
+      → j′ ≡ noted j U (recBytes (recordOf kd (record { usage = u; number = n; start = p .start }) (p .place) t (take (p .start + 8 + x - (p .start + 8))
+      (drop (p .start + 8) b))))
       → Called profile (state b l j U) (edit (remove u n)) c b′ j′
   unfolding fault after afterEdit editedFile edited editRecord
   made a kd t c b′ j′ ea ek et ec eb ej =
       let px : p .start + 8 + x - (p .start + 8) ≡ cond (p .shared) 0 (p .length) = part-size (p .start + 8) x ∙ ex in
-      gave-done profile (state b l j U) (edit (remove u n)) c _ _ b′ j′ ec (r .fine) (length-now profile b l (length j) U u n bytes p (r .found) (r .piece-is) a ea)
+      gave-done profile (state b l j U) (edit (remove u n)) c _ _ b′ j′ ec (r .fine) (length-now profile b l (length j) U u n bytes p (r .found)
+      (r .piece-is) a ea)
       (ap (λ (z : ℕ). U + (29 + z)) ex ∙ ap (λ (z : ℕ). U + z) (used-now profile b l (length j) U u n bytes k p r))
       (eb ∙ ap (λ (z : ℕ). written b l (file (removed (model (take l b)) z))) (place-is (model (take l b)) (find u n (model (take l b) .refs)) p (r .piece-is)))
-      (ej ∙ (λ z. noted j U (recBytes (recordOf (ek z) (record { usage = u; number = n; start = p .start }) (p .place) (et z) (take (px z) (drop (p .start + 8) b)))))
+      (ej ∙ (λ z. noted j U (recBytes (recordOf (ek z) (record { usage = u; number = n; start = p .start }) (p .place) (et z)
+      (take (px z) (drop (p .start + 8) b)))))
       ∙ ap (λ (z : Rec). noted j U (recBytes z)) (record-is profile b l (length j) U u n bytes k p r))

@@ -115,7 +115,11 @@ module _ (profile : ℕ) (b : List ℕ) (l J U u n t : ℕ) (d : List ℕ) (byte
   module _ (fs : Facts) (p : Piece) (w : Told profile b l J U u n bytes fs p) where
     pub plan-23 : p .shared ≡ true → Keep 23 0 ≡ changeOf Vd m u n
     plan-23 h =
-        let q : targetFault m E ≡ refuse 23 0 = (unfold targetFault check _then_ in rw (lt-ltb i K (w .found .listed), sym (shared-is m i p (w .piece-is)) ∙ h)) in
+        let q : targetFault m E ≡ refuse 23 0 = (unfold targetFault check _then_ in rw (
+          lt-ltb i K (w .found .listed),
+          sym (shared-is m i p (w .piece-is))
+              ∙ h,
+        )) in
         ap (λ (v : Verdict). changeOf v m u n) (sym (edit-off-target profile (length b) J f l U E 23 0 (w .opened) q))
 
     module _ (alone : p .shared ≡ false) where
@@ -238,8 +242,18 @@ module _ (profile : ℕ) (b : List ℕ) (l J U u n t : ℕ) (d : List ℕ) (byte
     pub record-is : recordOf 2 (record { usage = u; number = n; start = p .start }) (p .place) (p .kind) (take (p .length) (drop (p .start + 8) b)) ≡ recOf m E
     unfolding recordOf recOf
     record-is =
-        ap (λ (z : Piece). recordOf 2 (record { usage = u; number = n; start = z .start }) (z .place) (z .kind) (take (z .length) (drop (z .start + 8) b))) (r .piece-is)
-        ∙ (λ z. record { kind = 2; usage = u; number = n; place = i; start = start m kc; type = chunkAt m kc .type; body = body-of profile b l J U u n bytes (r .found) z })
+        ap (λ (z : Piece). recordOf 2 (record { usage = u; number = n; start = z .start }) (z .place) (z .kind) (take (z .length) (drop (z .start + 8) b)))
+        (r .piece-is)
+        ∙ (λ z. record {
+          kind = 2;
+          usage = u;
+          number = n;
+          place = i;
+          start = start m kc;
+          type = chunkAt m kc .type;
+          body = body-of profile b l J U u n bytes
+              (r .found) z;
+        })
 
 -- the call, once its plan goes on
 module _ (profile : ℕ) (b j : List ℕ) (l U u n t : ℕ) (d : List ℕ) (bytes : All Byte (take l b)) (k : ℕ) (p : Piece)
@@ -256,7 +270,8 @@ module _ (profile : ℕ) (b j : List ℕ) (l U u n t : ℕ) (d : List ℕ) (byte
   pub made : (h : List ℕ) → h ≡ held t d → (a : ℕ) (c : Answer) (b′ j′ : List ℕ) → a ≡ 8 + (p .length + p .length % 2)
       → c ≡ doneWith (l - a + (8 + (length h + length h % 2))) (U + (29 + p .length))
       → b′ ≡ written b l (file (replaced (model (take l b)) (refAt (model (take l b)) (p .place) .chunk) (chunkOf t h)))
-      → j′ ≡ noted j U (recBytes (recordOf 2 (record { usage = u; number = n; start = p .start }) (p .place) (p .kind) (take (p .start + 8 + p .length - (p .start + 8)) (drop (p .start + 8) b))))
+      → j′ ≡ noted j U (recBytes (recordOf 2 (record { usage = u; number = n; start = p .start }) (p .place) (p .kind)
+      (take (p .start + 8 + p .length - (p .start + 8)) (drop (p .start + 8) b))))
       → Called profile (state b l j U) (edit (replace u n t d)) c b′ j′
   unfolding fault after afterEdit editedFile edited editRecord
   made h eh a c b′ j′ ea ec eb ej =
@@ -266,5 +281,6 @@ module _ (profile : ℕ) (b j : List ℕ) (l U u n t : ℕ) (d : List ℕ) (byte
       (eb
       ∙ (λ z. written b l (file (replaced (model (take l b))
       (refAt (model (take l b)) (place-is (model (take l b)) (find u n (model (take l b) .refs)) p (r .piece-is) z) .chunk) (chunkOf t (eh z))))))
-      (ej ∙ ap (λ (z : ℕ). noted j U (recBytes (recordOf 2 (record { usage = u; number = n; start = p .start }) (p .place) (p .kind) (take z (drop (p .start + 8) b))))) (part-size (p .start + 8) (p .length))
+      (ej ∙ ap (λ (z : ℕ). noted j U (recBytes (recordOf 2 (record { usage = u; number = n; start = p .start }) (p .place) (p .kind)
+      (take z (drop (p .start + 8) b))))) (part-size (p .start + 8) (p .length))
       ∙ ap (λ (z : Rec). noted j U (recBytes z)) (record-is profile b l (length j) U u n t d bytes k p r))

@@ -8,9 +8,9 @@ use Rattle.blorb.specs.Bytes.{Byte}
 use Rattle.blorb.specs.Verdict.{accept}
 use Rattle.blorb.specs.Rules.{rulesOf}
 use Rattle.edits.specs.Edit.{Edit, replace}
-use Rattle.edits.specs.Run.{State, Call, edit, CallOk, fault, step, run}
+use Rattle.edits.specs.Run.{State, fileIn, Call, edit, CallOk, fault, step, run}
 use Rattle.edits.specs.Demand3.{Begins, listAfter}
-use Rattle.edits.specs.TwoEditors.{fileIn, SameFile, NamesOther, grown, fallen}
+use Rattle.edits.specs.TwoEditors.{SameFile, NamesOther, grown, shrunk}
 use Rattle.edits.proofs.TwoEditors.{replacement-commutes, length-after}
 use Rattle.editor.specs.declared.Outcome.the-variants.{Done}
 use Rattle.editor.specs.Called.{verdictOf}
@@ -85,6 +85,6 @@ listOf profile s xs = listAfter (rulesOf profile) s (map runs.callOf (map turnOf
 
 -- "After any run the file's length is its starting length plus, for each edit not taken back, its own change."
 pub code-length : (profile : ℕ) (s : State) (xs : List Act) → Begins (rulesOf profile) s → Follows profile s xs
-    → endOf s (map turnOf xs) .L + fallen (fileIn s) (listOf profile s xs) ≡ s .L + grown (fileIn s) (listOf profile s xs)
+    → endOf s (map turnOf xs) .L + shrunk (fileIn s) (listOf profile s xs) ≡ s .L + grown (fileIn s) (listOf profile s xs)
 code-length profile s xs b f =
     rw (ran-end profile s (map turnOf xs) (ran profile s xs f)) (length-after (rulesOf profile) s (map runs.callOf (map turnOf xs)) b (all-bounded xs))

@@ -10,7 +10,7 @@ use lib.Dec.{leb, eqb}
 use borrow.Author.Tests.{leb-true, eqb-true, eqb-false}
 use Rattle.blorb.specs.Format.{size, chunkOf}
 use Rattle.blorb.specs.Layout.{sizeOf}
-use Rattle.blorb.specs.Verdict.{Verdict, accept, refuse, verdict}
+use Rattle.blorb.specs.Verdict.{Verdict, accept, refuse, verdict, accepted}
 use Rattle.blorb.specs.Rules.{rulesOf}
 use Rattle.blorb.specs.Model.{Model, base, startOf, model, file}
 use Rattle.blorb.specs.Queries.{refAt, chunkAt, start, placeAt, shared}
@@ -24,7 +24,7 @@ use Rattle.blorb.proofs.ModelLaws.{length-file}
 use Rattle.edits.specs.Edit.{removed, removedBoth, removedEntry, replaced, entered, inserted}
 use Rattle.edits.specs.GoneSize.{goneSize}
 use Rattle.edits.specs.Journal.{Rec, lastRec, wellFormed, fits, fits3, fits4, undo2, undo3, undo4, undo5, oldChunk}
-use Rattle.edits.specs.Run.{undo, state, accepted, undoneFile, undoFault, fault}
+use Rattle.edits.specs.Run.{undo, state, undoneFile, undoFault, fault}
 use Rattle.edits.proofs.BoolLaws.{and-parts}
 use Rattle.edits.proofs.UndoLaws.{or-false}
 use Rattle.edits.proofs.JudgedLaws.{chunk-in}
@@ -105,7 +105,8 @@ module _ (profile : ℕ) (b : List ℕ) (l : ℕ) (j : List ℕ) (u k a s t : �
       let good = and-parts (wellFormed q) (fits (lastRec q) (model f)) (test .0) in
       let inside : l ≤ length b = leb-true l (length b) (lens .0) in
       let len : length (take l b) ≡ l = length-take-le l b inside in
-      let g : Go (length (model f .refs)) (chunkStart (lastRec q) (model f)) (chunkSize (lastRec q) (model f)) (length (undoneFile f q)) (numbersOf (lastRec q)) ≡ Go k a s t r = planned .1 in
+      let g : Go (length (model f .refs)) (chunkStart (lastRec q) (model f)) (chunkSize (lastRec q) (model f)) (length (undoneFile f q))
+      (numbersOf (lastRec q)) ≡ Go k a s t r = planned .1 in
       let n : numbersOf (lastRec q) ≡ r = cc in
       let st = accepted-facts profile f (all-take Byte l b bytes) (h2 .0) in
       let count : k ≡ length (model f .refs) = cc in
@@ -183,7 +184,8 @@ module _ (profile : ℕ) (b : List ℕ) (l : ℕ) (j : List ℕ) (u k a s t : �
         record {
           listed = omega (arith, listed, place-is, w .stands .entries);
           starts = ea ∙ ap (λ (z : ℕ). start m (refAt m z .chunk)) place-is;
-          gone = es ∙ sym (ap (λ (z : Bool). cond z 0 (size (chunkAt m c))) (p .alone)) ∙ ap (λ (z : ℕ). cond (shared m z) 0 (size (chunkAt m (refAt m z .chunk)))) place-is;
+          gone = es ∙ sym (ap (λ (z : Bool). cond z 0 (size (chunkAt m c))) (p .alone))
+              ∙ ap (λ (z : ℕ). cond (shared m z) 0 (size (chunkAt m (refAt m z .chunk)))) place-is;
           behind = omega (arith, ea, start-behind m c, w .stands .entries);
           ends = omega (arith, ea, es, chunk-ends m c (w .file-facts .sound) there small, whole-is);
         },
@@ -209,7 +211,8 @@ module _ (profile : ℕ) (b : List ℕ) (l : ℕ) (j : List ℕ) (u k a s t : �
         record {
           listed = omega (arith, p .inside, place-is, w .stands .entries);
           starts = ea ∙ ap (λ (z : ℕ). start m (refAt m z .chunk)) place-is;
-          gone = es ∙ sym (ap (λ (z : Bool). cond z 0 (size (chunkAt m c))) (p .holds)) ∙ ap (λ (z : ℕ). cond (shared m z) 0 (size (chunkAt m (refAt m z .chunk)))) place-is;
+          gone = es ∙ sym (ap (λ (z : Bool). cond z 0 (size (chunkAt m c))) (p .holds))
+              ∙ ap (λ (z : ℕ). cond (shared m z) 0 (size (chunkAt m (refAt m z .chunk)))) place-is;
           behind = omega (arith, ea, start-behind m c, w .stands .entries);
           ends = omega (arith, ea, es, chunk-ends m c (w .file-facts .sound) there small, whole-is);
         },
@@ -240,7 +243,8 @@ module _ (profile : ℕ) (b : List ℕ) (l : ℕ) (j : List ℕ) (u k a s t : �
 
   -- kind 2
   pub back-replaced : (All Byte j) → r .kind ≡ 2
-      → Stands b l k × (Replaceable b l k (r .place) a s × ((l - s + (8 + (length d + length d % 2)) ≤ length b) × (l - s + (8 + (length d + length d % 2)) ≤ 16777216)))
+      → Stands b l k × (Replaceable b l k (r .place) a s × ((l - s + (8 + (length d + length d % 2)) ≤ length b)
+      × (l - s + (8 + (length d + length d % 2)) ≤ 16777216)))
   back-replaced bj h =
       let fit = sym (kind-2 rec m (kind-is 2 h) .0) ∙ w .fit in
       let p = fits2-facts rec m fit in
@@ -249,7 +253,8 @@ module _ (profile : ℕ) (b : List ℕ) (l : ℕ) (j : List ℕ) (u k a s t : �
       let ea : a ≡ start m c = w .at-is ∙ at-2 rec m (kind-is 2 h) .0 in
       let es : s ≡ size (chunkAt m c) = w .size-is ∙ at-2 rec m (kind-is 2 h) .1 in
       let to : l - s + (8 + (length d + length d % 2)) ≡ length (undoneFile (take l b) (take u j))
-      = (λ i. sym file-is i - (es ∙ size-is (chunkAt m c)) i + sizeOf (length (body-is i))) ∙ sym (after-2 profile (take l b) (take u j) (w .file-facts) (all-take Byte u j bj) (kind-is 2 h) fit) in (
+      = (λ i. sym file-is i - (es ∙ size-is (chunkAt m c)) i + sizeOf (length (body-is i))) ∙ sym (after-2 profile (take l b) (take u j) (w .file-facts)
+      (all-take Byte u j bj) (kind-is 2 h) fit) in (
         w .stands,
         (
           record {
@@ -263,7 +268,8 @@ module _ (profile : ℕ) (b : List ℕ) (l : ℕ) (j : List ℕ) (u k a s t : �
         ),
       )
 
-  pub written-replaced : r .kind ≡ 2 → file (replaced (model (take l b)) (refAt (model (take l b)) (r .place) .chunk) (chunkOf (r .sort) d)) ≡ undoneFile (take l b) (take u j)
+  pub written-replaced : r .kind ≡ 2 → file (replaced (model (take l b)) (refAt (model (take l b)) (r .place) .chunk) (chunkOf (r .sort) d)) ≡ undoneFile
+      (take l b) (take u j)
   unfolding undoneFile undo2
   written-replaced h =
       (λ i. file (replaced m (refAt m (sym place-is i) .chunk) (old-is i))) ∙ sym (ap file (kind-2 rec m (kind-is 2 h) .1))
@@ -281,14 +287,17 @@ module _ (profile : ℕ) (b : List ℕ) (l : ℕ) (j : List ℕ) (u k a s t : �
     at-3-is : a ≡ lastRec (take u j) .start - 12
     at-3-is = w .at-is ∙ at-3 rec m (kind-is 3 h) .0
 
-    pub back-removed : (All Byte j) → Stands b l k × (Insertable b l k (r .place) a × ((l + (20 + (length d + length d % 2)) ≤ length b) × (l + (20 + (length d + length d % 2)) ≤ 16777216)))
+    pub back-removed : (All Byte j) → Stands b l k × (Insertable b l k (r .place) a × ((l + (20 + (length d + length d % 2)) ≤ length b)
+        × (l + (20 + (length d + length d % 2)) ≤ 16777216)))
     back-removed bj =
         let i = insertable3 b l k (w .stands) rec fit-3 in
         let to : length (undoneFile (take l b) (take u j)) ≡ l + 12 + sizeOf (length d)
-        = after-3 profile (take l b) (take u j) (w .file-facts) (all-take Byte u j bj) (kind-is 3 h) ∙ (λ i. file-is i + 12 + sizeOf (length (sym body-is i))) in
+        = after-3 profile (take l b) (take u j) (w .file-facts) (all-take Byte u j bj) (kind-is 3 h)
+        ∙ (λ i. file-is i + 12 + sizeOf (length (sym body-is i))) in
         (w .stands, (coe 0 1 (z. Insertable b l k (place-is z) (sym at-3-is z)) i, (omega (arith, to, w .room), omega (arith, to, after-short))))
 
-    pub written-removed : file (inserted (model (take l b)) (r .place) (placeAt (model (take l b)) a) (r .usage) (r .number) (chunkOf (r .sort) d)) ≡ undoneFile (take l b) (take u j)
+    pub written-removed : file (inserted (model (take l b)) (r .place) (placeAt (model (take l b)) a) (r .usage) (r .number) (chunkOf (r .sort) d)) ≡
+        undoneFile (take l b) (take u j)
     unfolding undoneFile undo3
     written-removed =
         let n : r ≡ numbersOf rec = sym (w .ends .numbers) in

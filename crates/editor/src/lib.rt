@@ -78,7 +78,8 @@ fn opened(
     number: u32,
     at: usize,
 ) -> Inspection
-    ensures { λ r. ⌜ r ≡ inspectionOf (check (leb profile 1) 52 0 then (check (leb len (length (now (buf .entry))) && leb used room) 20 0 then verdict (rulesOf profile) (take len (now (buf .entry))))) (model (take len (now (buf .entry)))) usage number at ⌝ }
+    ensures { λ r. ⌜ r ≡ inspectionOf (check (leb profile 1) 52 0 then (check (leb len (length (now (buf .entry))) && leb used room) 20 0 then verdict
+        (rulesOf profile) (take len (now (buf .entry))))) (model (take len (now (buf .entry)))) usage number at ⌝ }
 {
     if 1 < profile {
         return Inspection::Refused {
@@ -135,7 +136,8 @@ fn add_plan(
     kind: u32,
     d: &[u8],
 ) -> Plan
-    ensures { λ r. ⌜ r ≡ planOf (editRefusal profile (length (now (buf .entry))) room (take len (now (buf .entry))) len used (add usage number kind (now (d .entry)))) (length (model (take len (now (buf .entry))) .refs)) ⌝ }
+    ensures { λ r. ⌜ r ≡ planOf (editRefusal profile (length (now (buf .entry))) room (take len (now (buf .entry))) len used
+        (add usage number kind (now (d .entry)))) (length (model (take len (now (buf .entry))) .refs)) ⌝ }
 {
     match opened(buf, len, room, used, profile, usage, number, 0) {
         Inspection::Refused { number: k, place } => Plan::No(k, place),
@@ -177,7 +179,8 @@ fn add_entry(
     kind: u32,
     d: &[u8],
 ) -> Answer
-    ensures { λ r. ⌜ Called profile (state (now (buf .entry)) len (now (jrn .entry)) used) (edit (add usage number kind (now (d .entry)))) r (now (buf .exit)) (now (jrn .exit)) ⌝ }
+    ensures { λ r. ⌜ Called profile (state (now (buf .entry)) len (now (jrn .entry)) used) (edit (add usage number kind (now (d .entry)))) r
+        (now (buf .exit)) (now (jrn .exit)) ⌝ }
 {
     match add_plan(buf, len, jrn.len(), used, profile, usage, number, kind, d) {
         Plan::No(k, place) => Answer::refused(k, place, len, used),
@@ -248,7 +251,8 @@ fn remove_plan(
     usage: u32,
     number: u32,
 ) -> Removal
-    ensures { λ r. ⌜ r ≡ removalOf (editRefusal profile (length (now (buf .entry))) room (take len (now (buf .entry))) len used (remove usage number)) (model (take len (now (buf .entry)))) usage number ⌝ }
+    ensures { λ r. ⌜ r ≡ removalOf (editRefusal profile (length (now (buf .entry))) room (take len (now (buf .entry))) len used (remove usage number))
+        (model (take len (now (buf .entry)))) usage number ⌝ }
 {
     match opened(buf, len, room, used, profile, usage, number, 0) {
         Inspection::Refused { number: k, place } => Removal::Not(k, place),
@@ -296,7 +300,8 @@ fn remove_entry(
     usage: u32,
     number: u32,
 ) -> Answer
-    ensures { λ r. ⌜ Called profile (state (now (buf .entry)) len (now (jrn .entry)) used) (edit (remove usage number)) r (now (buf .exit)) (now (jrn .exit)) ⌝ }
+    ensures { λ r. ⌜ Called profile (state (now (buf .entry)) len (now (jrn .entry)) used) (edit (remove usage number)) r (now (buf .exit))
+        (now (jrn .exit)) ⌝ }
 {
     match remove_plan(buf, len, jrn.len(), used, profile, usage, number) {
         Removal::Not(k, place) => Answer::refused(k, place, len, used),
@@ -342,7 +347,8 @@ fn replace_plan(
     kind: u32,
     d: &[u8],
 ) -> Change
-    ensures { λ r. ⌜ r ≡ changeOf (editRefusal profile (length (now (buf .entry))) room (take len (now (buf .entry))) len used (replace usage number kind (now (d .entry)))) (model (take len (now (buf .entry)))) usage number ⌝ }
+    ensures { λ r. ⌜ r ≡ changeOf (editRefusal profile (length (now (buf .entry))) room (take len (now (buf .entry))) len used
+        (replace usage number kind (now (d .entry)))) (model (take len (now (buf .entry)))) usage number ⌝ }
 {
     match opened(buf, len, room, used, profile, usage, number, 0) {
         Inspection::Refused { number: k, place } => Change::Keep(k, place),
@@ -351,10 +357,11 @@ fn replace_plan(
             let Target::At(piece) = target else {
                 return Change::Keep(22, 0);
             };
+            let whole = given::is_whole(kind, d);
             if piece.shared {
                 return Change::Keep(23, 0);
             }
-            if !given::is_whole(kind, d) {
+            if !whole {
                 return Change::Keep(30, 0);
             }
             let body = given::held(kind, d);
@@ -396,7 +403,8 @@ fn replace_chunk(
     kind: u32,
     d: &[u8],
 ) -> Answer
-    ensures { λ r. ⌜ Called profile (state (now (buf .entry)) len (now (jrn .entry)) used) (edit (replace usage number kind (now (d .entry)))) r (now (buf .exit)) (now (jrn .exit)) ⌝ }
+    ensures { λ r. ⌜ Called profile (state (now (buf .entry)) len (now (jrn .entry)) used) (edit (replace usage number kind (now (d .entry)))) r
+        (now (buf .exit)) (now (jrn .exit)) ⌝ }
 {
     match replace_plan(buf, len, jrn.len(), used, profile, usage, number, kind, d) {
         Change::Keep(k, place) => Answer::refused(k, place, len, used),
@@ -453,7 +461,8 @@ fn link_plan(
     alias: u32,
     chosen: u32,
 ) -> Linking
-    ensures { λ r. ⌜ r ≡ linkingOf (editRefusal profile (length (now (buf .entry))) room (take len (now (buf .entry))) len used (link usage number alias chosen)) (model (take len (now (buf .entry)))) usage number ⌝ }
+    ensures { λ r. ⌜ r ≡ linkingOf (editRefusal profile (length (now (buf .entry))) room (take len (now (buf .entry))) len used
+        (link usage number alias chosen)) (model (take len (now (buf .entry)))) usage number ⌝ }
 {
     match opened(buf, len, room, used, profile, usage, number, 0) {
         Inspection::Refused { number: k, place } => Linking::Stay(k, place),
@@ -500,7 +509,8 @@ fn link_entry(
     alias: u32,
     chosen: u32,
 ) -> Answer
-    ensures { λ r. ⌜ Called profile (state (now (buf .entry)) len (now (jrn .entry)) used) (edit (link usage number alias chosen)) r (now (buf .exit)) (now (jrn .exit)) ⌝ }
+    ensures { λ r. ⌜ Called profile (state (now (buf .entry)) len (now (jrn .entry)) used) (edit (link usage number alias chosen)) r (now (buf .exit))
+        (now (jrn .exit)) ⌝ }
 {
     match link_plan(
         buf,
@@ -572,7 +582,8 @@ pub fn replace(
     kind: [u8; 4],
     d: &[u8],
 ) -> Answer
-    ensures { λ r. ⌜ Called profile (state (now (buf .entry)) len (now (jrn .entry)) used) (edit (replace (rd32 usage) number (rd32 kind) (now (d .entry)))) r (now (buf .exit)) (now (jrn .exit)) ⌝ }
+    ensures { λ r. ⌜ Called profile (state (now (buf .entry)) len (now (jrn .entry)) used) (edit (replace (rd32 usage) number (rd32 kind) (now (d .entry))))
+        r (now (buf .exit)) (now (jrn .exit)) ⌝ }
 {
     let u = code_of(usage);
     let t = code_of(kind);
@@ -589,7 +600,8 @@ pub fn remove(
     usage: [u8; 4],
     number: u32,
 ) -> Answer
-    ensures { λ r. ⌜ Called profile (state (now (buf .entry)) len (now (jrn .entry)) used) (edit (remove (rd32 usage) number)) r (now (buf .exit)) (now (jrn .exit)) ⌝ }
+    ensures { λ r. ⌜ Called profile (state (now (buf .entry)) len (now (jrn .entry)) used) (edit (remove (rd32 usage) number)) r (now (buf .exit))
+        (now (jrn .exit)) ⌝ }
 {
     let u = code_of(usage);
     remove_entry(buf, len, jrn, used, profile, u, number)
@@ -607,7 +619,8 @@ pub fn link(
     alias: [u8; 4],
     chosen: u32,
 ) -> Answer
-    ensures { λ r. ⌜ Called profile (state (now (buf .entry)) len (now (jrn .entry)) used) (edit (link (rd32 usage) number (rd32 alias) chosen)) r (now (buf .exit)) (now (jrn .exit)) ⌝ }
+    ensures { λ r. ⌜ Called profile (state (now (buf .entry)) len (now (jrn .entry)) used) (edit (link (rd32 usage) number (rd32 alias) chosen)) r
+        (now (buf .exit)) (now (jrn .exit)) ⌝ }
 {
     let u = code_of(usage);
     let v = code_of(alias);
@@ -660,7 +673,8 @@ fn write_back(
     size: usize,
     r: Record,
 )
-    requires { ⌜ ((profile : ℕ) × (undoPlan profile (now buf) len (now jrn) used ≡ Go count at size (length (undoneFile (take len (now buf)) (take used (now jrn)))) r)) ⌝ }
+    requires { ⌜ ((profile : ℕ) × (undoPlan profile (now buf) len (now jrn) used ≡ Go count at size
+        (length (undoneFile (take len (now buf)) (take used (now jrn)))) r)) ⌝ }
     ensures { λ _. ⌜ now (buf .exit) ≡ written (now (buf .entry)) len (undoneFile (take len (now (buf .entry))) (take used (now (jrn .entry)))) ⌝ }
 {
     let kind = r.kind;

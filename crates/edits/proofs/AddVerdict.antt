@@ -28,11 +28,13 @@ unfolding _then_
 then-end accept = refl
 then-end (refuse k p) = refl
 
-second-append : (at : ℕ) (cs : List Chunk) (c : Chunk) → secondIndex at (cs ++ (c ∷ [])) ≡ secondIndex at cs then check (not (eqb (c .type) RIdx)) 9 (at + total cs)
+second-append : (at : ℕ) (cs : List Chunk) (c : Chunk) → secondIndex at (cs ++ (c ∷ [])) ≡ secondIndex at cs then check (not (eqb (c .type) RIdx)) 9
+    (at + total cs)
 unfolding secondIndex total
 second-append at [] c = rw (add-zero at) (then-end _ ∙ sym (accepts accept _ refl))
 second-append at (x ∷ cs) c =
-    rw (second-append (at + size x) cs c) (sym (then-assoc _ _ _) ∙ ap (λ (k : ℕ). (check (not (eqb (x .type) RIdx)) 9 at then secondIndex (at + size x) cs) then check (not (eqb (c .type) RIdx)) 9 k) e)
+    rw (second-append (at + size x) cs c) (sym (then-assoc _ _ _) ∙ ap (λ (k : ℕ). (check (not (eqb (x .type) RIdx)) 9 at then secondIndex (at + size x) cs)
+    then check (not (eqb (c .type) RIdx)) 9 k) e)
   where
     e : at + size x + total cs ≡ at + (size x + total cs)
     e = omega arith
@@ -44,27 +46,36 @@ second-any at at′ (c ∷ cs) h = let p = then-accept _ _ h in pass _ _ _ _ (ch
 
 module _ (R : Rules) where
   refs-append : (cs : List Chunk) (earlier : List Ref) (p : ℕ) (rs : List Ref) (r : Ref)
-      → refsFault R cs earlier p (rs ++ (r ∷ [])) ≡ refsFault R cs earlier p rs then (check (knownUsage (r .usage)) 12 (p + 12 * length rs) then refFault R cs (earlier ++ rs) (p + 12 * length rs) r)
+      → refsFault R cs earlier p (rs ++ (r ∷ [])) ≡ refsFault R cs earlier p rs then (check (knownUsage (r .usage)) 12 (p + 12 * length rs) then refFault R
+      cs (earlier ++ rs) (p + 12 * length rs) r)
   unfolding refsFault
   refs-append cs earlier p [] r =
-      rw (append-nil earlier) (ap (λ (v : Verdict). check (knownUsage (r .usage)) 12 p then v) (then-end _) ∙ ap (λ (k : ℕ). check (knownUsage (r .usage)) 12 k then refFault R cs earlier k r) e ∙ sym (accepts accept _ refl))
+      rw (append-nil earlier) (ap (λ (v : Verdict). check (knownUsage (r .usage)) 12 p then v) (then-end _)
+      ∙ ap (λ (k : ℕ). check (knownUsage (r .usage)) 12 k then refFault R cs earlier k r) e ∙ sym (accepts accept _ refl))
     where
       e : p ≡ p + 12 * length {A = Ref} []
       e = omega arith
   refs-append cs earlier p (x ∷ rs) r =
       let e : p + 12 + 12 * length rs ≡ p + 12 * suc (length rs) = omega arith in
-      rw (refs-append cs (earlier ++ (x ∷ [])) (p + 12) rs r, append-snoc earlier x rs, e) (sym (ap (λ (v : Verdict). v) (then-assoc _ _ _ ∙ ap (λ (v : Verdict). check (knownUsage (x .usage)) 12 p then v) (then-assoc _ _ _))))
+      rw (refs-append cs (earlier ++ (x ∷ [])) (p + 12) rs r, append-snoc earlier x rs, e)
+      (sym (ap (λ (v : Verdict). v) (then-assoc _ _ _ ∙ ap (λ (v : Verdict). check (knownUsage (x .usage)) 12 p then v) (then-assoc _ _ _))))
 
-  refs-more : (cs : List Chunk) (c : Chunk) (earlier : List Ref) (p : ℕ) (rs : List Ref) → All (RefOk (length cs)) rs → refsFault R (cs ++ (c ∷ [])) earlier p rs ≡ refsFault R cs earlier p rs
+  refs-more : (cs : List Chunk) (c : Chunk) (earlier : List Ref) (p : ℕ) (rs : List Ref) → All (RefOk (length cs)) rs → refsFault R (cs ++ (c ∷ [])) earlier
+      p rs ≡ refsFault R cs earlier p rs
   unfolding refsFault refFault
   refs-more cs c earlier p [] ok = refl
-  refs-more cs c earlier p (r ∷ rs) ok = rw (refs-more cs c (earlier ++ (r ∷ [])) (p + 12) rs (ok .1), List·getD-append cs (c ∷ []) noChunk (r .chunk) (ok .0 .chunk-there))
+  refs-more cs c earlier p (r ∷ rs) ok = rw (
+    refs-more cs c (earlier ++ (r ∷ [])) (p + 12) rs (ok .1),
+    List·getD-append cs (c ∷ []) noChunk (r .chunk)
+        (ok .0 .chunk-there),
+  )
 
   pub added-verdict : (m : Model) (u n : ℕ) (c : Chunk) → Sound m → modelFault R m ≡ accept
       → modelFault R (added m u n c)
       ≡ check (not (eqb (c .type) RIdx)) 9 (base (suc (length (m .refs))) + total (m .chunks))
       then check (leb (suc (length (m .refs))) 4096) 11 20
-      then (check (knownUsage u) 12 (24 + 12 * length (m .refs)) then refFault R (m .chunks ++ (c ∷ [])) (m .refs) (24 + 12 * length (m .refs)) (record { usage = u; number = n; chunk = length (m .chunks) }))
+      then (check (knownUsage u) 12 (24 + 12 * length (m .refs)) then refFault R (m .chunks ++ (c ∷ [])) (m .refs) (24 + 12 * length (m .refs))
+      (record { usage = u; number = n; chunk = length (m .chunks) }))
       then R .rule7 (base (suc (length (m .refs)))) (m .refs ++ (record { usage = u; number = n; chunk = length (m .chunks) } ∷ [])) (m .chunks ++ (c ∷ []))
   unfolding modelFault added
   added-verdict m u n c s h =

@@ -12,7 +12,36 @@ use Rattle.edits.specs.Edit.{Edit}
 use Rattle.edits.specs.Journal.{lastRec}
 use Rattle.blorb.specs.All.{All}
 use Rattle.blorb.proofs.AllLaws.{all-take}
-use Rattle.edits.specs.Run.{ArgsOk, State, Call, edit, undo, editedFile, editRecord, undoneFile, editFault, undoFault, answered, afterEdit, afterUndo, fault, after, step, run, answers, ledgerFile, ledgerRecords, ledgerUsed, ledgerFault, kept, ledgerAfter, ledgerStep, ledgerRun, ledgerAnswers, CallOk}
+use Rattle.edits.specs.Run.{
+  ArgsOk,
+  State,
+  Call,
+  edit,
+  undo,
+  editedFile,
+  editRecord,
+  undoneFile,
+  editFault,
+  undoFault,
+  answered,
+  afterEdit,
+  afterUndo,
+  fault,
+  after,
+  step,
+  run,
+  answers,
+  ledgerFile,
+  ledgerRecords,
+  ledgerUsed,
+  ledgerFault,
+  kept,
+  ledgerAfter,
+  ledgerStep,
+  ledgerRun,
+  ledgerAnswers,
+  CallOk,
+}
 use Rattle.blorb.specs.Bytes.{Byte}
 use Rattle.blorb.proofs.Accept.{accept-back}
 use Rattle.blorb.proofs.Checks.{pass, stop, holds-last, accepts, both-true}
@@ -93,12 +122,14 @@ module _ (R : Rules) (f₀ : List ℕ) (N J : ℕ) (known : R .known ≡ true) w
       let f : List ℕ = editedFile (ledgerFile f₀ es) e in
       let r : List ℕ = editRecord (ledgerFile f₀ es) e in
       record {
-        buffer-length = rw (m .file-is) (length-written (s .buffer) (s .L) f (omega (arith, m .L-is, m .buffer-length, h .room)) (omega (arith, m .buffer-length, d .room)) ∙ m .buffer-length);
+        buffer-length = rw (m .file-is) (length-written (s .buffer) (s .L) f (omega (arith, m .L-is, m .buffer-length, h .room))
+            (omega (arith, m .buffer-length, d .room)) ∙ m .buffer-length);
         journal-length = rw (m .file-is) (length-noted (s .journal) (s .U) r (omega (arith, m .U-is, m .journal-length, d .journal-room)) ∙ m .journal-length);
         L-is = rw (m .file-is);
         U-is = rw (m .file-is, m .U-is) refl;
         file-is = rw (m .file-is) (take-written (s .buffer) (s .L) f);
-        records-are = rw (m .file-is) (take-noted (s .journal) (s .U) r (omega (arith, m .U-is, m .journal-length, d .journal-room)) ∙ cong (λ (p : List ℕ). p ++ r) (m .records-are));
+        records-are = rw (m .file-is) (take-noted (s .journal) (s .U) r (omega (arith, m .U-is, m .journal-length, d .journal-room))
+            ∙ cong (λ (p : List ℕ). p ++ r) (m .records-are));
       }
 
   undo-match : (s : State) (es : List Edit) (e : Edit) → Valid (e ∷ es) → Match s (e ∷ es) → Match (afterUndo s) es
@@ -114,12 +145,14 @@ module _ (R : Rules) (f₀ : List ℕ) (N J : ℕ) (known : R .known ≡ true) w
       let less : s .U - (29 + length (lastRec (take (s .U) (s .journal)) .body)) ≡ ledgerUsed f₀ es
       = rw (m .records-are, m .U-is, d .size p) (omega arith) in
       record {
-        buffer-length = rw back (length-written (s .buffer) (s .L) f (omega (arith, m .L-is, m .buffer-length, d .room)) (omega (arith, m .buffer-length, h .room)) ∙ m .buffer-length);
+        buffer-length = rw back (length-written (s .buffer) (s .L) f (omega (arith, m .L-is, m .buffer-length, d .room))
+            (omega (arith, m .buffer-length, h .room)) ∙ m .buffer-length);
         journal-length = m .journal-length;
         L-is = rw back;
         U-is = less;
         file-is = rw back (take-written (s .buffer) (s .L) f);
-        records-are = rw (less, up) (sym (take-take (length p) (s .U) (s .journal) (omega (arith, m .U-is))) ∙ cong (take (length p)) (m .records-are) ∙ take-append-seam p r);
+        records-are = rw (less, up) (sym (take-take (length p) (s .U) (s .journal) (omega (arith, m .U-is))) ∙ cong (take (length p)) (m .records-are)
+            ∙ take-append-seam p r);
       }
 
   -- a call keeps the two together
@@ -131,7 +164,8 @@ module _ (R : Rules) (f₀ : List ℕ) (N J : ℕ) (known : R .known ≡ true) w
   unfolding step ledgerStep after ledgerAfter ledgerFault
   step-both s es c ok b = rw (fault-is s es c (b .valid) (b .match)) (go es c ok b (ledgerFault R f₀ N J es c) refl)
     where
-      go : (es : List Edit) (c : Call) → CallOk c → Both s es → (v : Verdict) → ledgerFault R f₀ N J es c ≡ v → Both (answered v s (after s c)) (kept v es (ledgerAfter es c))
+      go : (es : List Edit) (c : Call) → CallOk c → Both s es → (v : Verdict) → ledgerFault R f₀ N J es c ≡ v → Both (answered v s (after s c))
+          (kept v es (ledgerAfter es c))
       go es c ok b (refuse k p) e = b
       go es (edit d) ok b accept e =
           let v : Valid (d ∷ es) = (b .valid, ok, sym (pass _ _ _ _ known) ∙ e) in record { valid = v; match = edit-match s es d v (b .match) }

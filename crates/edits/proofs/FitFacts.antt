@@ -59,7 +59,8 @@ module _ (m : Model) (k : ℕ) (h : k < length (m .chunks)) where
   unfolding start startOf
   last-ends e = last-total (m .chunks) k h (omega (arith, length-file m))
 
--- kind 1, L being the file's length and i the place that the reader gives for the record's pair: there is such an entry, it has the record's place, it is the last one,
+-- kind 1, L being the file's length and i the place that the reader gives for the record's pair: there is such an entry, it has the record's place, it is the
+-- last one,
 -- and its chunk, which no other entry has, ends where the file ends
 abbrev pub told1 : Rec → Model → ℕ → ℕ → Bool
 told1 r m L i =
@@ -83,7 +84,11 @@ module _ (profile : ℕ) (r : Rec) (m : Model) (s : Sound m) (ok : modelFault (r
   at = find (r .usage) (r .number) (m .refs)
 
   pair-is : at < length (m .refs) → hasPair r (refAt m at) ≡ true
-  pair-is h = let p = find-pair (r .usage) (r .number) (m .refs) h in rw (eq-eqb (refAt m at .usage) (r .usage) (p .0), eq-eqb (refAt m at .number) (r .number) (p .1))
+  pair-is h = let p = find-pair (r .usage) (r .number) (m .refs) h in rw (
+    eq-eqb (refAt m at .usage) (r .usage) (p .0),
+    eq-eqb (refAt m at .number)
+        (r .number) (p .1),
+  )
 
   fits1-tells : fits1 r m ≡ true → told1 r m (length (file m)) at ≡ true
   fits1-tells fit =
@@ -93,7 +98,13 @@ module _ (profile : ℕ) (r : Rec) (m : Model) (s : Sound m) (ok : modelFault (r
       let e : start m k + (8 + (length (chunkAt m k .body) + length (chunkAt m k .body) % 2)) ≡ length (file m)
       = ap (λ (z : ℕ). start m k + z) (sym (size-is (chunkAt m k))) ∙ ends-last m k (chunk-in m (r .place) s l) (f .last) in
       ap (told1 r m (length (file m))) (found-at profile r m ok l (f .usage-is) (f .number-is))
-      ∙ rw (lt-ltb (r .place) (length (m .refs)) l, eq-eqb (r .place) (r .place) refl, eq-eqb (length (m .refs)) (r .place + 1) (omega (arith, f .count)), eq-eqb _ _ e, f .alone)
+      ∙ rw (
+        lt-ltb (r .place) (length (m .refs)) l,
+        eq-eqb (r .place) (r .place) refl,
+        eq-eqb (length (m .refs)) (r .place + 1) (omega (arith, f .count)),
+        eq-eqb _ _ e,
+        f .alone,
+      )
 
   told1-fits : told1 r m (length (file m)) at ≡ true → fits1 r m ≡ true
   unfolding fits1
@@ -107,7 +118,8 @@ module _ (profile : ℕ) (r : Rec) (m : Model) (s : Sound m) (ok : modelFault (r
       let l : at < length (m .refs) = ltb-true at (length (m .refs)) (a .0) in
       let n : length (m .refs) ≡ suc (r .place) = omega (arith, eqb-true (length (m .refs)) (r .place + 1) (c .0)) in
       let e : suc k ≡ length (m .chunks) = last-ends m k (chunk-in m at s l) (ap (λ (z : ℕ). start m k + z) (size-is (chunkAt m k)) ∙ eqb-true _ _ (d .0)) in
-      ap (λ (i : ℕ). eqb (length (m .refs)) (suc (r .place)) && hasPair r (refAt m i) && eqb (suc (refAt m i .chunk)) (length (m .chunks)) && not (shared m i)) (sym (eqb-true at (r .place) (b .0)))
+      ap (λ (i : ℕ). eqb (length (m .refs)) (suc (r .place)) && hasPair r (refAt m i) && eqb (suc (refAt m i .chunk)) (length (m .chunks)) && not
+      (shared m i)) (sym (eqb-true at (r .place) (b .0)))
       ∙ rw (eq-eqb (length (m .refs)) (suc (r .place)) n, pair-is l, eq-eqb (suc k) (length (m .chunks)) e, d .1)
 
   pub fits1-told : fits1 r m ≡ told1 r m (length (file m)) (find (r .usage) (r .number) (m .refs))
@@ -118,7 +130,13 @@ module _ (profile : ℕ) (r : Rec) (m : Model) (s : Sound m) (ok : modelFault (r
     at-tells fit =
         let f = fits-at q r m fit in
         ap (toldAt q r m) (found-at profile r m ok (f .inside) (f .usage-is) (f .number-is))
-        ∙ rw (lt-ltb (r .place) (length (m .refs)) (f .inside), eq-eqb (r .place) (r .place) refl, eq-eqb (start m (refAt m (r .place) .chunk)) (r .start) (f .starts), f .holds)
+        ∙ rw (
+          lt-ltb (r .place) (length (m .refs)) (f .inside),
+          eq-eqb (r .place) (r .place) refl,
+          eq-eqb (start m (refAt m (r .place) .chunk)) (r .start)
+              (f .starts),
+          f .holds,
+        )
 
     told-at : toldAt q r m at ≡ true → fitsAt q r m ≡ true
     told-at h =
@@ -127,7 +145,8 @@ module _ (profile : ℕ) (r : Rec) (m : Model) (s : Sound m) (ok : modelFault (r
         let b = and-parts (eqb at (r .place)) (eqb (start m k) (r .start) && q at) (a .1) in
         let d = and-parts (eqb (start m k) (r .start)) (q at) (b .1) in
         let l : at < length (m .refs) = ltb-true at (length (m .refs)) (a .0) in
-        ap (λ (i : ℕ). ltb i (length (m .refs)) && hasPair r (refAt m i) && eqb (start m (refAt m i .chunk)) (r .start) && q i) (sym (eqb-true at (r .place) (b .0)))
+        ap (λ (i : ℕ). ltb i (length (m .refs)) && hasPair r (refAt m i) && eqb (start m (refAt m i .chunk)) (r .start) && q i)
+        (sym (eqb-true at (r .place) (b .0)))
         ∙ rw (a .0, pair-is l, d .0, d .1)
 
     fitsAt-told : fitsAt q r m ≡ toldAt q r m at
@@ -186,15 +205,18 @@ module _ (r : Rec) (m : Model) where
   pub fits3-in : fits3 r m ≡ true → GoesIn
   unfolding fits3
   fits3-in fit =
-      let a = and-parts (leb (r .place) (length (m .refs))) (isStart back (base (length (m .refs))) (m .chunks) || eqb back (start m (length (m .chunks)))) fit in
+      let a = and-parts (leb (r .place) (length (m .refs))) (isStart back (base (length (m .refs))) (m .chunks) || eqb back (start m (length (m .chunks))))
+      fit in
       go (isStart back (base (length (m .refs))) (m .chunks)) refl (leb-true _ _ (a .0)) (a .1)
     where
-      go : (b : Bool) → isStart back (base (length (m .refs))) (m .chunks) ≡ b → r .place ≤ length (m .refs) → b || eqb back (start m (length (m .chunks))) ≡ true → GoesIn
+      go : (b : Bool) → isStart back (base (length (m .refs))) (m .chunks) ≡ b → r .place ≤ length (m .refs) → b || eqb back (start m (length (m .chunks))) ≡
+          true → GoesIn
       go true e p h = begin-in p e
       go false e p h =
           let x : back ≡ start m (length (m .chunks)) = eqb-true back (start m (length (m .chunks))) h in
           let y : oldPlace r m ≡ length (m .chunks)
-          = ap (λ (z : ℕ). placeOf z (base (length (m .refs))) (m .chunks)) x ∙ (unfold start in placeOf-startOf (base (length (m .refs))) (m .chunks) (length (m .chunks)) (omega arith)) in
+          = ap (λ (z : ℕ). placeOf z (base (length (m .refs))) (m .chunks)) x ∙ (unfold start in placeOf-startOf (base (length (m .refs))) (m .chunks)
+          (length (m .chunks)) (omega arith)) in
           goes-in p (omega arith) (ap (start m) y ∙ sym x)
 
   pub fits4-in : fits4 r m ≡ true → GoesIn

@@ -11,7 +11,26 @@ use lib.Dec.{eqb, ltb}
 use borrow.Author.Tests.{eq-eqb, ne-eqb, eqb-true, eqb-false, ltb-true, ltb-false, le-leb, lt-ltb}
 use Rattle.blorb.specs.Format.{Ref, Chunk, isStart}
 use Rattle.blorb.specs.Model.{Model, base, startOf}
-use Rattle.edits.specs.Edit.{Edit, add, replace, remove, link, with-at, linkPlace, linked, entered, anyUpTo, lower, added, replaced, removed, removedBoth, removedEntry, edited, givenChunk}
+use Rattle.edits.specs.Edit.{
+  Edit,
+  add,
+  replace,
+  remove,
+  link,
+  with-at,
+  linkPlace,
+  linked,
+  entered,
+  anyUpTo,
+  lower,
+  added,
+  replaced,
+  removed,
+  removedBoth,
+  removedEntry,
+  edited,
+  givenChunk,
+}
 use Rattle.blorb.specs.Queries.{find, uses, shared, refAt, noRef, chunkAt, without, start}
 use Rattle.edits.specs.Journal.{Rec, removal, recOf, undo2, undo5, undone, fits, fits1, fits2, fits3, fits4, fits5}
 use Rattle.blorb.specs.All.{All}
@@ -20,7 +39,17 @@ use Rattle.blorb.specs.Sound.{W, RefOk, ChunkOk, Sound}
 use Rattle.edits.specs.Run.{ArgsOk}
 use Rattle.edits.proofs.Applies.{Applies}
 use Rattle.blorb.proofs.Places.{isStart-startOf}
-use Rattle.edits.proofs.UndoLaws.{undo-add, undo-replace, undo-remove, undo-remove-entry, entry-start, length-without, length-remaining, remove-start, or-false}
+use Rattle.edits.proofs.UndoLaws.{
+  undo-add,
+  undo-replace,
+  undo-remove,
+  undo-remove-entry,
+  entry-start,
+  length-without,
+  length-remaining,
+  remove-start,
+  or-false,
+}
 
 -- the entry that find gives is the one sought
 pub find-pair : (u n : ℕ) (rs : List Ref) → find u n rs < length rs → (getD rs (find u n rs) noRef .usage ≡ u) × (getD rs (find u n rs) noRef .number ≡ n)
@@ -73,8 +102,10 @@ pub start-replaced : (m : Model) (k : ℕ) (c : Chunk) → start (replaced m k c
 unfolding start startOf replaced
 start-replaced m k c = rw (take-set-le k (m .chunks) k c (omega arith))
 
-fit-replace : (m : Model) (u n i : ℕ) (c : Chunk) (t : ℕ) (b : List ℕ) → i < length (m .refs) → refAt m i .usage ≡ u → refAt m i .number ≡ n → shared m i ≡ false
-    → fits2 (record { kind = 2; usage = u; number = n; place = i; start = start m (refAt m i .chunk); type = t; body = b }) (replaced m (refAt m i .chunk) c) ≡ true
+fit-replace : (m : Model) (u n i : ℕ) (c : Chunk) (t : ℕ) (b : List ℕ) → i < length (m .refs) → refAt m i .usage ≡ u → refAt m i .number ≡ n
+    → shared m i ≡ false
+    → fits2 (record { kind = 2; usage = u; number = n; place = i; start = start m (refAt m i .chunk); type = t; body = b }) (replaced m (refAt m i .chunk) c)
+    ≡ true
 unfolding fits2 shared replaced
 fit-replace m u n i c t b h p q alone =
     rw (
@@ -90,7 +121,8 @@ old-fits : (at : ℕ) (cs : List Chunk) (k : ℕ) → k ≤ length cs → (isSta
 old-fits at cs k h = go (eqb k (length cs)) refl
   where
     go : (b : Bool) → eqb k (length cs) ≡ b → (isStart (startOf at cs k) at cs || eqb (startOf at cs k) (startOf at cs (length cs))) ≡ true
-    go true e = rw (eqb-true k (length cs) e, eq-eqb (startOf at cs (length cs)) (startOf at cs (length cs)) refl) (or-true (isStart (startOf at cs (length cs)) at cs))
+    go true e = rw (eqb-true k (length cs) e, eq-eqb (startOf at cs (length cs)) (startOf at cs (length cs)) refl)
+        (or-true (isStart (startOf at cs (length cs)) at cs))
     go false e = rw (isStart-startOf at cs k (omega (arith, eqb-false k (length cs) e)))
 
 fit-remove : (m : Model) (i u n : ℕ) → i < length (m .refs) → refAt m i .chunk < length (m .chunks)
@@ -98,7 +130,8 @@ fit-remove : (m : Model) (i u n : ℕ) → i < length (m .refs) → refAt m i .c
 unfolding fits3 removal removedBoth start
 fit-remove m i u n h valid =
     rw (le-leb i (length (removedBoth m i (refAt m i .chunk) .refs)) (omega (arith, length-remaining m i (refAt m i .chunk) h)))
-    (rw (remove-start m i h valid) (old-fits (base (length (removedBoth m i (refAt m i .chunk) .refs))) (without (refAt m i .chunk) (m .chunks)) (refAt m i .chunk) (omega (arith, length-without (refAt m i .chunk) (m .chunks) valid))))
+    (rw (remove-start m i h valid) (old-fits (base (length (removedBoth m i (refAt m i .chunk) .refs))) (without (refAt m i .chunk) (m .chunks))
+    (refAt m i .chunk) (omega (arith, length-without (refAt m i .chunk) (m .chunks) valid))))
 
 fit-remove-entry : (m : Model) (i u n : ℕ) → i < length (m .refs) → refAt m i .chunk < length (m .chunks)
     → fits4 (removal true m u n i) (removedEntry m i) ≡ true
@@ -222,7 +255,8 @@ pub unlisted-sound : (m : Model) (i : ℕ) → Sound m → Sound (removedEntry m
 unfolding removedEntry
 unlisted-sound m i s = record { refs-ok = all-without (RefOk (length (m .chunks))) i (m .refs) (s .refs-ok); chunks-ok = s .chunks-ok }
 
-sound-removed : (m : Model) (i : ℕ) (b : Bool) → shared m i ≡ b → Sound m → i < length (m .refs) → Sound (cond b (removedEntry m i) (removedBoth m i (refAt m i .chunk)))
+sound-removed : (m : Model) (i : ℕ) (b : Bool) → shared m i ≡ b → Sound m → i < length (m .refs)
+    → Sound (cond b (removedEntry m i) (removedBoth m i (refAt m i .chunk)))
 unfolding removedBoth shared
 sound-removed m i true e s h = unlisted-sound m i s
 sound-removed m i false e s h =

@@ -103,7 +103,11 @@ unfolding typeIn
 one-type t c = or-none (eqb (c .type) t)
 
 kinds-keep : (e e′ : List Chunk) (c : Chunk) → Kinds e e′ → Kinds (e ++ (c ∷ [])) (e′ ++ (c ∷ []))
-kinds-keep e e′ c k = record { release = rw (type-append RelN e′ (c ∷ []), type-append RelN e (c ∷ []), k .release); front = rw (type-append Fspc e′ (c ∷ []), type-append Fspc e (c ∷ []), k .front) }
+kinds-keep e e′ c k = record {
+  release = rw (type-append RelN e′ (c ∷ []), type-append RelN e (c ∷ []), k .release);
+  front =
+      rw (type-append Fspc e′ (c ∷ []), type-append Fspc e (c ∷ []), k .front);
+}
 
 kinds-out : (e e′ : List Chunk) (c : Chunk) → Plain c → Kinds e e′ → Kinds (e ++ (c ∷ [])) e′
 kinds-out e e′ c p k = record {
@@ -117,13 +121,15 @@ kinds-put e e′ c p k = record {
   front = rw (type-append Fspc e′ (c ∷ []), one-type Fspc c, p .no-front, or-none (typeIn Fspc e′)) (k .front);
 }
 
-single-again : (rs rs′ : List Ref) (all all′ : List Chunk) (t n : ℕ) (e e′ : List Chunk) (at at′ : ℕ) (c : Chunk) → typeIn t e′ ≡ typeIn t e → single rs all t n e at c ≡ accept → single rs′ all′ t n e′ at′ c ≡ accept
+single-again : (rs rs′ : List Ref) (all all′ : List Chunk) (t n : ℕ) (e e′ : List Chunk) (at at′ : ℕ) (c : Chunk) → typeIn t e′ ≡ typeIn t e
+    → single rs all t n e at c ≡ accept → single rs′ all′ t n e′ at′ c ≡ accept
 unfolding single
 single-again rs rs′ all all′ t n e e′ at at′ c q h =
     let a = then-accept _ _ h in
     pass _ _ _ _ (ap not q ∙ check-accept _ _ _ (a .0)) ∙ holds-last _ _ _ (check-accept _ _ _ (a .1))
 
-rule-front : (rs rs′ : List Ref) (all all′ : List Chunk) (e e′ : List Chunk) (at at′ : ℕ) (c : Chunk) → Kinds e e′ → chunkRule rs all e at c ≡ accept → chunkRule rs′ all′ e′ at′ c ≡ frontOne rs′ all′ at′ c
+rule-front : (rs rs′ : List Ref) (all all′ : List Chunk) (e e′ : List Chunk) (at at′ : ℕ) (c : Chunk) → Kinds e e′ → chunkRule rs all e at c ≡ accept
+    → chunkRule rs′ all′ e′ at′ c ≡ frontOne rs′ all′ at′ c
 unfolding chunkRule frontOne
 rule-front rs rs′ all all′ e e′ at at′ c k h =
     go (eqb (c .type) RelN) (eqb (c .type) Fspc) refl refl h
@@ -148,7 +154,8 @@ unfolding chunkRules frontFault
 rules-front rs rs′ all all′ e e′ at at′ none k h = refl
 rules-front rs rs′ all all′ e e′ at at′ (keep c l) k h =
     let q = then-accept _ _ h in
-    λ i. rule-front rs rs′ all all′ e e′ at at′ c k (q .0) i then rules-front rs rs′ all all′ (e ++ (c ∷ [])) (e′ ++ (c ∷ [])) (at + size c) (at′ + size c) l (kinds-keep e e′ c k) (q .1) i
+    λ i. rule-front rs rs′ all all′ e e′ at at′ c k (q .0) i then rules-front rs rs′ all all′ (e ++ (c ∷ [])) (e′ ++ (c ∷ [])) (at + size c) (at′ + size c) l
+    (kinds-keep e e′ c k) (q .1) i
 rules-front rs rs′ all all′ e e′ at at′ (out c p l) k h =
     rules-front rs rs′ all all′ (e ++ (c ∷ [])) e′ (at + size c) at′ l (kinds-out e e′ c p k) (then-accept _ _ h .1)
 rules-front rs rs′ all all′ e e′ at at′ (put c p l) k h =
@@ -184,8 +191,11 @@ pub once : (rs : List Ref) (all e : List Chunk) (at : ℕ) (cs : List Chunk) →
 unfolding chunkRules
 once rs all e at [] ok = tt
 once rs all e at (c ∷ cs) ok =
-    let q = then-accept _ _ ok in
-    ((λ x. no-second rs all (e ++ (c ∷ [])) (at + size c) cs (type-append Fspc e (c ∷ []) ∙ rw (one-type Fspc c, x) (or-true (typeIn Fspc e))) (q .1)), once rs all (e ++ (c ∷ [])) (at + size c) cs (q .1))
+    let q = then-accept _ _ ok in (
+      (λ x. no-second rs all (e ++ (c ∷ [])) (at + size c) cs (type-append Fspc e (c ∷ []) ∙ rw (one-type Fspc c, x) (or-true (typeIn Fspc e))) (q .1)),
+      once
+          rs all (e ++ (c ∷ [])) (at + size c) cs (q .1),
+    )
 
 pub like-type : {a b : List Chunk} → Like a b → typeIn Fspc b ≡ typeIn Fspc a
 unfolding typeIn
@@ -206,7 +216,8 @@ unfolding frontPlace
 like-front none = refl
 like-front {a = _} {b = _} (keep c {a} {b} l) = go (eqb (c .type) Fspc) (like-front l)
   where
-    go : (x : Bool) → getD b (frontPlace b) noChunk ≡ getD a (frontPlace a) noChunk → getD (c ∷ b) (cond x 0 (suc (frontPlace b))) noChunk ≡ getD (c ∷ a) (cond x 0 (suc (frontPlace a))) noChunk
+    go : (x : Bool) → getD b (frontPlace b) noChunk ≡ getD a (frontPlace a) noChunk → getD (c ∷ b) (cond x 0 (suc (frontPlace b))) noChunk ≡ getD (c ∷ a)
+        (cond x 0 (suc (frontPlace a))) noChunk
     go true h = refl
     go false h = h
 like-front (out c p l) = rw (p .no-front) (like-front l)
@@ -235,13 +246,16 @@ front-shape rs all at [] o = refl
 front-shape rs all at (c ∷ cs) o = go (eqb (c .type) Fspc) refl (o .0) (front-shape rs all (at + size c) cs (o .1))
   where
     go : (b : Bool) → eqb (c .type) Fspc ≡ b → (eqb (c .type) Fspc ≡ true → typeIn Fspc cs ≡ false)
-        → frontFault rs all (at + size c) cs ≡ cond (typeIn Fspc cs) (check (picture (frontNumber cs) all rs) 19 (startOf (at + size c) cs (frontPlace cs) + 8)) accept
+        → frontFault rs all (at + size c) cs ≡ cond (typeIn Fspc cs) (check (picture (frontNumber cs) all rs) 19 (startOf (at + size c) cs (frontPlace cs) +
+        8)) accept
         → cond b (check (picture (rd32 (c .body)) all rs) 19 (at + 8)) accept then frontFault rs all (at + size c) cs
-        ≡ cond (b || typeIn Fspc cs) (check (picture (rd32 (getD (c ∷ cs) (cond b 0 (suc (frontPlace cs))) noChunk .body)) all rs) 19 (startOf at (c ∷ cs) (cond b 0 (suc (frontPlace cs))) + 8)) accept
+        ≡ cond (b || typeIn Fspc cs) (check (picture (rd32 (getD (c ∷ cs) (cond b 0 (suc (frontPlace cs))) noChunk .body)) all rs) 19
+        (startOf at (c ∷ cs) (cond b 0 (suc (frontPlace cs))) + 8)) accept
     go true e f ih =
         ap (λ (v : Verdict). check (picture (rd32 (c .body)) all rs) 19 (at + 8) then v) (front-none rs all (at + size c) cs (f e)) ∙ then-end _
         ∙ ap (λ (p : ℕ). check (picture (rd32 (c .body)) all rs) 19 (p + 8)) (first-start at (c ∷ cs))
-    go false e f ih = accepts accept _ refl ∙ ih ∙ ap (λ (p : ℕ). cond (typeIn Fspc cs) (check (picture (frontNumber cs) all rs) 19 (p + 8)) accept) (next-start at c cs (frontPlace cs))
+    go false e f ih = accepts accept _ refl ∙ ih ∙ ap (λ (p : ℕ). cond (typeIn Fspc cs) (check (picture (frontNumber cs) all rs) 19 (p + 8)) accept)
+        (next-start at c cs (frontPlace cs))
 
 -- RULE 7 AFTER AN EDIT: 17 and 18 can't hold; 19 holds just where the frontispiece's picture is not there, at the place of the frontispiece in the new file
 pub optional-like : (at at′ : ℕ) (rs rs′ : List Ref) (a b : List Chunk) → Like a b → optional at rs a ≡ accept
@@ -260,7 +274,8 @@ front-picture at rs cs h e =
 
 -- ---- the frontispiece's picture
 -- no pair stands twice
-pub pairs-once : (R : Rules) (cs : List Chunk) (e : List Ref) (p : ℕ) (rs : List Ref) (u n : ℕ) → pairIn u n e ≡ true → refsFault R cs e p rs ≡ accept → pairIn u n rs ≡ false
+pub pairs-once : (R : Rules) (cs : List Chunk) (e : List Ref) (p : ℕ) (rs : List Ref) (u n : ℕ) → pairIn u n e ≡ true → refsFault R cs e p rs ≡ accept
+    → pairIn u n rs ≡ false
 unfolding refsFault pairIn refFault
 pairs-once R cs e p [] u n h ok = refl
 pairs-once R cs e p (r ∷ rs) u n h ok =
@@ -270,7 +285,8 @@ pairs-once R cs e p (r ∷ rs) u n h ok =
     let no16 : pairIn (r .usage) (r .number) e ≡ false = not-true _ (check-accept _ _ _ (d .1)) in
     rw (head (eqb (r .usage) u) (eqb (r .number) n) refl refl no16) (pairs-once R cs (e ++ (r ∷ [])) (p + 12) rs u n (pair-left u n e (r ∷ []) h) (b .1))
   where
-    head : (x y : Bool) → eqb (r .usage) u ≡ x → eqb (r .number) n ≡ y → pairIn (r .usage) (r .number) e ≡ false → (eqb (r .usage) u && eqb (r .number) n) ≡ false
+    head : (x y : Bool) → eqb (r .usage) u ≡ x → eqb (r .number) n ≡ y → pairIn (r .usage) (r .number) e ≡ false → (eqb (r .usage) u && eqb (r .number) n) ≡
+        false
     head true true p q bad = let z : true ≡ false = sym h ∙ (λ i. pairIn (sym (eqb-true (r .usage) u p) i) (sym (eqb-true (r .number) n q) i) e) ∙ bad in cc
     head false y p q bad = rw p
     head true false p q bad = rw (p, q)
@@ -285,7 +301,8 @@ picture-none q cs (r ∷ rs) h =
 abbrev pub pictureAt : ℕ → List Chunk → List Ref → Bool
 pictureAt q cs rs = ltb (find Pict q rs) (length rs) && not (eqb (getD cs (getD rs (find Pict q rs) noRef .chunk) noChunk .type) Rect)
 
-pub picture-find : (R : Rules) (cs cs′ : List Chunk) (e : List Ref) (p : ℕ) (rs : List Ref) (q : ℕ) → refsFault R cs e p rs ≡ accept → picture q cs′ rs ≡ pictureAt q cs′ rs
+pub picture-find : (R : Rules) (cs cs′ : List Chunk) (e : List Ref) (p : ℕ) (rs : List Ref) (q : ℕ) → refsFault R cs e p rs ≡ accept
+    → picture q cs′ rs ≡ pictureAt q cs′ rs
 unfolding picture find refsFault
 picture-find R cs cs′ e p [] q ok = refl
 picture-find R cs cs′ e p (r ∷ rs) q ok =
@@ -295,9 +312,11 @@ picture-find R cs cs′ e p (r ∷ rs) q ok =
     (picture-find R cs cs′ (e ++ (r ∷ [])) (p + 12) rs q (b .1))
   where
     go : (b : Bool) → (eqb (r .usage) Pict && eqb (r .number) q) ≡ b → (b ≡ true → picture q cs′ rs ≡ false) → picture q cs′ rs ≡ pictureAt q cs′ rs
-        → (b && not (eqb (getD cs′ (r .chunk) noChunk .type) Rect)) || picture q cs′ rs ≡ ltb (cond b 0 (suc (find Pict q rs))) (suc (length rs)) && not (eqb (getD cs′ (getD (r ∷ rs) (cond b 0 (suc (find Pict q rs))) noRef .chunk) noChunk .type) Rect)
+        → (b && not (eqb (getD cs′ (r .chunk) noChunk .type) Rect)) || picture q cs′ rs ≡ ltb (cond b 0 (suc (find Pict q rs))) (suc (length rs)) && not
+        (eqb (getD cs′ (getD (r ∷ rs) (cond b 0 (suc (find Pict q rs))) noRef .chunk) noChunk .type) Rect)
     go true e f ih = rw (f refl, lt-ltb 0 (suc (length rs)) (omega arith)) (or-none (not (eqb (getD cs′ (r .chunk) noChunk .type) Rect)))
-    go false e f ih = ih ∙ ap (λ (b : Bool). b && not (eqb (getD cs′ (getD rs (find Pict q rs) noRef .chunk) noChunk .type) Rect)) (sym (ltb-suc (find Pict q rs) (length rs)))
+    go false e f ih = ih ∙ ap (λ (b : Bool). b && not (eqb (getD cs′ (getD rs (find Pict q rs) noRef .chunk) noChunk .type) Rect))
+        (sym (ltb-suc (find Pict q rs) (length rs)))
 
 uses-at : (k j : ℕ) (rs : List Ref) → uses k rs ≡ false → j < length rs → eqb (getD rs j noRef .chunk) k ≡ false
 unfolding uses
@@ -312,7 +331,8 @@ others-off k i j [] h l ne = absurd (not-suc-le-zero l)
 others-off k zero zero (r ∷ rs) h l ne = absurd (ne refl)
 others-off k zero (suc j) (r ∷ rs) h l ne = uses-at k j rs h (le-of-suc-le-suc l)
 others-off k (suc i) zero (r ∷ rs) h l ne = or-false (eqb (r .chunk) k) (uses k (take i rs ++ drop (suc i) rs)) h .0
-others-off k (suc i) (suc j) (r ∷ rs) h l ne = others-off k i j rs (or-false (eqb (r .chunk) k) (uses k (take i rs ++ drop (suc i) rs)) h .1) (le-of-suc-le-suc l) (λ e. ne (ap suc e))
+others-off k (suc i) (suc j) (r ∷ rs) h l ne = others-off k i j rs (or-false (eqb (r .chunk) k) (uses k (take i rs ++ drop (suc i) rs)) h .1)
+    (le-of-suc-le-suc l) (λ e. ne (ap suc e))
 
 and-split : (a b : Bool) → a && b ≡ true → (a ≡ true) × (b ≡ true)
 and-split true b h = (refl, h)
@@ -352,7 +372,11 @@ picture-replaced R cs rs u n q c ok found alone there old = go (eqb u Pict) (eqb
         let pj = find-pair Pict q rs lj in
         let pi = find-pair u n rs found in
         let off : eqb (getD rs j noRef .chunk) k ≡ false
-        = others-off k i j rs alone lj (λ e. ne (sym (pi .0) ∙ ap (λ (a : ℕ). getD rs a noRef .usage) (sym e) ∙ pj .0, sym (pi .1) ∙ ap (λ (a : ℕ). getD rs a noRef .number) (sym e) ∙ pj .1)) in
+        = others-off k i j rs alone lj (λ e. ne (
+          sym (pi .0) ∙ ap (λ (a : ℕ). getD rs a noRef .usage) (sym e) ∙ pj .0,
+          sym (pi .1)
+              ∙ ap (λ (a : ℕ). getD rs a noRef .number) (sym e) ∙ pj .1,
+        )) in
         picture-find R cs new [] 24 rs q ok
         ∙ rw (getD-set-other cs k (getD rs j noRef .chunk) c noChunk (eqb-false _ _ off), was .0, was .1)
 
@@ -363,7 +387,8 @@ picture-replaced R cs rs u n q c ok found alone there old = go (eqb u Pict) (eqb
 
 -- the whole of rule 7 for a replacement: 119 just where the frontispiece's picture becomes a 'Rect', at the frontispiece's place in the new file
 pub optional-replaced : (R : Rules) (at at′ : ℕ) (cs : List Chunk) (rs : List Ref) (u n : ℕ) (c : Chunk)
-    → refsFault R cs [] 24 rs ≡ accept → optional at rs cs ≡ accept → find u n rs < length rs → uses (getD rs (find u n rs) noRef .chunk) (without (find u n rs) rs) ≡ false
+    → refsFault R cs [] 24 rs ≡ accept → optional at rs cs ≡ accept → find u n rs < length rs → uses (getD rs (find u n rs) noRef .chunk)
+    (without (find u n rs) rs) ≡ false
     → getD rs (find u n rs) noRef .chunk < length cs → Plain (getD cs (getD rs (find u n rs) noRef .chunk) noChunk) → Plain c
     → optional at′ rs (set cs (getD rs (find u n rs) noRef .chunk) c)
     ≡ cond (typeIn Fspc cs)

@@ -10,7 +10,7 @@ use lib.Dec.{eqb, leb}
 use borrow.Author.Tests.{lt-ltb, le-ltb, leb-true, leb-false}
 use Rattle.blorb.specs.Format.{Ref, Chunk, size, total}
 use Rattle.blorb.specs.Tags.{RIdx, Pict, Exec, Rect, Fspc}
-use Rattle.blorb.specs.Verdict.{Rules, accept, noChunk, pairIn, refFault, secondIndex, knownUsage, verdict}
+use Rattle.blorb.specs.Verdict.{Rules, accept, noChunk, pairIn, refFault, secondIndex, knownUsage, verdict, accepted}
 use Rattle.blorb.specs.Rules.{allows, picture, typeIn, optional, rulesOf}
 use Rattle.blorb.specs.Model.{Model, base, file}
 use Rattle.blorb.specs.Queries.{find, frontNumber}
@@ -21,7 +21,6 @@ use Rattle.blorb.proofs.Checks.{then-accept, check-accept, pass}
 use Rattle.blorb.proofs.ModelLaws.{length-file}
 use Rattle.blorb.proofs.VerdictLaws.{refsFault, modelFault, inOrder}
 use Rattle.edits.specs.Edit.{with-at, raise, entered, inserted}
-use Rattle.edits.specs.Run.{accepted}
 use Rattle.edits.proofs.AddVerdict.{second-any}
 use Rattle.edits.proofs.Starts.{map-append}
 use Rattle.edits.proofs.FaultLaws.{pair-found}
@@ -84,7 +83,13 @@ refs-raise : (R : Rules) (cs : List Chunk) (k : ℕ) (c : Chunk) (earlier : List
 unfolding refsFault refFault
 refs-raise R cs k c earlier p [] h = refl
 refs-raise R cs k c earlier p (r ∷ rs) h =
-    rw (raised-chunk cs k c r h, pair-raise k (raise k r .usage) (raise k r .number) earlier, ← map-append (raise k) earlier (r ∷ []), refs-raise R cs k c (earlier ++ (r ∷ [])) (p + 12) rs h)
+    rw (
+      raised-chunk cs k c r h,
+      pair-raise k (raise k r .usage) (raise k r .number) earlier,
+      ← map-append (raise k) earlier (r ∷ []),
+      refs-raise R cs k c
+          (earlier ++ (r ∷ [])) (p + 12) rs h,
+    )
     (unfold raise in refl)
 
 picture-raise : (q : ℕ) (cs : List Chunk) (k : ℕ) (c : Chunk) (rs : List Ref) → k ≤ length cs → picture q (with-at k c cs) (map (raise k) rs) ≡ picture q cs rs
@@ -102,14 +107,16 @@ picture-with q cs zero x rs h = later (eqb (x .usage) Pict && eqb (x .number) q 
     later false b h = h
 picture-with q cs (suc i) x [] h = let z : _≡_ {A = ℕ} 0 1 = cc in absurd (omega arith)
 picture-with q cs (suc i) x (r ∷ rs) h =
-    go (eqb (r .usage) Pict && eqb (r .number) q && not (eqb (getD cs (r .chunk) noChunk .type) Rect)) (picture q cs rs) (picture q cs (take i rs ++ x ∷ drop i rs)) h (picture-with q cs i x rs)
+    go (eqb (r .usage) Pict && eqb (r .number) q && not (eqb (getD cs (r .chunk) noChunk .type) Rect)) (picture q cs rs)
+    (picture q cs (take i rs ++ x ∷ drop i rs)) h (picture-with q cs i x rs)
   where
     go : (a b b′ : Bool) → a || b ≡ true → (b ≡ true → b′ ≡ true) → a || b′ ≡ true
     go true b b′ h f = refl
     go false b b′ h f = f h
 
 -- a second index: only the new chunk can be one
-second-with : (at at′ : ℕ) (cs : List Chunk) (k : ℕ) (c : Chunk) → secondIndex at cs ≡ accept → accepted (secondIndex at′ (with-at k c cs)) ≡ not (eqb (c .type) RIdx)
+second-with : (at at′ : ℕ) (cs : List Chunk) (k : ℕ) (c : Chunk) → secondIndex at cs ≡ accept → accepted (secondIndex at′ (with-at k c cs)) ≡ not
+    (eqb (c .type) RIdx)
 unfolding secondIndex with-at
 second-with at at′ cs zero c ok =
     accepted-then _ _ ∙ rw (accepted-check (not (eqb (c .type) RIdx)) 9 at′, second-any at (at′ + size c) cs ok) (and-true (not (eqb (c .type) RIdx)))
@@ -123,7 +130,8 @@ abbrev pub entryTests : (profile : ℕ) → ℕ → ℕ → Chunk → List Ref �
 entryTests profile u n c rs = knownUsage u && (allows profile u c && ((not (eqb u Exec) || eqb n 0) && not (pairIn u n rs)))
 
 -- the last of them by the place that the reader gives for the pair
-pub entry-new : (profile u n : ℕ) (c : Chunk) (rs : List Ref) → length rs ≤ find u n rs → entryTests profile u n c rs ≡ (knownUsage u && (allows profile u c && (not (eqb u Exec) || eqb n 0)))
+pub entry-new : (profile u n : ℕ) (c : Chunk) (rs : List Ref) → length rs ≤ find u n rs → entryTests profile u n c
+    rs ≡ (knownUsage u && (allows profile u c && (not (eqb u Exec) || eqb n 0)))
 entry-new profile u n c rs h =
     let e : pairIn u n rs ≡ false = pair-found u n rs ∙ le-ltb (find u n rs) (length rs) h in
     rw (e, and-true (not (eqb u Exec) || eqb n 0))
@@ -144,7 +152,8 @@ entry-tests : (profile : ℕ) (cs : List Chunk) (i : ℕ) (x : Ref) (rs : List R
 unfolding pairIn
 entry-tests profile cs i x rs ok =
     refs-with (rulesOf profile) cs x [] 24 i rs ok
-    ∙ turn (knownUsage (x .usage)) (allows profile (x .usage) (getD cs (x .chunk) noChunk)) (not (eqb (x .usage) Exec) || eqb (x .number) 0) (not (pairIn (x .usage) (x .number) rs))
+    ∙ turn (knownUsage (x .usage)) (allows profile (x .usage) (getD cs (x .chunk) noChunk)) (not (eqb (x .usage) Exec) || eqb (x .number) 0)
+    (not (pairIn (x .usage) (x .number) rs))
   where
     turn : (a b c d : Bool) → (a && (b && c)) && d ≡ a && (b && (c && d))
     turn true true c d = refl
@@ -164,7 +173,8 @@ front-stays at at′ rs rs′ a b l h f =
     go true e = ap (λ (z : Bool). not (not z)) (f (front-picture at rs a h e))
 
 -- an entry put in at i
-module _ (profile : ℕ) (m : Model) (i k u n : ℕ) (s : Sound m) (ok : modelFault (rulesOf profile) m ≡ accept) (fits : RefOk (length (m .chunks)) (record { usage = u; number = n; chunk = k })) where
+module _ (profile : ℕ) (m : Model) (i k u n : ℕ) (s : Sound m) (ok : modelFault (rulesOf profile) m ≡ accept) (fits : RefOk (length (m .chunks))
+    (record { usage = u; number = n; chunk = k })) where
   abbrev new : Ref
   new = record { usage = u; number = n; chunk = k }
 
@@ -191,7 +201,8 @@ module _ (profile : ℕ) (m : Model) (i k u n : ℕ) (s : Sound m) (ok : modelFa
         length-with i new (m .refs),
         second-any at at′ (m .chunks) (p .no-second),
         entry-tests profile (m .chunks) i new (m .refs) (p .entries-fine),
-        front-stays at at′ (m .refs) rs′ (m .chunks) (m .chunks) (like-self (m .chunks)) (p .seven) (picture-with (frontNumber (m .chunks)) (m .chunks) i new (m .refs)),
+        front-stays at at′ (m .refs) rs′ (m .chunks) (m .chunks) (like-self (m .chunks)) (p .seven) (picture-with (frontNumber (m .chunks)) (m .chunks) i new
+            (m .refs)),
       )
       (ap (λ (b : Bool). inOrder 0 rs′ && (leb (length (file m) + 12) 16777216 && (leb (suc (length (m .refs))) 4096 && b)))
       (and-true (entryTests profile u n (getD (m .chunks) k noChunk) (m .refs))))
@@ -234,7 +245,8 @@ module _ (profile : ℕ) (m : Model) (i k u n : ℕ) (c : Chunk) (s : Sound m) (
 
   pub inserted-accepted : u < W → n < W → c .type < W → accepted (verdict (rulesOf profile) (file (inserted m i k u n c)))
       ≡ (inOrder 0 (inserted m i k u n c .refs)
-      && (leb (length (file m) + 12 + size c) 16777216 && (not (eqb (c .type) RIdx) && (leb (suc (length (m .refs))) 4096 && entryTests profile u n c (m .refs)))))
+      && (leb (length (file m) + 12 + size c) 16777216 && (not (eqb (c .type) RIdx) && (leb (suc (length (m .refs))) 4096 && entryTests profile u n c
+      (m .refs)))))
   unfolding inserted
   inserted-accepted hu hn ht =
       let p = model-parts profile m ok in

@@ -48,13 +48,19 @@ unfolding startOf base
 rose n cs k c j h = go (leb k j) refl
   where
     go : (b : Bool) → leb k j ≡ b
-        → 24 + 12 * suc n + total (take (cond b (suc j) j) (with-at k c cs)) ≡ risen (24 + 12 * n + total (take k cs)) (size c) (24 + 12 * n + total (take j cs))
+        → 24 + 12 * suc n + total (take (cond b (suc j) j) (with-at k c cs)) ≡ risen (24 + 12 * n + total (take k cs)) (size c)
+        (24 + 12 * n + total (take j cs))
     go true e =
         let le = leb-true k j e in
-        rw (le-leb (24 + 12 * n + total (take k cs)) (24 + 12 * n + total (take j cs)) (omega (arith, total-mono cs k j le))) (omega (arith, total-with cs k c j h le))
+        rw (le-leb (24 + 12 * n + total (take k cs)) (24 + 12 * n + total (take j cs)) (omega (arith, total-mono cs k j le)))
+        (omega (arith, total-with cs k c j h le))
     go false e =
         let lt = leb-false k j e in
-        rw (lt-leb (24 + 12 * n + total (take k cs)) (24 + 12 * n + total (take j cs)) (omega (arith, total-more cs j k (omega arith) lt, size-pos (getD cs j noChunk))), take-with cs k c j h (omega arith)) (omega arith)
+        rw (
+          lt-leb (24 + 12 * n + total (take k cs)) (24 + 12 * n + total (take j cs))
+              (omega (arith, total-more cs j k (omega arith) lt, size-pos (getD cs j noChunk))),
+          take-with cs k c j h (omega arith),
+        ) (omega arith)
 
 -- the new chunk itself starts where the next one did, 12 further
 rose-own : (n : ℕ) (cs : List Chunk) (k : ℕ) (c : Chunk) → k ≤ length cs → startOf (base (suc n)) (with-at k c cs) k ≡ startOf (base n) cs k + 12
@@ -72,7 +78,8 @@ place-inside s at (c ∷ cs) = go (eqb s at) (place-inside s (at + size c) cs)
 
 -- an entry and a chunk go in at places i and k: starts at or behind the chunk's place rise by 12 and the chunk's size, the others by 12
 pub starts-inserted : (m : Model) (i k u n : ℕ) (c : Chunk) → k ≤ length (m .chunks)
-    → entries (inserted m i k u n c) ≡ with-at i (record { usage = u; number = n; start = start m k + 12 }) (map (moved (risen (start m k) (size c))) (entries m))
+    → entries (inserted m i k u n c) ≡ with-at i (record { usage = u; number = n; start = start m k + 12 }) (map (moved (risen (start m k) (size c)))
+    (entries m))
 unfolding inserted start entryOf raise
 starts-inserted m i k u n c inside =
     let f : Ref → Entry = entryOf (base (suc N)) cs′ in
@@ -90,7 +97,8 @@ starts-inserted m i k u n c inside =
     cs′ : List Chunk
     cs′ = with-at k c (m .chunks)
 
-    all : (rs : List Ref) → map (entryOf (base (suc N)) cs′) (map (raise k) rs) ≡ map (moved (risen (startOf (base N) (m .chunks) k) (size c))) (map (entryOf (base N) (m .chunks)) rs)
+    all : (rs : List Ref) → map (entryOf (base (suc N)) cs′) (map (raise k) rs) ≡ map (moved (risen (startOf (base N) (m .chunks) k) (size c)))
+        (map (entryOf (base N) (m .chunks)) rs)
     all [] = refl
     all (y ∷ rs) = λ z. record { usage = y .usage; number = y .number; start = rose N (m .chunks) k c (y .chunk) inside z } ∷ all rs z
 
@@ -133,22 +141,27 @@ fit3 m r h = (leb-true (r .place) (length (m .refs)) (p .0), go (isStart (r .sta
     at : ℕ
     at = base (length (m .refs))
 
-    p : (leb (r .place) (length (m .refs)) ≡ true) × ((isStart (r .start - 12) (base (length (m .refs))) (m .chunks) || eqb (r .start - 12) (startOf (base (length (m .refs))) (m .chunks) (length (m .chunks)))) ≡ true)
-    p = fit-parts (leb (r .place) (length (m .refs))) (isStart (r .start - 12) (base (length (m .refs))) (m .chunks) || eqb (r .start - 12) (startOf (base (length (m .refs))) (m .chunks) (length (m .chunks)))) h
+    p : (leb (r .place) (length (m .refs)) ≡ true) × ((isStart (r .start - 12) (base (length (m .refs))) (m .chunks) || eqb (r .start - 12)
+        (startOf (base (length (m .refs))) (m .chunks) (length (m .chunks)))) ≡ true)
+    p = fit-parts (leb (r .place) (length (m .refs))) (isStart (r .start - 12) (base (length (m .refs))) (m .chunks) || eqb (r .start - 12)
+        (startOf (base (length (m .refs))) (m .chunks) (length (m .chunks)))) h
 
     back : startOf at (m .chunks) (oldPlace r m) ≡ r .start - 12 → r .start ≡ startOf at (m .chunks) (oldPlace r m) + 12
     back e = further (length (m .refs)) (m .chunks) (oldPlace r m) (r .start) e
 
-    go : (b : Bool) → isStart (r .start - 12) at (m .chunks) ≡ b → b || eqb (r .start - 12) (startOf at (m .chunks) (length (m .chunks))) ≡ true → r .start ≡ startOf at (m .chunks) (oldPlace r m) + 12
+    go : (b : Bool) → isStart (r .start - 12) at (m .chunks) ≡ b → b || eqb (r .start - 12) (startOf at (m .chunks) (length (m .chunks))) ≡ true
+        → r .start ≡ startOf at (m .chunks) (oldPlace r m) + 12
     go true e q = back (startOf-placeOf (r .start - 12) at (m .chunks) e .0)
     go false e q =
         let z : r .start - 12 ≡ startOf at (m .chunks) (length (m .chunks)) = eqb-true (r .start - 12) (startOf at (m .chunks) (length (m .chunks))) q in
-        let k : oldPlace r m ≡ length (m .chunks) = ap (λ (i : ℕ). placeOf i at (m .chunks)) z ∙ placeOf-startOf at (m .chunks) (length (m .chunks)) (omega arith) in
+        let k : oldPlace r m ≡ length (m .chunks) = ap (λ (i : ℕ). placeOf i at (m .chunks)) z ∙ placeOf-startOf at (m .chunks) (length (m .chunks))
+        (omega arith) in
         back (ap (startOf at (m .chunks)) k ∙ sym z)
 
 pub fit4 : (m : Model) (r : Rec) → fits4 r m ≡ true → (r .place ≤ length (m .refs)) × (r .start ≡ start m (oldPlace r m) + 12)
 unfolding fits4 start
 fit4 m r h =
     let p = fit-parts (leb (r .place) (length (m .refs))) (isStart (r .start - 12) (base (length (m .refs))) (m .chunks)) h in
-    let e : startOf (base (length (m .refs))) (m .chunks) (oldPlace r m) ≡ r .start - 12 = startOf-placeOf (r .start - 12) (base (length (m .refs))) (m .chunks) (p .1) .0 in
+    let e : startOf (base (length (m .refs))) (m .chunks) (oldPlace r m) ≡ r .start - 12 = startOf-placeOf (r .start - 12) (base (length (m .refs)))
+    (m .chunks) (p .1) .0 in
     (leb-true (r .place) (length (m .refs)) (p .0), further (length (m .refs)) (m .chunks) (oldPlace r m) (r .start) e)

@@ -69,7 +69,8 @@ module _ (r : Rec) (ok : RecOk r) where
     unfolding trailer
     trailer-of =
         let e : drop (length (p ++ recBytes r) - 4) (p ++ recBytes r) ≡ be32 (25 + length (r .body)) ++ []
-        = rw (append-nil (be32 (25 + length (r .body))), ← before, split) (drop-at (p ++ recBody r) (be32 (25 + length (r .body))) (length (p ++ recBody r)) refl) in
+        = rw (append-nil (be32 (25 + length (r .body))), ← before, split) (drop-at (p ++ recBody r) (be32 (25 + length (r .body))) (length (p ++ recBody r))
+        refl) in
         rw e (rd32-be32 (25 + length (r .body)) [] (ok .body-fits))
 
     last-body : lastBody (p ++ recBytes r) ≡ recBody r

@@ -8,7 +8,7 @@ use lib.ListN.{length, getD}
 use lib.Dec.{eqb, leb}
 use borrow.Author.Tests.{leb-true, lt-ltb}
 use Rattle.blorb.specs.Format.{Ref, Chunk}
-use Rattle.blorb.specs.Verdict.{Rules, Verdict, accept, refuse, check, noChunk, pairIn, refFault, secondIndex, verdict}
+use Rattle.blorb.specs.Verdict.{Rules, Verdict, accept, refuse, check, noChunk, pairIn, refFault, secondIndex, verdict, accepted}
 use Rattle.blorb.specs.Tags.{Pict, Fspc}
 use Rattle.blorb.specs.Rules.{typeIn, optional, rulesOf}
 use Rattle.blorb.specs.Model.{Model, base, file}
@@ -17,7 +17,6 @@ use Rattle.blorb.proofs.AllLaws.{all-getD}
 use Rattle.blorb.specs.Sound.{RefOk, Sound}
 use Rattle.blorb.proofs.Checks.{then-accept, check-accept}
 use Rattle.blorb.proofs.VerdictLaws.{refsFault, modelFault, inOrder, verdict-file, file-ordered}
-use Rattle.edits.specs.Run.{accepted}
 use Rattle.edits.proofs.FaultLaws.{pair-found}
 use Rattle.edits.proofs.FrontLaws.{pairs-once, pair-right}
 use Rattle.edits.proofs.ReadBack.{same}
@@ -94,9 +93,11 @@ find-at R cs e p u n (suc i) (r ∷ rs) ok l h =
 pub chunk-in : (m : Model) (i : ℕ) → Sound m → i < length (m .refs) → getD (m .refs) i noRef .chunk < length (m .chunks)
 chunk-in m i s h = all-getD (RefOk (length (m .chunks))) (m .refs) i noRef (s .refs-ok) h .chunk-there
 
-pub chunk-plain : (profile : ℕ) (cs : List Chunk) (e : List Ref) (p : ℕ) (rs : List Ref) (i : ℕ) → refsFault (rulesOf profile) cs e p rs ≡ accept → i < length rs → Plain (getD cs (getD rs i noRef .chunk) noChunk)
+pub chunk-plain : (profile : ℕ) (cs : List Chunk) (e : List Ref) (p : ℕ) (rs : List Ref) (i : ℕ) → refsFault (rulesOf profile) cs e p rs ≡ accept
+    → i < length rs → Plain (getD cs (getD rs i noRef .chunk) noChunk)
 unfolding refsFault refFault
 chunk-plain profile cs e p [] i ok h = absurd (not-suc-le-zero h)
-chunk-plain profile cs e p (r ∷ rs) zero ok h = allowed-plain profile (r .usage) (getD cs (r .chunk) noChunk) (check-accept _ _ _ (then-accept _ _ (then-accept _ _ (then-accept _ _ ok .1) .0) .0))
+chunk-plain profile cs e p (r ∷ rs) zero ok h = allowed-plain profile (r .usage) (getD cs (r .chunk) noChunk)
+    (check-accept _ _ _ (then-accept _ _ (then-accept _ _ (then-accept _ _ ok .1) .0) .0))
 chunk-plain profile cs e p (r ∷ rs) (suc i) ok h =
     chunk-plain profile cs (e ++ (r ∷ [])) (p + 12) rs i (then-accept _ _ (then-accept _ _ ok .1) .1) (le-of-suc-le-suc h)

@@ -35,7 +35,13 @@ drop-take (suc n) (suc k) (x ∷ l) = drop-take n k l ∙ ap (λ (z : ℕ). take
 pub rd32-part : (at k : ℕ) (l : List ℕ) → at + 4 ≤ k → rd32 (drop at (take k l)) ≡ rd32 (drop at l)
 rd32-part at k l h =
     rd32-at (take k l) at
-    ∙ rw (getD-take k l at 0 (omega arith), getD-take k l (at + 1) 0 (omega arith), getD-take k l (at + 2) 0 (omega arith), getD-take k l (at + 3) 0 (omega arith))
+    ∙ rw (
+      getD-take k l at 0 (omega arith),
+      getD-take k l (at + 1) 0 (omega arith),
+      getD-take k l (at + 2) 0 (omega arith),
+      getD-take k l (at + 3) 0
+          (omega arith),
+    )
     (sym (rd32-at l at))
 
 pub kind-rule : (r : Rec) → (leb 1 (r .kind) && leb (r .kind) 5 && zeros r) ≡ kindRule (r .kind) (r .start) (r .type) (length (r .body))
@@ -47,7 +53,8 @@ kind-rule r = go (r .kind) (eqb (r .start) 0) (eqb (r .type) 0) (eqb (length (r 
     both false b c = refl
 
     go : (k : ℕ) (a b c : Bool)
-        → (leb 1 k && leb k 5 && ((not (eqb k 1) || (a && b && c)) && (not (eqb k 4 || eqb k 5) || (b && c)))) ≡ cond (eqb k 1) (a && (b && c)) (cond (eqb k 4 || eqb k 5) (b && c) (eqb k 2 || eqb k 3))
+        → (leb 1 k && leb k 5 && ((not (eqb k 1) || (a && b && c)) && (not (eqb k 4 || eqb k 5) || (b && c)))) ≡ cond (eqb k 1) (a && (b && c))
+        (cond (eqb k 4 || eqb k 5) (b && c) (eqb k 2 || eqb k 3))
     go zero a b c = refl
     go (suc zero) a b c = both a b c
     go (suc (suc zero)) a b c = refl
@@ -56,7 +63,15 @@ kind-rule r = go (r .kind) (eqb (r .start) 0) (eqb (r .type) 0) (eqb (length (r 
     go (suc (suc (suc (suc (suc zero))))) a b c = refl
     go (suc (suc (suc (suc (suc (suc k)))))) a b c =
         let n : ℕ = suc (suc (suc (suc (suc (suc k))))) in
-        rw (le-leb 1 n (omega arith), lt-leb n 5 (omega arith), ne-eqb n 1 (λ e. omega arith), ne-eqb n 2 (λ e. omega arith), ne-eqb n 3 (λ e. omega arith), ne-eqb n 4 (λ e. omega arith), ne-eqb n 5 (λ e. omega arith))
+        rw (
+          le-leb 1 n (omega arith),
+          lt-leb n 5 (omega arith),
+          ne-eqb n 1 (λ e. omega arith),
+          ne-eqb n 2 (λ e. omega arith),
+          ne-eqb n 3 (λ e. omega arith),
+          ne-eqb n 4 (λ e. omega arith),
+          ne-eqb n 5 (λ e. omega arith),
+        )
 
 module _ (l : List ℕ) (u : ℕ) (inside : u ≤ length l) where
   part-length : length (take u l) ≡ u
@@ -77,7 +92,14 @@ module _ (l : List ℕ) (u : ℕ) (inside : u ≤ length l) where
 
   pub high-trailer : 29 ≤ u → u - 4 < rd32 (drop (u - 4) l) → wellFormed (take u l) ≡ false
   unfolding wellFormed
-  high-trailer long h = rw (part-length, le-leb 29 u long, trailer-part (omega arith), le-leb 25 (rd32 (drop (u - 4) l)) (omega arith), lt-leb (rd32 (drop (u - 4) l)) (u - 4) h)
+  high-trailer long h = rw (
+    part-length,
+    le-leb 29 u long,
+    trailer-part (omega arith),
+    le-leb 25 (rd32 (drop (u - 4) l)) (omega arith),
+    lt-leb
+        (rd32 (drop (u - 4) l)) (u - 4) h,
+  )
 
   -- t: the trailer, between 25 and U - 4
   module _ (t : ℕ) (is : t ≡ rd32 (drop (u - 4) l)) (low : 25 ≤ t) (high : t ≤ u - 4) where
@@ -134,7 +156,8 @@ module _ (l : List ℕ) (u : ℕ) (inside : u ≤ length l) where
     formed-part =
         let n = numbers-part in
         let e : trailer (take u l) ≡ t = trailer-part (omega arith) ∙ sym is in
-        let k : (leb 1 (lastRec (take u l) .kind) && leb (lastRec (take u l) .kind) 5 && zeros (lastRec (take u l))) ≡ kindRule (getD l (u - 4 - t) 0) (rd32 (drop (u - 4 - t + 13) l)) (rd32 (drop (u - 4 - t + 17) l)) (t - 25)
+        let k : (leb 1 (lastRec (take u l) .kind) && leb (lastRec (take u l) .kind) 5 && zeros (lastRec (take u l))) ≡ kindRule (getD l (u - 4 - t) 0)
+        (rd32 (drop (u - 4 - t + 13) l)) (rd32 (drop (u - 4 - t + 17) l)) (t - 25)
         = kind-rule (lastRec (take u l)) ∙ (λ i. kindRule (n .0 i) (n .4 i) (n .5 i) (n .6 i)) in
         rw (part-length, le-leb 29 u (omega arith), e, le-leb 25 t low, le-leb t (u - 4) high, number-part 21 (omega arith))
         (turn (eqb (25 + rd32 (drop (u - 4 - t + 21) l)) t) (leb 1 (lastRec (take u l) .kind)) (leb (lastRec (take u l) .kind) 5) (zeros (lastRec (take u l)))
@@ -168,7 +191,8 @@ unfolding wellFormed
 well-formed-part l u inside h =
     let j : List ℕ = take u l in
     let t : ℕ = trailer (take u l) in
-    let p = seven (leb 29 (length j)) (leb 25 t) (leb t (length j - 4)) (eqb (25 + rd32 (drop 21 (lastBody j))) t) (leb 1 (lastRec j .kind)) (leb (lastRec j .kind) 5) (zeros (lastRec j)) h in
+    let p = seven (leb 29 (length j)) (leb 25 t) (leb t (length j - 4)) (eqb (25 + rd32 (drop 21 (lastBody j))) t) (leb 1 (lastRec j .kind))
+    (leb (lastRec j .kind) 5) (zeros (lastRec j)) h in
     let len : length (take u l) ≡ u = length-take-le u l inside in
     let long : 29 ≤ u = omega (arith, leb-true 29 (length j) (p .0)) in
     let is : trailer (take u l) ≡ rd32 (drop (u - 4) l) = trailer-part l u inside (omega arith) in

@@ -44,7 +44,8 @@ pub length-replaced : (m : Model) (k : ℕ) (c : Chunk) → k < length (m .chunk
 unfolding replaced
 length-replaced m k c h = rw (length-file (replaced m k c), length-file m) (omega (arith, total-put (m .chunks) k c h))
 
-pub length-removed : (m : Model) (i k : ℕ) → i < length (m .refs) → k < length (m .chunks) → length (file (removedBoth m i k)) + 12 + size (chunkAt m k) ≡ length (file m)
+pub length-removed : (m : Model) (i k : ℕ) → i < length (m .refs) → k < length (m .chunks) → length (file (removedBoth m i k)) + 12 + size
+    (chunkAt m k) ≡ length (file m)
 unfolding base
 length-removed m i k h l = rw (length-file (removedBoth m i k), length-file m) (omega (arith, length-remaining m i k h, less))
   where

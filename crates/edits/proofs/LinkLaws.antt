@@ -1,5 +1,6 @@
 -- A link: every start grows by 12, its entry goes in behind the last one whose start isn't greater than the chunk's, and the record says where that is in
--- the new file (02, P8). The definition goes by the chunks' places; that it says the same of their starts follows from the chunks standing one behind the other.
+-- the new file (02, P8). The definition goes by the chunks' places; that it says the same of their starts follows from the chunks standing one behind the
+-- other.
 use mathlib.Core.Path.{_≡_, refl, _∙_}
 use Prim.Native.Nat.{ℕ, zero, suc, _+_, _-_, _≤_, _<_}
 use mathlib.Core.List.{List, [], _∷_, map}
@@ -28,13 +29,15 @@ use Rattle.edits.proofs.JudgedLaws.{chunk-in}
 
 -- "All starts grow by 12"
 pub starts-linked : (m : Model) (k u n : ℕ)
-    → entries (linked m k u n) ≡ with-at (linkPlace k (m .refs)) (record { usage = u; number = n; start = start m k + 12 }) (map (moved (λ t. t + 12)) (entries m))
+    → entries (linked m k u n) ≡ with-at (linkPlace k (m .refs)) (record { usage = u; number = n; start = start m k + 12 })
+    (map (moved (λ t. t + 12)) (entries m))
 unfolding linked
 starts-linked m k u n = starts-entered m (linkPlace k (m .refs)) k u n
 
 pub linked-length : (m : Model) (k u n : ℕ) → length (file (linked m k u n)) ≡ length (file m) + 12
 unfolding linked entered base
-linked-length m k u n = rw (length-file (linked m k u n), length-file m) (omega (arith, length-with (linkPlace k (m .refs)) (record { usage = u; number = n; chunk = k }) (m .refs)))
+linked-length m k u n = rw (length-file (linked m k u n), length-file m)
+    (omega (arith, length-with (linkPlace k (m .refs)) (record { usage = u; number = n; chunk = k }) (m .refs)))
 
 -- the record's place and "start in the new file", told of the old one
 pub link-record : (m : Model) (v o u n : ℕ)
@@ -102,7 +105,8 @@ order-at c [] i j o l h = absurd (not-suc-le-zero h)
 order-at c (r ∷ rs) zero zero o l h = omega arith
 order-at c (r ∷ rs) (suc i) zero o l h = absurd (not-suc-le-zero l)
 order-at c (r ∷ rs) zero (suc j) o l h = order-first (r .chunk) rs j (and-both (leb c (r .chunk)) (inOrder (r .chunk) rs) o .1) (le-of-suc-le-suc h)
-order-at c (r ∷ rs) (suc i) (suc j) o l h = order-at (r .chunk) rs i j (and-both (leb c (r .chunk)) (inOrder (r .chunk) rs) o .1) (le-of-suc-le-suc l) (le-of-suc-le-suc h)
+order-at c (r ∷ rs) (suc i) (suc j) o l h = order-at (r .chunk) rs i j (and-both (leb c (r .chunk)) (inOrder (r .chunk) rs) o .1) (le-of-suc-le-suc l)
+    (le-of-suc-le-suc h)
 
 -- the same of starts: k is one of the chunks
 module _ (m : Model) (k : ℕ) (s : Sound m) (kin : k < length (m .chunks)) where

@@ -27,7 +27,8 @@ noted-join b at x y h =
     let e : drop (at + length x + length y) (noted b at x) ≡ drop (at + length x + length y) b
     = sym (drop-drop (length y) (at + length x) (noted b at x)) ∙ ap (drop (length y)) (drop-noted b at x hx) ∙ drop-drop (length y) (at + length x) b in
     let n : at + length x + length y ≡ at + length (x ++ y) = simp length-append (omega arith) in
-    let g : noted (noted b at x) (at + length x) y ≡ take (at + length x) (noted b at x) ++ (y ++ drop (at + length x + length y) (noted b at x)) = unfold noted in refl in
+    let g : noted (noted b at x) (at + length x) y ≡ take (at + length x) (noted b at x) ++ (y ++ drop (at + length x + length y) (noted b at x)) =
+    unfold noted in refl in
     let k : noted b at (x ++ y) ≡ take at b ++ ((x ++ y) ++ drop (at + length (x ++ y)) b) = unfold noted in refl in
     g ∙ rw (take-noted b at x hx, e, n) (append-assoc (take at b) x (y ++ drop (at + length (x ++ y)) b)
     ∙ ap (λ (l : List ℕ). take at b ++ l) (sym (append-assoc x y (drop (at + length (x ++ y)) b)))) ∙ sym k

@@ -40,8 +40,10 @@ look-more cs c u n (r ∷ rs) x ok =
     rw (List·getD-append cs (c ∷ []) noChunk (r .chunk) (ok .0 .chunk-there), look-more cs c u n rs x (ok .1))
     (go (same r u n))
   where
-    go : (b : Bool) → cond b (here (getD cs (r .chunk) noChunk)) (cond (pairIn u n rs) (lookIn cs u n rs) (cond (same x u n) (here (getD (cs ++ (c ∷ [])) (x .chunk) noChunk)) missing))
-        ≡ cond (b || pairIn u n rs) (cond b (here (getD cs (r .chunk) noChunk)) (lookIn cs u n rs)) (cond (same x u n) (here (getD (cs ++ (c ∷ [])) (x .chunk) noChunk)) missing)
+    go : (b : Bool) → cond b (here (getD cs (r .chunk) noChunk)) (cond (pairIn u n rs) (lookIn cs u n rs)
+        (cond (same x u n) (here (getD (cs ++ (c ∷ [])) (x .chunk) noChunk)) missing))
+        ≡ cond (b || pairIn u n rs) (cond b (here (getD cs (r .chunk) noChunk)) (lookIn cs u n rs))
+        (cond (same x u n) (here (getD (cs ++ (c ∷ [])) (x .chunk) noChunk)) missing)
     go true = refl
     go false = refl
 
@@ -60,17 +62,21 @@ add-keeps m u n c u′ n′ s ne =
     x : Ref
     x = record { usage = u; number = n; chunk = length (m .chunks) }
 
-    go : (b : Bool) → pairIn u′ n′ (m .refs) ≡ b → cond b (lookIn (m .chunks) u′ n′ (m .refs)) (lookIn (m .chunks ++ (c ∷ [])) u′ n′ (x ∷ [])) ≡ lookIn (m .chunks) u′ n′ (m .refs)
+    go : (b : Bool) → pairIn u′ n′ (m .refs) ≡ b → cond b (lookIn (m .chunks) u′ n′ (m .refs)) (lookIn (m .chunks ++ (c ∷ [])) u′ n′ (x ∷ [])) ≡ lookIn
+        (m .chunks) u′ n′ (m .refs)
     go true e = refl
-    go false e = let z : lookIn (m .chunks ++ (c ∷ [])) u′ n′ (x ∷ []) ≡ missing = (unfold lookIn in rw ne) in z ∙ sym (look-missing (m .chunks) u′ n′ (m .refs) e)
+    go false e = let z : lookIn (m .chunks ++ (c ∷ [])) u′ n′ (x ∷ []) ≡ missing = (unfold lookIn in rw ne) in z
+        ∙ sym (look-missing (m .chunks) u′ n′ (m .refs) e)
 
 -- an entry's pair looks its chunk up, if no earlier entry has it
-pub look-find : (cs : List Chunk) (u n : ℕ) (rs : List Ref) → find u n rs < length rs → lookIn cs u n rs ≡ here (getD cs (getD rs (find u n rs) noRef .chunk) noChunk)
+pub look-find : (cs : List Chunk) (u n : ℕ) (rs : List Ref) → find u n rs < length rs → lookIn cs u n rs ≡ here (getD cs (getD rs (find u n rs) noRef .chunk)
+    noChunk)
 unfolding lookIn find
 look-find cs u n [] h = absurd (not-suc-le-zero h)
 look-find cs u n (r ∷ rs) h = go (same r u n) h (look-find cs u n rs)
   where
-    go : (b : Bool) → cond b 0 (suc (find u n rs)) < suc (length rs) → (find u n rs < length rs → lookIn cs u n rs ≡ here (getD cs (getD rs (find u n rs) noRef .chunk) noChunk))
+    go : (b : Bool) → cond b 0 (suc (find u n rs)) < suc (length rs)
+        → (find u n rs < length rs → lookIn cs u n rs ≡ here (getD cs (getD rs (find u n rs) noRef .chunk) noChunk))
         → cond b (here (getD cs (r .chunk) noChunk)) (lookIn cs u n rs) ≡ here (getD cs (getD (r ∷ rs) (cond b 0 (suc (find u n rs))) noRef .chunk) noChunk)
     go true h ih = refl
     go false h ih = ih (le-of-suc-le-suc h)
@@ -89,7 +95,8 @@ look-off cs k c u n (r ∷ rs) h =
     let o = or-false (eqb (r .chunk) k) (uses k rs) h in
     rw (getD-set-other cs k (r .chunk) c noChunk (eqb-false _ _ (o .0)), look-off cs k c u n rs (o .1))
 
-look-others : (cs : List Chunk) (k : ℕ) (c : Chunk) (u n i : ℕ) (rs : List Ref) → i < length rs → uses k (without i rs) ≡ false → same (getD rs i noRef) u n ≡ false
+look-others : (cs : List Chunk) (k : ℕ) (c : Chunk) (u n i : ℕ) (rs : List Ref) → i < length rs → uses k (without i rs) ≡ false → same (getD rs i noRef) u
+    n ≡ false
     → lookIn (set cs k c) u n rs ≡ lookIn cs u n rs
 unfolding lookIn uses without
 look-others cs k c u n i [] l h ne = absurd (not-suc-le-zero l)
@@ -104,7 +111,8 @@ unfolding lookup replaced shared
 replace-keeps m i c u′ n′ l alone ne = look-others (m .chunks) (refAt m i .chunk) c u′ n′ i (m .refs) l alone ne
 
 -- REMOVE
-look-without : (cs : List Chunk) (u n i : ℕ) (rs : List Ref) → i < length rs → same (getD rs i noRef) u n ≡ false → lookIn cs u n (without i rs) ≡ lookIn cs u n rs
+look-without : (cs : List Chunk) (u n i : ℕ) (rs : List Ref) → i < length rs → same (getD rs i noRef) u n ≡ false → lookIn cs u n (without i rs) ≡ lookIn cs
+    u n rs
 unfolding lookIn without
 look-without cs u n i [] l ne = absurd (not-suc-le-zero l)
 look-without cs u n zero (r ∷ rs) l ne = rw ne
@@ -121,9 +129,11 @@ pub remove-keeps : (m : Model) (i u′ n′ : ℕ) → i < length (m .refs) → 
 unfolding lookup removed
 remove-keeps m i u′ n′ l ne = go (shared m i) refl
   where
-    go : (b : Bool) → shared m i ≡ b → lookIn (cond b (removedEntry m i) (removedBoth m i (refAt m i .chunk)) .chunks) u′ n′ (cond b (removedEntry m i) (removedBoth m i (refAt m i .chunk)) .refs) ≡ lookIn (m .chunks) u′ n′ (m .refs)
+    go : (b : Bool) → shared m i ≡ b → lookIn (cond b (removedEntry m i) (removedBoth m i (refAt m i .chunk)) .chunks) u′ n′
+        (cond b (removedEntry m i) (removedBoth m i (refAt m i .chunk)) .refs) ≡ lookIn (m .chunks) u′ n′ (m .refs)
     go true e = (unfold removedEntry in look-without (m .chunks) u′ n′ i (m .refs) l ne)
-    go false e = (unfold removedBoth shared in look-lower (m .chunks) (refAt m i .chunk) u′ n′ (without i (m .refs)) e ∙ look-without (m .chunks) u′ n′ i (m .refs) l ne)
+    go false e = (unfold removedBoth shared in look-lower (m .chunks) (refAt m i .chunk) u′ n′ (without i (m .refs)) e ∙ look-without (m .chunks) u′ n′ i
+        (m .refs) l ne)
 
 pair-at : (u n i : ℕ) (rs : List Ref) → i < length rs → same (getD rs i noRef) u n ≡ true → pairIn u n rs ≡ true
 unfolding pairIn
@@ -136,7 +146,8 @@ pair-at u n (suc i) (r ∷ rs) l h = rw (pair-at u n i rs (le-of-suc-le-suc l) h
     or-true false = refl
 
 -- the pair of a removed entry is gone
-pub pair-gone : (R : Rules) (cs : List Chunk) (e : List Ref) (p : ℕ) (u n i : ℕ) (rs : List Ref) → refsFault R cs e p rs ≡ accept → i < length rs → same (getD rs i noRef) u n ≡ true → pairIn u n (without i rs) ≡ false
+pub pair-gone : (R : Rules) (cs : List Chunk) (e : List Ref) (p : ℕ) (u n i : ℕ) (rs : List Ref) → refsFault R cs e p rs ≡ accept → i < length rs
+    → same (getD rs i noRef) u n ≡ true → pairIn u n (without i rs) ≡ false
 unfolding refsFault pairIn without
 pair-gone R cs e p u n i [] ok l h = absurd (not-suc-le-zero l)
 pair-gone R cs e p u n zero (r ∷ rs) ok l h =
@@ -157,11 +168,13 @@ unfolding pairIn lower
 pair-lowered k u n [] = refl
 pair-lowered k u n (r ∷ rs) = rw (pair-lowered k u n rs)
 
-pub remove-gone : (R : Rules) (m : Model) (i u n : ℕ) → refsFault R (m .chunks) [] 24 (m .refs) ≡ accept → i < length (m .refs) → same (refAt m i) u n ≡ true → lookup (removed m i) u n ≡ missing
+pub remove-gone : (R : Rules) (m : Model) (i u n : ℕ) → refsFault R (m .chunks) [] 24 (m .refs) ≡ accept → i < length (m .refs) → same (refAt m i) u n ≡ true
+    → lookup (removed m i) u n ≡ missing
 unfolding lookup removed
 remove-gone R m i u n ok l h = go (shared m i)
   where
-    go : (b : Bool) → lookIn (cond b (removedEntry m i) (removedBoth m i (refAt m i .chunk)) .chunks) u n (cond b (removedEntry m i) (removedBoth m i (refAt m i .chunk)) .refs) ≡ missing
+    go : (b : Bool) → lookIn (cond b (removedEntry m i) (removedBoth m i (refAt m i .chunk)) .chunks) u n
+        (cond b (removedEntry m i) (removedBoth m i (refAt m i .chunk)) .refs) ≡ missing
     go true = (unfold removedEntry in look-missing (m .chunks) u n (without i (m .refs)) (pair-gone R (m .chunks) [] 24 u n i (m .refs) ok l h))
     go false = (unfold removedBoth in look-missing (without (refAt m i .chunk) (m .chunks)) u n (map (lower (refAt m i .chunk)) (without i (m .refs)))
         (pair-lowered (refAt m i .chunk) u n (without i (m .refs)) ∙ pair-gone R (m .chunks) [] 24 u n i (m .refs) ok l h))
@@ -173,7 +186,8 @@ look-with cs u n zero x rs ne = rw ne
 look-with cs u n (suc i) x [] ne = rw ne
 look-with cs u n (suc i) x (r ∷ rs) ne = rw (look-with cs u n i x rs ne)
 
-look-new : (cs : List Chunk) (u n i : ℕ) (x : Ref) (rs : List Ref) → same x u n ≡ true → pairIn u n rs ≡ false → lookIn cs u n (with-at i x rs) ≡ here (getD cs (x .chunk) noChunk)
+look-new : (cs : List Chunk) (u n i : ℕ) (x : Ref) (rs : List Ref) → same x u n ≡ true → pairIn u n rs ≡ false → lookIn cs u n (with-at i x rs) ≡ here
+    (getD cs (x .chunk) noChunk)
 unfolding lookIn with-at pairIn
 look-new cs u n zero x rs e none = rw e
 look-new cs u n (suc i) x [] e none = rw e

@@ -9,7 +9,7 @@ use lib.ListN.{length, getD, take, drop}
 use lib.Dec.{eqb}
 use borrow.Author.Tests.{eq-eqb, le-leb}
 use Rattle.blorb.specs.Format.{Ref, Chunk, size}
-use Rattle.blorb.specs.Verdict.{accept, noChunk, secondIndex, verdict}
+use Rattle.blorb.specs.Verdict.{accept, noChunk, secondIndex, verdict, accepted}
 use Rattle.blorb.specs.Tags.{Pict, Rect, Fspc}
 use Rattle.blorb.specs.Rules.{picture, typeIn, optional, rulesOf}
 use Rattle.blorb.specs.Model.{Model, base, file}
@@ -20,7 +20,6 @@ use Rattle.blorb.proofs.Checks.{then-accept, check-accept, pass}
 use Rattle.blorb.proofs.ModelLaws.{length-file}
 use Rattle.blorb.proofs.VerdictLaws.{refsFault, modelFault, inOrder}
 use Rattle.edits.specs.Edit.{remove, edited, lower, removed, removedBoth, removedEntry}
-use Rattle.edits.specs.Run.{accepted}
 use Rattle.edits.proofs.OrderLaws.{order-without, order-removed}
 use Rattle.edits.proofs.AddVerdict.{second-any}
 use Rattle.edits.proofs.UndoLaws.{or-false, length-without, length-remaining}
@@ -42,11 +41,13 @@ second-without at at′ (c ∷ cs) (suc k) h =
     pass _ _ _ _ (check-accept _ _ _ (p .0)) ∙ second-without (at + size c) (at′ + size c) cs k (p .1)
 
 -- the pictures after an entry has gone, and its chunk
-pub picture-less : (q : ℕ) (cs : List Chunk) (i : ℕ) (rs : List Ref) → i < length rs → same (getD rs i noRef) Pict q ≡ false → picture q cs rs ≡ true → picture q cs (without i rs) ≡ true
+pub picture-less : (q : ℕ) (cs : List Chunk) (i : ℕ) (rs : List Ref) → i < length rs → same (getD rs i noRef) Pict q ≡ false → picture q cs rs ≡ true
+    → picture q cs (without i rs) ≡ true
 unfolding picture without
 picture-less q cs i [] l ne h = absurd (not-suc-le-zero l)
 picture-less q cs zero (r ∷ rs) l ne h = rw ne at h
-picture-less q cs (suc i) (r ∷ rs) l ne h = go (same r Pict q && not (eqb (getD cs (r .chunk) noChunk .type) Rect)) (picture q cs rs) (picture q cs (take i rs ++ drop (suc i) rs)) h (picture-less q cs i rs (le-of-suc-le-suc l) ne)
+picture-less q cs (suc i) (r ∷ rs) l ne h = go (same r Pict q && not (eqb (getD cs (r .chunk) noChunk .type) Rect)) (picture q cs rs)
+    (picture q cs (take i rs ++ drop (suc i) rs)) h (picture-less q cs i rs (le-of-suc-le-suc l) ne)
   where
     go : (a b b′ : Bool) → a || b ≡ true → (b ≡ true → b′ ≡ true) → a || b′ ≡ true
     go true b b′ h f = refl
@@ -83,16 +84,19 @@ module _ (profile : ℕ) (m : Model) (i : ℕ) (s : Sound m) (ok : modelFault (r
   abbrev rs : List Ref
   rs = m .refs
 
-  front-removed : accepted (optional (base (length (removedBoth m i (refAt m i .chunk) .refs))) (removedBoth m i (refAt m i .chunk) .refs) (removedBoth m i (refAt m i .chunk) .chunks))
+  front-removed : accepted (optional (base (length (removedBoth m i (refAt m i .chunk) .refs))) (removedBoth m i (refAt m i .chunk) .refs)
+      (removedBoth m i (refAt m i .chunk) .chunks))
       ≡ not (isFront (m .chunks) (refAt m i .usage) (refAt m i .number))
   unfolding removedBoth shared
   front-removed =
       let p = model-parts profile m ok in
       let rs′ : List Ref = map (lower k) (without i rs) in
-      ap accepted (optional-like (base (length rs)) (base (length rs′)) rs rs′ cs (without k cs) (like-without cs k (chunk-in m i s h) (chunk-plain profile cs [] 24 rs i (p .entries-fine) h)) (p .seven))
+      ap accepted (optional-like (base (length rs)) (base (length rs′)) rs rs′ cs (without k cs) (like-without cs k (chunk-in m i s h)
+      (chunk-plain profile cs [] 24 rs i (p .entries-fine) h)) (p .seven))
       ∙ accepted-front (typeIn Fspc cs) (picture (frontNumber cs) (without k cs) rs′) _
       ∙ front-gone (typeIn Fspc cs) (picture (frontNumber cs) (without k cs) rs′) (same (refAt m i) Pict (frontNumber cs))
-      (λ e. ap not (picture-lower (frontNumber cs) cs k (without i rs) alone) ∙ picture-without profile (frontNumber cs) cs i rs (p .entries-fine) h (front-picture (base (length rs)) rs cs (p .seven) e))
+      (λ e. ap not (picture-lower (frontNumber cs) cs k (without i rs) alone) ∙ picture-without profile (frontNumber cs) cs i rs (p .entries-fine) h
+      (front-picture (base (length rs)) rs cs (p .seven) e))
 
   found : find (refAt m i .usage) (refAt m i .number) (m .refs) ≡ i
   found = find-at (rulesOf profile) cs [] 24 (refAt m i .usage) (refAt m i .number) i rs (model-parts profile m ok .entries-fine) h
@@ -128,7 +132,8 @@ module _ (profile : ℕ) (m : Model) (i : ℕ) (s : Sound m) (ok : modelFault (r
       let a : secondIndex (base (length (x .refs))) (x .chunks) ≡ accept
       = (unfold removedBoth in second-without (base (length rs)) (base (length (map (lower k) (without i rs)))) cs k (p .no-second)) in
       let o : inOrder 0 (x .refs) ≡ true = (unfold removedBoth in order-removed k i rs ord) in
-      let b : refsFault (rulesOf profile) (x .chunks) [] 24 (x .refs) ≡ accept = (unfold removedBoth shared in refs-removed (rulesOf profile) cs k i rs alone (p .entries-fine)) in
+      let b : refsFault (rulesOf profile) (x .chunks) [] 24 (x .refs) ≡ accept = (unfold removedBoth shared in refs-removed (rulesOf profile) cs k i rs alone
+      (p .entries-fine)) in
       ap (λ (z : Model). accepted (verdict (rulesOf profile) (file z))) removed-both
       ∙ accepted-ordered profile x (rw removed-both at removed-sound) o
       ∙ rw (le-leb (length (file x)) 16777216 le, a, le-leb (length (x .refs)) 4096 few, b) front-removed

@@ -77,7 +77,13 @@ module _ (R : Rules) where
   refs-lower cs k earlier p [] h = refl
   refs-lower cs k earlier p (r ∷ rs) h =
       let q = or-false (eqb (r .chunk) k) (uses k rs) h in
-      rw (same-chunk cs k r (q .0), pair-lower k (lower k r .usage) (lower k r .number) earlier, ← map-append (lower k) earlier (r ∷ []), refs-lower cs k (earlier ++ (r ∷ [])) (p + 12) rs (q .1))
+      rw (
+        same-chunk cs k r (q .0),
+        pair-lower k (lower k r .usage) (lower k r .number) earlier,
+        ← map-append (lower k) earlier (r ∷ []),
+        refs-lower cs k
+            (earlier ++ (r ∷ [])) (p + 12) rs (q .1),
+      )
       (unfold lower in refl)
 
   -- fewer entries before, other places: what was accepted still is
@@ -99,7 +105,8 @@ module _ (R : Rules) where
       ∙ refs-fewer cs (a ++ (r ∷ [])) (b ++ (r ∷ [])) (p + 12) (q + 12) rs (fewer-snoc a b r f) (h2 .1)
 
   -- an entry less
-  pub refs-without : (cs : List Chunk) (a b : List Ref) (p q : ℕ) (i : ℕ) (rs : List Ref) → Fewer a b → refsFault R cs a p rs ≡ accept → refsFault R cs b q (without i rs) ≡ accept
+  pub refs-without : (cs : List Chunk) (a b : List Ref) (p q : ℕ) (i : ℕ) (rs : List Ref) → Fewer a b → refsFault R cs a p rs ≡ accept
+      → refsFault R cs b q (without i rs) ≡ accept
   unfolding refsFault without
   refs-without cs a b p q zero [] f h = refl
   refs-without cs a b p q (suc i) [] f h = refl

@@ -10,7 +10,7 @@ use lib.Dec.{eqb, leb}
 use borrow.Author.Tests.{le-leb}
 use Rattle.blorb.specs.Tags.{RIdx, Pict, Rect, Fspc}
 use Rattle.blorb.specs.Format.{Chunk, size, chunkOf}
-use Rattle.blorb.specs.Verdict.{Verdict, accept, _then_, check, noChunk, secondIndex, verdict}
+use Rattle.blorb.specs.Verdict.{Verdict, accept, _then_, check, noChunk, secondIndex, verdict, accepted}
 use Rattle.blorb.specs.Rules.{allows, typeIn, optional, rulesOf}
 use Rattle.blorb.specs.Model.{Model, base, file}
 use Rattle.blorb.specs.Queries.{find, refAt, chunkAt, shared, frontNumber}
@@ -19,7 +19,6 @@ use Rattle.blorb.proofs.Checks.{then-accept, check-accept, pass}
 use Rattle.blorb.proofs.ModelLaws.{length-file, size-getD}
 use Rattle.blorb.proofs.VerdictLaws.{refsFault, modelFault, inOrder}
 use Rattle.edits.specs.Edit.{replaced}
-use Rattle.edits.specs.Run.{accepted}
 use Rattle.edits.proofs.AddVerdict.{second-any, then-end}
 use Rattle.edits.proofs.FitLaws.{replaced-sound, find-pair}
 use Rattle.edits.proofs.Lengths.{length-replaced}
@@ -31,17 +30,20 @@ use Rattle.edits.proofs.BoolLaws.{and-where}
 use Rattle.edits.proofs.JudgedLaws.{model-parts, accepted-ordered, accepted-front, isFront, chunk-in, chunk-plain}
 
 -- a second index: only the new chunk can be one
-second-set : (at at′ : ℕ) (cs : List Chunk) (k : ℕ) (c : Chunk) → k < length cs → secondIndex at cs ≡ accept → accepted (secondIndex at′ (set cs k c)) ≡ not (eqb (c .type) RIdx)
+second-set : (at at′ : ℕ) (cs : List Chunk) (k : ℕ) (c : Chunk) → k < length cs → secondIndex at cs ≡ accept → accepted (secondIndex at′ (set cs k c)) ≡ not
+    (eqb (c .type) RIdx)
 unfolding secondIndex
 second-set at at′ [] k c h ok = absurd (not-suc-le-zero h)
 second-set at at′ (x ∷ cs) zero c h ok =
-    ap accepted (ap (λ (v : Verdict). check (not (eqb (c .type) RIdx)) 9 at′ then v) (second-any (at + size x) (at′ + size c) cs (then-accept _ _ ok .1)) ∙ then-end _)
+    ap accepted (ap (λ (v : Verdict). check (not (eqb (c .type) RIdx)) 9 at′ then v) (second-any (at + size x) (at′ + size c) cs (then-accept _ _ ok .1))
+    ∙ then-end _)
     ∙ accepted-check (not (eqb (c .type) RIdx)) 9 at′
 second-set at at′ (x ∷ cs) (suc k) c h ok =
     let p = then-accept _ _ ok in
     ap accepted (pass _ _ _ _ (check-accept _ _ _ (p .0))) ∙ second-set (at + size x) (at′ + size x) cs k c (le-of-suc-le-suc h) (p .1)
 
-module _ (profile : ℕ) (m : Model) (u n t : ℕ) (d : List ℕ) (s : Sound m) (ok : modelFault (rulesOf profile) m ≡ accept) (h : find u n (m .refs) < length (m .refs)) (alone : shared m (find u n (m .refs)) ≡ false) where
+module _ (profile : ℕ) (m : Model) (u n t : ℕ) (d : List ℕ) (s : Sound m) (ok : modelFault (rulesOf profile) m ≡ accept)
+    (h : find u n (m .refs) < length (m .refs)) (alone : shared m (find u n (m .refs)) ≡ false) where
   abbrev place : ℕ
   place = find u n (m .refs)
 
@@ -54,7 +56,8 @@ module _ (profile : ℕ) (m : Model) (u n t : ℕ) (d : List ℕ) (s : Sound m) 
   front-replaced pl =
       let p = model-parts profile m ok in
       let there = chunk-in m place s h in
-      ap accepted (optional-replaced (rulesOf profile) (base (length (m .refs))) (base (length (m .refs))) (m .chunks) (m .refs) u n (chunkOf t d) (p .entries-fine) (p .seven) h alone there
+      ap accepted (optional-replaced (rulesOf profile) (base (length (m .refs))) (base (length (m .refs))) (m .chunks) (m .refs) u n (chunkOf t d)
+      (p .entries-fine) (p .seven) h alone there
       (chunk-plain profile (m .chunks) [] 24 (m .refs) place (p .entries-fine) h) (allowed-plain profile u (chunkOf t d) pl))
       ∙ accepted-front (typeIn Fspc (m .chunks)) (not ((eqb u Pict && eqb n (frontNumber (m .chunks))) && eqb t Rect)) _
       ∙ turn (typeIn Fspc (m .chunks)) (eqb u Pict && eqb n (frontNumber (m .chunks))) (eqb t Rect)
@@ -71,7 +74,8 @@ module _ (profile : ℕ) (m : Model) (u n t : ℕ) (d : List ℕ) (s : Sound m) 
       omega (arith, length-replaced m own (chunkOf t d) there, size-getD (m .chunks) own noChunk there, length-file m)
 
   pub replaced-accepted : t < W → inOrder 0 (m .refs) ≡ true → accepted (verdict (rulesOf profile) (file (replaced m own (chunkOf t d))))
-      ≡ (leb (length (file m) - size (chunkAt m own) + size (chunkOf t d)) 16777216 && (not (eqb t RIdx) && (allows profile u (chunkOf t d) && not (isFront (m .chunks) u n && eqb t Rect))))
+      ≡ (leb (length (file m) - size (chunkAt m own) + size (chunkOf t d)) 16777216 &&
+      (not (eqb t RIdx) && (allows profile u (chunkOf t d) && not (isFront (m .chunks) u n && eqb t Rect))))
   replaced-accepted ht ord =
       let p = model-parts profile m ok in
       let there = chunk-in m place s h in
@@ -85,9 +89,11 @@ module _ (profile : ℕ) (m : Model) (u n t : ℕ) (d : List ℕ) (s : Sound m) 
       ap accepted (refs-replaced (rulesOf profile) (m .chunks) own (chunkOf t d) there [] 24 (m .refs) place h refl alone (p .entries-fine))
       ∙ accepted-check (allows profile (refAt m place .usage) (chunkOf t d)) 14 (24 + 12 * place)
       ∙ ap (λ (z : ℕ). allows profile z (chunkOf t d)) (find-pair u n (m .refs) h .0)) in
-      let q : allows profile u (chunkOf t d) ≡ true → accepted (optional (base (length (x .refs))) (x .refs) (x .chunks)) ≡ not (isFront (m .chunks) u n && eqb t Rect)
+      let q : allows profile u (chunkOf t d) ≡ true → accepted (optional (base (length (x .refs))) (x .refs) (x .chunks)) ≡ not
+      (isFront (m .chunks) u n && eqb t Rect)
       = λ pl. (unfold replaced in front-replaced pl) in
       accepted-ordered profile x sd (unfold replaced in ord)
       ∙ rw (replaced-length, a, le-leb (length (x .refs)) 4096 few, b)
       (ap (λ (z : Bool). leb (length (file m) - size (chunkAt m own) + size (chunkOf t d)) 16777216 && (not (eqb t RIdx) && z))
-      (and-where (allows profile u (chunkOf t d)) (accepted (optional (base (length (x .refs))) (x .refs) (x .chunks))) (not (isFront (m .chunks) u n && eqb t Rect)) q))
+      (and-where (allows profile u (chunkOf t d)) (accepted (optional (base (length (x .refs))) (x .refs) (x .chunks)))
+      (not (isFront (m .chunks) u n && eqb t Rect)) q))

@@ -31,7 +31,8 @@ module _ (R : Rules) (cs : List Chunk) (k : ℕ) (c : Chunk) (there : k < length
       rw (other earlier p r (q .0), others (earlier ++ (r ∷ [])) (p + 12) rs (q .1))
 
   -- the entry on the replaced chunk
-  own : (earlier : List Ref) (p : ℕ) (r : Ref) → r .chunk ≡ k → refFault R cs earlier p r ≡ accept → refFault R (set cs k c) earlier p r ≡ check (R .rule5 (r .usage) c) 14 p
+  own : (earlier : List Ref) (p : ℕ) (r : Ref) → r .chunk ≡ k → refFault R cs earlier p r ≡ accept → refFault R (set cs k c) earlier p r ≡ check
+      (R .rule5 (r .usage) c) 14 p
   unfolding refFault
   own earlier p r e h =
       let g : getD (set cs k c) (r .chunk) noChunk ≡ c = rw e (getD-set-same cs k c noChunk there) in

@@ -29,7 +29,8 @@ cond-accept : (b : Bool) (v w v′ w′ : Verdict) → (v ≡ accept → v′ �
 cond-accept true v w v′ w′ f g h = f h
 cond-accept false v w v′ w′ f g h = g h
 
-single-any : (rs rs′ : List Ref) (all all′ : List Chunk) (t n : ℕ) (earlier : List Chunk) (at at′ : ℕ) (c : Chunk) → single rs all t n earlier at c ≡ accept → single rs′ all′ t n earlier at′ c ≡ accept
+single-any : (rs rs′ : List Ref) (all all′ : List Chunk) (t n : ℕ) (earlier : List Chunk) (at at′ : ℕ) (c : Chunk) → single rs all t n earlier at c ≡ accept
+    → single rs′ all′ t n earlier at′ c ≡ accept
 unfolding single
 single-any rs rs′ all all′ t n earlier at at′ c h =
     let a = then-accept _ _ h in
@@ -41,7 +42,8 @@ unfolding chunkRule
 rule-kept rs rs′ all all′ earlier at at′ c k h =
     cond-accept (eqb (c .type) RelN) _ _ _ _ (single-any rs rs′ all all′ RelN 2 earlier at at′ c)
     (cond-accept (eqb (c .type) Fspc) _ _ _ _
-    (λ g. let a = then-accept _ _ g in accepts _ _ (single-any rs rs′ all all′ Fspc 4 earlier at at′ c (a .0)) ∙ holds-last _ _ _ (k (rd32 (c .body)) (check-accept _ _ _ (a .1))))
+    (λ g. let a = then-accept _ _ g in accepts _ _ (single-any rs rs′ all all′ Fspc 4 earlier at at′ c (a .0))
+    ∙ holds-last _ _ _ (k (rd32 (c .body)) (check-accept _ _ _ (a .1))))
     (λ g. g)) h
 
 pub rules-kept : (rs rs′ : List Ref) (all all′ : List Chunk) (earlier : List Chunk) (at at′ : ℕ) (cs : List Chunk) → Kept all rs all′ rs′
@@ -50,7 +52,8 @@ unfolding chunkRules
 rules-kept rs rs′ all all′ earlier at at′ [] k h = refl
 rules-kept rs rs′ all all′ earlier at at′ (c ∷ cs) k h =
     let a = then-accept _ _ h in
-    accepts _ _ (rule-kept rs rs′ all all′ earlier at at′ c k (a .0)) ∙ rules-kept rs rs′ all all′ (earlier ++ (c ∷ [])) (at + size c) (at′ + size c) cs k (a .1)
+    accepts _ _ (rule-kept rs rs′ all all′ earlier at at′ c k (a .0)) ∙ rules-kept rs rs′ all all′ (earlier ++ (c ∷ [])) (at + size c) (at′ + size c) cs k
+    (a .1)
 
 -- a chunk that is neither 'RelN' nor 'Fspc' is passed over
 pub record Plain (c : Chunk) : Type 0 where
@@ -70,12 +73,14 @@ rules-append rs all earlier at (x ∷ cs) c p h =
     accepts _ _ (a .0) ∙ rules-append rs all (earlier ++ (x ∷ [])) (at + size x) cs c p (a .1)
 
 -- add: the pictures stay
-picture-more : (n : ℕ) (cs : List Chunk) (c : Chunk) (rs : List Ref) (x : Ref) → All (RefOk (length cs)) rs → picture n cs rs ≡ true → picture n (cs ++ (c ∷ [])) (rs ++ (x ∷ [])) ≡ true
+picture-more : (n : ℕ) (cs : List Chunk) (c : Chunk) (rs : List Ref) (x : Ref) → All (RefOk (length cs)) rs → picture n cs rs ≡ true
+    → picture n (cs ++ (c ∷ [])) (rs ++ (x ∷ [])) ≡ true
 unfolding picture
 picture-more n cs c [] x ok h = let z : _≡_ {A = ℕ} 0 1 = cc in absurd (omega arith)
 picture-more n cs c (r ∷ rs) x ok h =
     rw (List·getD-append cs (c ∷ []) noChunk (r .chunk) (ok .0 .chunk-there))
-    (go (eqb (r .usage) Pict && eqb (r .number) n && not (eqb (getD cs (r .chunk) noChunk .type) Rect)) (picture n cs rs) (picture n (cs ++ (c ∷ [])) (rs ++ (x ∷ []))) h (picture-more n cs c rs x (ok .1)))
+    (go (eqb (r .usage) Pict && eqb (r .number) n && not (eqb (getD cs (r .chunk) noChunk .type) Rect)) (picture n cs rs)
+    (picture n (cs ++ (c ∷ [])) (rs ++ (x ∷ []))) h (picture-more n cs c rs x (ok .1)))
   where
     go : (a b b′ : Bool) → a || b ≡ true → (b ≡ true → b′ ≡ true) → a || b′ ≡ true
     go true b b′ h f = refl
@@ -113,4 +118,8 @@ other-type profile t u c bad h = go (eqb (c .type) t) refl
         cc
 
 pub allowed-plain : (profile u : ℕ) (c : Chunk) → allows profile u c ≡ true → Plain c
-allowed-plain profile u c h = record { no-release = other-type profile RelN u c (not-allowed profile u (c .body) .0) h; no-front = other-type profile Fspc u c (not-allowed profile u (c .body) .1) h }
+allowed-plain profile u c h = record {
+  no-release = other-type profile RelN u c (not-allowed profile u (c .body) .0) h;
+  no-front = other-type profile Fspc u
+      c (not-allowed profile u (c .body) .1) h;
+}

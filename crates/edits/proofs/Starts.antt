@@ -23,7 +23,8 @@ use Rattle.blorb.proofs.ModelLaws.{entries}
 
 -- two ways to number the same entries give starts that differ by f, if the places do
 moved-all : (f : ℕ → ℕ) (g : Ref → Ref) (P : Ref → Type 0) (at at′ : ℕ) (cs cs′ : List Chunk) (rs : List Ref)
-    → ((r : Ref) → P r → entryOf at′ cs′ (g r) ≡ moved f (entryOf at cs r)) → All P rs → map (entryOf at′ cs′) (map g rs) ≡ map (moved f) (map (entryOf at cs) rs)
+    → ((r : Ref) → P r → entryOf at′ cs′ (g r) ≡ moved f (entryOf at cs r)) → All P rs → map (entryOf at′ cs′) (map g rs) ≡ map (moved f)
+    (map (entryOf at cs) rs)
 moved-all f g P at at′ cs cs′ [] h ok = refl
 moved-all f g P at at′ cs cs′ (r ∷ rs) h ok = λ i. h r (ok .0) i ∷ moved-all f g P at at′ cs cs′ rs h (ok .1) i
 
@@ -36,7 +37,8 @@ map-append f [] r = refl
 map-append f (x ∷ l) r = ap (λ z. f x ∷ z) (map-append f l r)
 
 -- replace: a start behind the chunk's moves by the change in size
-total-set : (cs : List Chunk) (k : ℕ) (c : Chunk) (j : ℕ) → k < length cs → k < j → total (take j (set cs k c)) + size (getD cs k noChunk) ≡ total (take j cs) + size c
+total-set : (cs : List Chunk) (k : ℕ) (c : Chunk) (j : ℕ) → k < length cs → k < j → total (take j (set cs k c)) + size (getD cs k noChunk) ≡ total
+    (take j cs) + size c
 unfolding total
 total-set [] k c j h b = absurd (not-suc-le-zero h)
 total-set (x ∷ cs) k c zero h b = absurd (not-suc-le-zero b)
@@ -83,12 +85,18 @@ pub shifted : (at : ℕ) (cs : List Chunk) (k : ℕ) (c : Chunk) (j : ℕ) → k
 unfolding startOf
 shifted at cs k c j h = go (ltb k j) refl
   where
-    go : (b : Bool) → ltb k j ≡ b → at + total (take j (set cs k c)) ≡ behind (at + total (take k cs)) (size (getD cs k noChunk)) (size c) (at + total (take j cs))
+    go : (b : Bool) → ltb k j ≡ b → at + total (take j (set cs k c)) ≡ behind (at + total (take k cs)) (size (getD cs k noChunk)) (size c)
+        (at + total (take j cs))
     go true e =
         let lt = ltb-true k j e in
-        rw (lt-ltb (at + total (take k cs)) (at + total (take j cs)) (omega (arith, total-more cs k j h lt, size-pos (getD cs k noChunk)))) (omega (arith, total-set cs k c j h lt))
+        rw (lt-ltb (at + total (take k cs)) (at + total (take j cs)) (omega (arith, total-more cs k j h lt, size-pos (getD cs k noChunk))))
+        (omega (arith, total-set cs k c j h lt))
     go false e =
-        rw (take-set-le j cs k c (ltb-false k j e), le-ltb (at + total (take k cs)) (at + total (take j cs)) (omega (arith, total-mono cs j k (ltb-false k j e))))
+        rw (
+          take-set-le j cs k c (ltb-false k j e),
+          le-ltb (at + total (take k cs)) (at + total (take j cs))
+              (omega (arith, total-mono cs j k (ltb-false k j e))),
+        )
 
 pub starts-replaced : (m : Model) (k : ℕ) (c : Chunk) → k < length (m .chunks)
     → entries (replaced m k c) ≡ map (moved (behind (start m k) (size (chunkAt m k)) (size c))) (entries m)
@@ -98,7 +106,8 @@ starts-replaced m k c h = all (m .refs)
     at : ℕ
     at = base (length (m .refs))
 
-    all : (rs : List Ref) → map (entryOf at (set (m .chunks) k c)) rs ≡ map (moved (behind (startOf at (m .chunks) k) (size (chunkAt m k)) (size c))) (map (entryOf at (m .chunks)) rs)
+    all : (rs : List Ref) → map (entryOf at (set (m .chunks) k c)) rs ≡ map (moved (behind (startOf at (m .chunks) k) (size (chunkAt m k)) (size c)))
+        (map (entryOf at (m .chunks)) rs)
     all [] = refl
     all (r ∷ rs) = λ i. record { usage = r .usage; number = r .number; start = shifted at (m .chunks) k c (r .chunk) h i } ∷ all rs i
 
@@ -115,7 +124,8 @@ total-without (x ∷ cs) (suc k) zero h b = absurd (not-suc-le-zero b)
 total-without (x ∷ cs) (suc k) (suc j) h b = omega (arith, total-without cs k j (le-of-suc-le-suc h) (le-of-suc-le-suc b))
 
 pub fell : (n : ℕ) (cs : List Chunk) (k : ℕ) (r : Ref) → k < length cs → eqb (r .chunk) k ≡ false
-    → startOf (base n) (without k cs) (lower k r .chunk) ≡ fallen (startOf (base (suc n)) cs k) (size (getD cs k noChunk)) (startOf (base (suc n)) cs (r .chunk))
+    → startOf (base n) (without k cs) (lower k r .chunk) ≡ fallen (startOf (base (suc n)) cs k) (size (getD cs k noChunk))
+    (startOf (base (suc n)) cs (r .chunk))
 unfolding startOf base lower
 fell n cs k r h ne = go (r .chunk) (ltb k (r .chunk)) refl ne
   where
@@ -123,15 +133,22 @@ fell n cs k r h ne = go (r .chunk) (ltb k (r .chunk)) refl ne
     B = 24 + 12 * n
 
     go : (j : ℕ) (b : Bool) → ltb k j ≡ b → eqb j k ≡ false
-        → B + total (take (cond b (j - 1) j) (without k cs)) ≡ fallen (24 + 12 * suc n + total (take k cs)) (size (getD cs k noChunk)) (24 + 12 * suc n + total (take j cs))
+        → B + total (take (cond b (j - 1) j) (without k cs)) ≡ fallen (24 + 12 * suc n + total (take k cs)) (size (getD cs k noChunk))
+        (24 + 12 * suc n + total (take j cs))
     go j true e ne =
         let lt = ltb-true k j e in
         let s : suc (j - 1) ≡ j = omega arith in
-        let w : total (take (j - 1) (without k cs)) + size (getD cs k noChunk) ≡ total (take j cs) = total-without cs k (j - 1) h (omega arith) ∙ ap (λ (i : ℕ). total (take i cs)) s in
-        rw (lt-ltb (24 + 12 * suc n + total (take k cs)) (24 + 12 * suc n + total (take j cs)) (omega (arith, total-more cs k j h lt, size-pos (getD cs k noChunk)))) (omega arith)
+        let w : total (take (j - 1) (without k cs)) + size (getD cs k noChunk) ≡ total (take j cs) = total-without cs k (j - 1) h (omega arith)
+        ∙ ap (λ (i : ℕ). total (take i cs)) s in
+        rw (lt-ltb (24 + 12 * suc n + total (take k cs)) (24 + 12 * suc n + total (take j cs))
+        (omega (arith, total-more cs k j h lt, size-pos (getD cs k noChunk)))) (omega arith)
     go j false e ne =
         let le = ltb-false k j e in
-        rw (take-without-before cs k j h le, le-ltb (24 + 12 * suc n + total (take k cs)) (24 + 12 * suc n + total (take j cs)) (omega (arith, total-mono cs j k le))) (omega arith)
+        rw (
+          take-without-before cs k j h le,
+          le-ltb (24 + 12 * suc n + total (take k cs)) (24 + 12 * suc n + total (take j cs))
+              (omega (arith, total-mono cs j k le)),
+        ) (omega arith)
 
 pub map-without : {A B : Type 0} (f : A → B) (i : ℕ) (l : List A) → map f (without i l) ≡ without i (map f l)
 unfolding without
@@ -141,7 +158,8 @@ map-without f zero (x ∷ l) = refl
 map-without f (suc i) (x ∷ l) = ap (λ r. f x ∷ r) (map-without f i l)
 
 pub starts-removed : (m : Model) (i : ℕ) → i < length (m .refs) → refAt m i .chunk < length (m .chunks) → shared m i ≡ false
-    → entries (removedBoth m i (refAt m i .chunk)) ≡ map (moved (fallen (start m (refAt m i .chunk)) (size (chunkAt m (refAt m i .chunk))))) (without i (entries m))
+    → entries (removedBoth m i (refAt m i .chunk)) ≡ map (moved (fallen (start m (refAt m i .chunk)) (size (chunkAt m (refAt m i .chunk)))))
+    (without i (entries m))
 unfolding removedBoth start entryOf shared uses lower
 starts-removed m i h valid alone =
     rw (length-map (without i (m .refs)) (lower k), ← map-without (entryOf (base (length (m .refs))) (m .chunks)) i (m .refs), ← length-without i (m .refs) h)

@@ -18,10 +18,10 @@ use Rattle.blorb.proofs.Accept.{accept-back, accept-short}
 use Rattle.blorb.proofs.Checks.{then-accept}
 use Rattle.blorb.proofs.ModelLaws.{model-file, length-file}
 use Rattle.edits.specs.Edit.{Edit, add, replace, remove, link, givenChunk, removed, removedEntry, removedBoth, edited}
-use Rattle.edits.specs.Run.{State, Call, edit, CallOk, ArgsOk, after, afterEdit, editFault, editedFile, fault, step, run, ledgerFile}
+use Rattle.edits.specs.Run.{State, fileIn, Call, edit, CallOk, ArgsOk, after, afterEdit, editFault, editedFile, fault, step, run, ledgerFile}
 use Rattle.edits.specs.Demand3.{Begins, listAfter}
-use Rattle.edits.specs.TwoEditors.{fileIn, SameFile, Other, NamesOther, BothOrders, EitherOrder, LaterWins}
-use Rattle.edits.specs.TwoEditors.{padded, grows, falls, grown, fallen, LengthAfter}
+use Rattle.edits.specs.TwoEditors.{SameFile, Other, NamesOther, BothOrders, EitherOrder, LaterWins}
+use Rattle.edits.specs.TwoEditors.{padded, grows, falls, grown, shrunk, LengthAfter}
 use Rattle.edits.proofs.Applies.{Applies}
 use Rattle.edits.proofs.UndoLaws.{length-without}
 use Rattle.edits.proofs.FitLaws.{edit-sound}
@@ -141,8 +141,8 @@ own-change m (remove u n) s a = go (shared m (find u n (m .refs)))
 
 -- of a whole list
 module _ (R : Rules) (f₀ : List ℕ) (N J : ℕ) (known : R .known ≡ true) where
-  lengths : (es : List Edit) → Valid R f₀ N J known es → length (ledgerFile f₀ es) + fallen f₀ es ≡ length f₀ + grown f₀ es
-  unfolding ledgerFile grown fallen editFault editedFile
+  lengths : (es : List Edit) → Valid R f₀ N J known es → length (ledgerFile f₀ es) + shrunk f₀ es ≡ length f₀ + grown f₀ es
+  unfolding ledgerFile grown shrunk editFault editedFile
   lengths [] v = refl
   lengths (e ∷ es) v =
       let g = holds R f₀ N J known es (v .0) .good in

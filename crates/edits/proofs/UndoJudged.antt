@@ -9,7 +9,7 @@ use lib.Dec.{eqb, leb, ltb}
 use borrow.Author.Tests.{eqb-true, eq-eqb, le-ltb, ltb-true, not-true}
 use Rattle.blorb.specs.Format.{isStart, placeOf, Ref, Chunk, size}
 use Rattle.blorb.specs.Tags.{RIdx, Rect}
-use Rattle.blorb.specs.Verdict.{accept, noChunk, verdict}
+use Rattle.blorb.specs.Verdict.{accept, noChunk, verdict, accepted}
 use Rattle.blorb.specs.Rules.{allows, rulesOf}
 use Rattle.blorb.specs.Model.{Model, base, model, file}
 use Rattle.blorb.specs.Queries.{find, refAt, chunkAt, without, shared, start}
@@ -23,7 +23,6 @@ use Rattle.blorb.proofs.ModelLaws.{length-file, size-getD}
 use Rattle.blorb.proofs.VerdictLaws.{modelFault, inOrder, file-judged, file-ordered}
 use Rattle.edits.specs.Edit.{lower, replaced, removed, removedBoth}
 use Rattle.edits.specs.Journal.{Rec, hasPair, fits, fits1, fits2, fits3, fits4, fits5, undone, undo1, undo2, undo3, undo4, undo5, oldChunk, oldPlace}
-use Rattle.edits.specs.Run.{accepted}
 use Rattle.edits.proofs.Lengths.{length-replaced}
 use Rattle.edits.proofs.BoolLaws.{and-parts}
 use Rattle.edits.proofs.JudgedLaws.{model-parts, isFront, find-at, chunk-in}
@@ -80,8 +79,10 @@ undo1-removed r m s fit =
     let k : ℕ = refAt m (r .place) .chunk in
     let a = without-end (r .place) (m .refs) (f .count) in
     let c = without-end k (m .chunks) (sym (f .last)) in
-    let ok : All (RefOk (suc k)) (take (length (m .refs) - 1) (m .refs)) = all-take (RefOk (suc k)) (length (m .refs) - 1) (m .refs) (rw (f .last) (s .refs-ok)) in
-    let b : map (lower k) (without (r .place) (m .refs)) ≡ take (length (m .refs) - 1) (m .refs) = ap (map (lower k)) a ∙ lower-none k (take (length (m .refs) - 1) (m .refs)) ok in
+    let ok : All (RefOk (suc k)) (take (length (m .refs) - 1) (m .refs)) = all-take (RefOk (suc k)) (length (m .refs) - 1) (m .refs)
+    (rw (f .last) (s .refs-ok)) in
+    let b : map (lower k) (without (r .place) (m .refs)) ≡ take (length (m .refs) - 1) (m .refs) = ap (map (lower k)) a
+    ∙ lower-none k (take (length (m .refs) - 1) (m .refs)) ok in
     rw (f .alone) (λ i. record { refs = sym b i; chunks = sym c i })
 
 pub undo1-length : (profile : ℕ) (r : Rec) (m : Model) → Sound m → modelFault (rulesOf profile) m ≡ accept → fits1 r m ≡ true
@@ -160,7 +161,12 @@ module _ (profile : ℕ) (r : Rec) (m : Model) (s : Sound m) (ok : modelFault (r
   undo2-length =
       let f = fits2-facts r m fit in
       let there = chunk-in m (r .place) s (f .inside) in
-      omega (arith, length-replaced m (refAt m (r .place) .chunk) (oldChunk r) there, size-getD (m .chunks) (refAt m (r .place) .chunk) noChunk there, length-file m)
+      omega (
+        arith,
+        length-replaced m (refAt m (r .place) .chunk) (oldChunk r) there,
+        size-getD (m .chunks) (refAt m (r .place) .chunk) noChunk there,
+        length-file m,
+      )
 
   -- accepted if it is short enough, the old chunk is no index and one that rule 5 allows, and the frontispiece's picture doesn't become a 'Rect'
   pub undo2-accepted : r .type < W → inOrder 0 (m .refs) ≡ true → accepted (verdict (rulesOf profile) (file (undo2 r m)))
@@ -181,14 +187,16 @@ module _ (profile : ℕ) (r : Rec) (m : Model) (s : Sound m) (ok : modelFault (r
 module _ (profile : ℕ) (r : Rec) (m : Model) (s : Sound m) (ok : modelFault (rulesOf profile) m ≡ accept) where
   pub undo3-length : length (file (undo3 r m)) ≡ length (file m) + 12 + size (oldChunk r)
   unfolding undo3
-  undo3-length = inserted-length profile m (r .place) (oldPlace r m) (r .usage) (r .number) (oldChunk r) s ok (place-inside (r .start - 12) (base (length (m .refs))) (m .chunks))
+  undo3-length = inserted-length profile m (r .place) (oldPlace r m) (r .usage) (r .number) (oldChunk r) s ok
+      (place-inside (r .start - 12) (base (length (m .refs))) (m .chunks))
 
   pub undo3-accepted : r .usage < W → r .number < W → r .type < W → accepted (verdict (rulesOf profile) (file (undo3 r m)))
       ≡ (inOrder 0 (undo3 r m .refs)
       && (leb (length (file m) + 12 + size (oldChunk r)) 16777216 && (not (eqb (r .type) RIdx) && (leb (suc (length (m .refs))) 4096
       && entryTests profile (r .usage) (r .number) (oldChunk r) (m .refs)))))
   unfolding undo3
-  undo3-accepted hu hn ht = inserted-accepted profile m (r .place) (oldPlace r m) (r .usage) (r .number) (oldChunk r) s ok (place-inside (r .start - 12) (base (length (m .refs))) (m .chunks)) hu hn ht
+  undo3-accepted hu hn ht = inserted-accepted profile m (r .place) (oldPlace r m) (r .usage) (r .number) (oldChunk r) s ok
+      (place-inside (r .start - 12) (base (length (m .refs))) (m .chunks)) hu hn ht
 
   module _ (hu : r .usage < W) (hn : r .number < W) (fit : fits4 r m ≡ true) where
     fits4-start : isStart (r .start - 12) (base (length (m .refs))) (m .chunks) ≡ true
@@ -204,7 +212,8 @@ module _ (profile : ℕ) (r : Rec) (m : Model) (s : Sound m) (ok : modelFault (r
 
     pub undo4-accepted : accepted (verdict (rulesOf profile) (file (undo4 r m)))
         ≡ (inOrder 0 (undo4 r m .refs)
-        && (leb (length (file m) + 12) 16777216 && (leb (suc (length (m .refs))) 4096 && entryTests profile (r .usage) (r .number) (chunkAt m (oldPlace r m)) (m .refs))))
+        && (leb (length (file m) + 12) 16777216 && (leb (suc (length (m .refs))) 4096 && entryTests profile (r .usage) (r .number) (chunkAt m (oldPlace r m))
+        (m .refs))))
     unfolding undo4
     undo4-accepted = entered-accepted profile m (r .place) (oldPlace r m) (r .usage) (r .number) s ok old-ok
 
@@ -214,7 +223,8 @@ unfolding undo5
 undo5-length r m fit = unlisted-length m (r .place) (fits5-facts r m fit .inside)
 
 -- accepted unless the frontispiece's picture goes
-pub undo5-accepted : (profile : ℕ) (r : Rec) (m : Model) → Sound m → modelFault (rulesOf profile) m ≡ accept → inOrder 0 (m .refs) ≡ true → length (file m) ≤ 16777216
+pub undo5-accepted : (profile : ℕ) (r : Rec) (m : Model) → Sound m → modelFault (rulesOf profile) m ≡ accept → inOrder 0 (m .refs) ≡ true
+    → length (file m) ≤ 16777216
     → fits5 r m ≡ true
     → accepted (verdict (rulesOf profile) (file (undo5 r m))) ≡ not (isFront (m .chunks) (r .usage) (r .number))
 unfolding undo5

@@ -39,7 +39,11 @@ module _ {A : Type 0} where
 
 pub undo-add : (m : Model) (u n : ℕ) (c : Chunk) → undo1 (added m u n c) ≡ m
 unfolding undo1 added
-undo-add m u n c = λ i. record { refs = take-snoc (m .refs) (record { usage = u; number = n; chunk = length (m .chunks) }) i; chunks = take-snoc (m .chunks) c i }
+undo-add m u n c = λ i. record {
+  refs = take-snoc (m .refs) (record { usage = u; number = n; chunk = length (m .chunks) }) i;
+  chunks =
+      take-snoc (m .chunks) c i;
+}
 
 pub undo-replace : (m : Model) (k : ℕ) (c : Chunk) → replaced (replaced m k c) k (chunkAt m k) ≡ m
 unfolding replaced
@@ -49,7 +53,8 @@ raise-lower : (k : ℕ) (r : Ref) → eqb (r .chunk) k ≡ false → raise k (lo
 unfolding raise lower
 raise-lower k r h = λ i. record { usage = r .usage; number = r .number; chunk = go (ltb k (r .chunk)) refl i }
   where
-    go : (b : Bool) → ltb k (r .chunk) ≡ b → cond (leb k (cond b (r .chunk - 1) (r .chunk))) (suc (cond b (r .chunk - 1) (r .chunk))) (cond b (r .chunk - 1) (r .chunk)) ≡ r .chunk
+    go : (b : Bool) → ltb k (r .chunk) ≡ b → cond (leb k (cond b (r .chunk - 1) (r .chunk))) (suc (cond b (r .chunk - 1) (r .chunk)))
+        (cond b (r .chunk - 1) (r .chunk)) ≡ r .chunk
     go true e = rw (le-leb k (r .chunk - 1) (omega (arith, ltb-true k (r .chunk) e))) (omega (arith, ltb-true k (r .chunk) e))
     go false e = rw (lt-leb k (r .chunk) (omega (arith, ltb-false k (r .chunk) e, eqb-false (r .chunk) k h)))
 
@@ -75,9 +80,11 @@ length-remaining m i k h = rw length-map (length-without i (m .refs) h)
 
 -- kind 3
 module _ (m : Model) (i : ℕ) (inside : i < length (m .refs)) (valid : refAt m i .chunk < length (m .chunks)) where
-  pub remove-start : start m (refAt m i .chunk) - 12 ≡ startOf (base (length (removedBoth m i (refAt m i .chunk) .refs))) (without (refAt m i .chunk) (m .chunks)) (refAt m i .chunk)
+  pub remove-start : start m (refAt m i .chunk) - 12 ≡ startOf (base (length (removedBoth m i (refAt m i .chunk) .refs)))
+      (without (refAt m i .chunk) (m .chunks)) (refAt m i .chunk)
   unfolding start
-  remove-start = rw (← length-remaining m i (refAt m i .chunk) inside) (old-start (length (removedBoth m i (refAt m i .chunk) .refs)) (m .chunks) (refAt m i .chunk) valid)
+  remove-start = rw (← length-remaining m i (refAt m i .chunk) inside) (old-start (length (removedBoth m i (refAt m i .chunk) .refs)) (m .chunks)
+      (refAt m i .chunk) valid)
 
   pub undo-remove : shared m i ≡ false → undo3 (removal false m (refAt m i .usage) (refAt m i .number) i) (removedBoth m i (refAt m i .chunk)) ≡ m
   unfolding undo3 inserted removal removedBoth shared

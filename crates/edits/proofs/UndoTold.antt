@@ -9,7 +9,7 @@ use lib.Dec.{eqb, leb}
 use Rattle.blorb.specs.Layout.{sizeOf}
 use Rattle.blorb.specs.Bytes.{rd32, Byte}
 use Rattle.blorb.specs.Tags.{RIdx, Rect}
-use Rattle.blorb.specs.Verdict.{verdict}
+use Rattle.blorb.specs.Verdict.{verdict, accepted}
 use Rattle.blorb.specs.Rules.{allows, rulesOf}
 use Rattle.blorb.specs.Model.{Model, model, file}
 use Rattle.blorb.specs.Queries.{find, refAt, chunkAt, start}
@@ -19,11 +19,30 @@ use Rattle.blorb.specs.Sound.{W}
 use Rattle.blorb.proofs.Accept.{rd32-small}
 use Rattle.edits.specs.Journal.{Rec, trailer, recIn, lastBody, lastRec, fits, fits1, fits2, fits3, fits4, fits5, undo2, oldChunk, oldPlace}
 use Rattle.edits.specs.Order.{between}
-use Rattle.edits.specs.Run.{accepted, undoneFile}
+use Rattle.edits.specs.Run.{undoneFile}
 use Rattle.edits.proofs.BoolLaws.{and-where}
 use Rattle.edits.proofs.JudgedLaws.{isFront}
 use Rattle.edits.proofs.InsertJudged.{entryTests}
-use Rattle.edits.proofs.UndoJudged.{AcceptedFile, kind-1, kind-2, kind-3, kind-4, kind-5, fits2-facts, found-at, undo1-length, undo1-accepted, undo2-length, undo2-accepted, undo3-length, undo3-accepted, undo4-length, undo4-accepted, undo5-length, undo5-accepted}
+use Rattle.edits.proofs.UndoJudged.{
+  AcceptedFile,
+  kind-1,
+  kind-2,
+  kind-3,
+  kind-4,
+  kind-5,
+  fits2-facts,
+  found-at,
+  undo1-length,
+  undo1-accepted,
+  undo2-length,
+  undo2-accepted,
+  undo3-length,
+  undo3-accepted,
+  undo4-length,
+  undo4-accepted,
+  undo5-length,
+  undo5-accepted,
+}
 use Rattle.edits.proofs.OrderTold.{order-inserted, order-entered}
 use Rattle.edits.proofs.FitFacts.{size-is, told1, told2, told3, told4, told5, fits1-told, fits2-told, fits3-told, fits4-told, fits5-told}
 
@@ -80,7 +99,8 @@ module _ (profile : ℕ) (f j : List ℕ) (st : AcceptedFile profile f) (bytes :
   same-length = ap length (st .whole)
 
   pub test-1 : lastRec j .kind ≡ 1 → (fits (lastRec j) (model f) && accepted (verdict (rulesOf profile) (undoneFile f j)))
-      ≡ (told1 (lastRec j) (model f) (length f) (find (lastRec j .usage) (lastRec j .number) (model f .refs)) && not (isFront (model f .chunks) (lastRec j .usage) (lastRec j .number)))
+      ≡ (told1 (lastRec j) (model f) (length f) (find (lastRec j .usage) (lastRec j .number) (model f .refs)) && not
+      (isFront (model f .chunks) (lastRec j .usage) (lastRec j .number)))
   unfolding undoneFile
   test-1 h =
       let k = kind-1 r m h in
@@ -99,7 +119,8 @@ module _ (profile : ℕ) (f j : List ℕ) (st : AcceptedFile profile f) (bytes :
       ∙ and-where (fits2 r m) _ (accepted2 profile r m (length f) at) part
       ∙ ap (λ (b : Bool). b && accepted2 profile r m (length f) at) (fits2-told profile r m (st .sound) (st .judged))
     where
-      part : fits2 (lastRec j) (model f) ≡ true → accepted (verdict (rulesOf profile) (file (undo2 (lastRec j) (model f)))) ≡ accepted2 profile (lastRec j) (model f) (length f) at
+      part : fits2 (lastRec j) (model f) ≡ true → accepted (verdict (rulesOf profile) (file (undo2 (lastRec j) (model f)))) ≡ accepted2 profile (lastRec j)
+          (model f) (length f) at
       part fit =
           let p = fits2-facts r m fit in
           let i : at ≡ r .place = found-at profile r m (st .judged) (p .inside) (p .usage-is) (p .number-is) in
@@ -133,7 +154,8 @@ module _ (profile : ℕ) (f j : List ℕ) (st : AcceptedFile profile f) (bytes :
       ∙ ap (λ (b : Bool). b && accepted4 profile r m (length f)) (fits4-told r m)
 
   pub test-5 : lastRec j .kind ≡ 5 → (fits (lastRec j) (model f) && accepted (verdict (rulesOf profile) (undoneFile f j)))
-      ≡ (told5 (lastRec j) (model f) (find (lastRec j .usage) (lastRec j .number) (model f .refs)) && not (isFront (model f .chunks) (lastRec j .usage) (lastRec j .number)))
+      ≡ (told5 (lastRec j) (model f) (find (lastRec j .usage) (lastRec j .number) (model f .refs)) && not (isFront (model f .chunks) (lastRec j .usage)
+      (lastRec j .number)))
   unfolding undoneFile
   test-5 h =
       let k = kind-5 r m h in
@@ -166,7 +188,8 @@ module _ (profile : ℕ) (f j : List ℕ) (st : AcceptedFile profile f) (bytes :
   unfolding undoneFile
   after-4 h fit =
       let w = last-small j bytes in
-      ap (λ (z : Model). length (file z)) (kind-4 r m h .1) ∙ undo4-length profile r m (st .sound) (st .judged) (w .0) (w .1) fit ∙ ap (λ (z : ℕ). z + 12) same-length
+      ap (λ (z : Model). length (file z)) (kind-4 r m h .1) ∙ undo4-length profile r m (st .sound) (st .judged) (w .0) (w .1) fit ∙ ap (λ (z : ℕ). z + 12)
+      same-length
 
   pub after-5 : lastRec j .kind ≡ 5 → fits5 (lastRec j) (model f) ≡ true → length (undoneFile f j) + 12 ≡ length f
   unfolding undoneFile

@@ -8,10 +8,9 @@ use lib.Dec.{eqb}
 use borrow.Author.Tests.{eqb-true, eqb-false, eq-eqb, ne-eqb, not-true}
 use Rattle.blorb.specs.Format.{Ref, Chunk}
 use Rattle.blorb.specs.Tags.{tag}
-use Rattle.blorb.specs.Verdict.{Rules, Verdict, accept, refuse, _then_, check, noChunk, refFault, pairIn, knownUsage}
+use Rattle.blorb.specs.Verdict.{Rules, Verdict, accept, refuse, _then_, check, noChunk, refFault, pairIn, knownUsage, accepted}
 use Rattle.edits.specs.Edit.{with-at}
 use Rattle.blorb.proofs.Checks.{then-accept, check-accept, pass, accepts}
-use Rattle.edits.specs.Run.{accepted}
 use Rattle.blorb.proofs.VerdictLaws.{refsFault}
 use Rattle.edits.proofs.ReadBack.{same}
 
@@ -55,7 +54,8 @@ same-turn x r = λ i. eqb-turn (x .usage) (r .usage) i && eqb-turn (x .number) (
 
 module _ (R : Rules) (cs : List Chunk) (x : Ref) where
   -- the later entries, judged after x: only a repeat of x's pair can be at fault
-  ref-after : (e e′ : List Ref) (p q : ℕ) (r : Ref) → More x e e′ → refFault R cs e p r ≡ accept → accepted (refFault R cs e′ q r) ≡ not (same r (x .usage) (x .number))
+  ref-after : (e e′ : List Ref) (p q : ℕ) (r : Ref) → More x e e′ → refFault R cs e p r ≡ accept → accepted (refFault R cs e′ q r) ≡ not
+      (same r (x .usage) (x .number))
   unfolding refFault
   ref-after e e′ p q r m ok =
       let a = then-accept _ _ ok in
@@ -70,7 +70,8 @@ module _ (R : Rules) (cs : List Chunk) (x : Ref) where
       last true = refl
       last false = refl
 
-  refs-after : (e e′ : List Ref) (p q : ℕ) (rs : List Ref) → More x e e′ → refsFault R cs e p rs ≡ accept → accepted (refsFault R cs e′ q rs) ≡ not (pairIn (x .usage) (x .number) rs)
+  refs-after : (e e′ : List Ref) (p q : ℕ) (rs : List Ref) → More x e e′ → refsFault R cs e p rs ≡ accept → accepted (refsFault R cs e′ q rs) ≡ not
+      (pairIn (x .usage) (x .number) rs)
   unfolding refsFault pairIn
   refs-after e e′ p q [] m ok = refl
   refs-after e e′ p q (r ∷ rs) m ok =
@@ -78,7 +79,8 @@ module _ (R : Rules) (cs : List Chunk) (x : Ref) where
       let b = then-accept _ _ (a .1) in
       let t12 = check-accept _ _ _ (a .0) in
       accepted-then _ _ ∙ ap (λ (z : Bool). z && accepted (refFault R cs e′ q r then refsFault R cs (e′ ++ (r ∷ [])) (q + 12) rs)) (accepted-check _ _ _ ∙ t12)
-      ∙ accepted-then _ _ ∙ (λ i. ref-after e e′ p q r m (b .0) i && refs-after (e ++ (r ∷ [])) (e′ ++ (r ∷ [])) (p + 12) (q + 12) rs (more-keep x r e e′ m) (b .1) i)
+      ∙ accepted-then _ _ ∙ (λ i. ref-after e e′ p q r m (b .0) i && refs-after (e ++ (r ∷ [])) (e′ ++ (r ∷ [])) (p + 12) (q + 12) rs (more-keep x r e e′ m)
+      (b .1) i)
       ∙ join (same r (x .usage) (x .number)) (pairIn (x .usage) (x .number) rs)
     where
       join : (a b : Bool) → not a && not b ≡ not (a || b)
@@ -89,7 +91,8 @@ module _ (R : Rules) (cs : List Chunk) (x : Ref) where
   abbrev pub ownTests : Bool
   ownTests = knownUsage (x .usage) && (R .rule5 (x .usage) (getD cs (x .chunk) noChunk) && (not (eqb (x .usage) (tag 69 120 101 99)) || eqb (x .number) 0))
 
-  own : (e : List Ref) (p : ℕ) → accepted (refFault R cs e p x) ≡ (R .rule5 (x .usage) (getD cs (x .chunk) noChunk) && ((not (eqb (x .usage) (tag 69 120 101 99)) || eqb (x .number) 0) && not (pairIn (x .usage) (x .number) e)))
+  own : (e : List Ref) (p : ℕ) → accepted (refFault R cs e p x) ≡ (R .rule5 (x .usage) (getD cs (x .chunk) noChunk) &&
+      ((not (eqb (x .usage) (tag 69 120 101 99)) || eqb (x .number) 0) && not (pairIn (x .usage) (x .number) e)))
   unfolding refFault
   own e p = simp (accepted-then, accepted-check)
 
@@ -98,8 +101,10 @@ module _ (R : Rules) (cs : List Chunk) (x : Ref) where
   unfolding refsFault
   first e p rs ok =
       accepted-then _ _
-      ∙ (λ i. accepted-check (knownUsage (x .usage)) 12 p i && (accepted-then (refFault R cs e p x) (refsFault R cs (e ++ (x ∷ [])) (p + 12) rs) ∙ (λ j. own e p j && refs-after e (e ++ (x ∷ [])) p (p + 12) rs (λ u n. pair-snoc u n e x) ok j)) i)
-      ∙ join (knownUsage (x .usage)) (R .rule5 (x .usage) (getD cs (x .chunk) noChunk)) (not (eqb (x .usage) (tag 69 120 101 99)) || eqb (x .number) 0) (pairIn (x .usage) (x .number) e) (pairIn (x .usage) (x .number) rs)
+      ∙ (λ i. accepted-check (knownUsage (x .usage)) 12 p i && (accepted-then (refFault R cs e p x) (refsFault R cs (e ++ (x ∷ [])) (p + 12) rs)
+      ∙ (λ j. own e p j && refs-after e (e ++ (x ∷ [])) p (p + 12) rs (λ u n. pair-snoc u n e x) ok j)) i)
+      ∙ join (knownUsage (x .usage)) (R .rule5 (x .usage) (getD cs (x .chunk) noChunk)) (not (eqb (x .usage) (tag 69 120 101 99)) || eqb (x .number) 0)
+      (pairIn (x .usage) (x .number) e) (pairIn (x .usage) (x .number) rs)
     where
       join : (a b c d f : Bool) → a && ((b && (c && not d)) && not f) ≡ (a && (b && c)) && not (d || f)
       join false b c d f = refl
@@ -109,7 +114,8 @@ module _ (R : Rules) (cs : List Chunk) (x : Ref) where
       join true true true false f = refl
 
   past : (e : List Ref) (p : ℕ) (r : Ref) (rs new : List Ref) → refsFault R cs e p (r ∷ rs) ≡ accept
-      → (refsFault R cs (e ++ (r ∷ [])) (p + 12) rs ≡ accept → accepted (refsFault R cs (e ++ (r ∷ [])) (p + 12) new) ≡ ownTests && not (pairIn (x .usage) (x .number) (e ++ (r ∷ [])) || pairIn (x .usage) (x .number) rs))
+      → (refsFault R cs (e ++ (r ∷ [])) (p + 12) rs ≡ accept → accepted (refsFault R cs (e ++ (r ∷ [])) (p + 12) new) ≡ ownTests && not
+      (pairIn (x .usage) (x .number) (e ++ (r ∷ [])) || pairIn (x .usage) (x .number) rs))
       → accepted (refsFault R cs e p (r ∷ new)) ≡ ownTests && not (pairIn (x .usage) (x .number) e || pairIn (x .usage) (x .number) (r ∷ rs))
   unfolding refsFault pairIn
   past e p r rs new ok ih =

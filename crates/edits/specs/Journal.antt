@@ -32,7 +32,15 @@ recBytes r = recBody r ++ be32 (25 + length (r .body))
 -- "3 removed with its chunk (place, start in the old file, type, data); 4 removed entry only (place, start in the old file; type, m zero)"
 unfoldable pub removal : Bool → Model → ℕ → ℕ → ℕ → Rec
 removal true m u n i = record { kind = 4; usage = u; number = n; place = i; start = start m (refAt m i .chunk); type = 0; body = [] }
-removal false m u n i = record { kind = 3; usage = u; number = n; place = i; start = start m (refAt m i .chunk); type = chunkAt m (refAt m i .chunk) .type; body = chunkAt m (refAt m i .chunk) .body }
+removal false m u n i = record {
+  kind = 3;
+  usage = u;
+  number = n;
+  place = i;
+  start = start m (refAt m i .chunk);
+  type = chunkAt m (refAt m i .chunk) .type;
+  body = chunkAt m (refAt m i .chunk) .body;
+}
 
 -- "1 added (place the old count; start, type, m zero); 2 replaced (entry's place, chunk's start, old type, old data)"; "kind 5 (place, start in the new
 -- file; type and m zero)" (02, P8)

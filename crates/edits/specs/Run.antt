@@ -4,7 +4,7 @@ use mathlib.Core.List.{List, [], _∷_, _++_}
 use mathlib.Core.Bool.{Bool, true, false, _&&_, _||_, not}
 use lib.ListN.{length, take, drop, replicate}
 use lib.Dec.{eqb, leb, ltb}
-use Rattle.blorb.specs.Verdict.{Rules, Verdict, accept, refuse, _then_, check, verdict}
+use Rattle.blorb.specs.Verdict.{Rules, Verdict, accept, refuse, _then_, check, verdict, accepted}
 use Rattle.blorb.specs.Model.{Model, model, file}
 use Rattle.blorb.specs.Tags.{FORM}
 use Rattle.edits.specs.Edit.{Edit, add, replace, remove, link, isWhole, edited}
@@ -21,6 +21,10 @@ pub record State : Type 0 where
 -- these, in the order in which the calls take them
 abbrev pub state : List ℕ → ℕ → List ℕ → ℕ → State
 state b l j u = record { buffer = b; L = l; journal = j; U = u }
+
+-- the file that a state holds: the buffer's first L bytes
+abbrev pub fileIn : State → List ℕ
+fileIn s = take (s .L) (s .buffer)
 
 pub data Call : Type 0 where
   edit : Edit → Call
@@ -43,10 +47,6 @@ pub record Answer : Type 0 where
   pub result : Verdict
   pub L : ℕ
   pub U : ℕ
-
-abbrev pub accepted : Verdict → Bool
-accepted accept = true
-accepted (refuse k p) = false
 
 -- "An edit whose resulting file the reader would refuse with k is refused with 100 + k, place as in that resulting file"
 abbrev pub hundred : Verdict → Verdict
@@ -91,7 +91,7 @@ answered (refuse k p) s t = s
 
 unfoldable pub afterEdit : State → Edit → State
 afterEdit s e =
-    let f = take (s .L) (s .buffer) in
+    let f = fileIn s in
     record {
       buffer = written (s .buffer) (s .L) (editedFile f e);
       L = length (editedFile f e);
@@ -101,7 +101,7 @@ afterEdit s e =
 
 unfoldable pub afterUndo : State → State
 afterUndo s =
-    let f = take (s .L) (s .buffer) in
+    let f = fileIn s in
     let j = take (s .U) (s .journal) in
     record {
       buffer = written (s .buffer) (s .L) (undoneFile f j);
@@ -162,10 +162,10 @@ module _ (R : Rules) where
 
   -- a call's refusal; 52: "an unknown profile, before all others" (02, P12)
   unfoldable pub fault : State → Call → Verdict
-  fault s (edit e) = check (R .known) 52 0 then editFault (length (s .buffer)) (length (s .journal)) (take (s .L) (s .buffer)) (s .L) (s .U) e
+  fault s (edit e) = check (R .known) 52 0 then editFault (length (s .buffer)) (length (s .journal)) (fileIn s) (s .L) (s .U) e
   fault s undo =
       check (R .known) 52 0
-      then undoFault (length (s .buffer)) (length (s .journal)) (take (s .L) (s .buffer)) (s .L) (s .U) (take (s .U) (s .journal))
+      then undoFault (length (s .buffer)) (length (s .journal)) (fileIn s) (s .L) (s .U) (take (s .U) (s .journal))
 
   -- a call: "A refused call changes nothing."
   unfoldable pub step : State → Call → State
@@ -201,4 +201,5 @@ module _ (R : Rules) where
     unfoldable pub ledgerAnswers : List Edit → List Call → List Answer
     ledgerAnswers es [] = []
     ledgerAnswers es (c ∷ cs) =
-        record { result = ledgerFault es c; L = length (ledgerFile f₀ (ledgerStep es c)); U = ledgerUsed f₀ (ledgerStep es c) } ∷ ledgerAnswers (ledgerStep es c) cs
+        record { result = ledgerFault es c; L = length (ledgerFile f₀ (ledgerStep es c)); U = ledgerUsed f₀ (ledgerStep es c) } ∷ ledgerAnswers
+        (ledgerStep es c) cs

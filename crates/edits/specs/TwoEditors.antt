@@ -23,12 +23,8 @@ use Rattle.blorb.specs.Verdict.{Rules, accept}
 use Rattle.blorb.specs.Model.{Model, model}
 use Rattle.blorb.specs.Queries.{find, refAt, chunkAt, shared}
 use Rattle.edits.specs.Edit.{Edit, add, replace, remove, link, givenChunk}
-use Rattle.edits.specs.Run.{State, Call, fault, step, run, ledgerFile}
+use Rattle.edits.specs.Run.{State, fileIn, Call, fault, step, run, ledgerFile}
 use Rattle.edits.specs.Demand3.{listAfter}
-
--- the file that a state holds
-abbrev pub fileIn : State → List ℕ
-fileIn s = take (s .L) (s .buffer)
 
 -- two states hold the same file, whatever their journals and the bytes past it
 pub record SameFile (s t : State) : Type 0 where
@@ -90,10 +86,10 @@ module _ (f₀ : List ℕ) where
   grown [] = 0
   grown (e ∷ es) = grown es + grows (model (ledgerFile f₀ es)) e
 
-  unfoldable pub fallen : List Edit → ℕ
-  fallen [] = 0
-  fallen (e ∷ es) = fallen es + falls (model (ledgerFile f₀ es)) e
+  unfoldable pub shrunk : List Edit → ℕ
+  shrunk [] = 0
+  shrunk (e ∷ es) = shrunk es + falls (model (ledgerFile f₀ es)) e
 
 -- "after any run the file's length is its starting length plus, for each edit not taken back, its own change": with what was taken on the left
 abbrev pub LengthAfter : Rules → State → List Call → Type 0
-LengthAfter R s cs = run R s cs .L + fallen (fileIn s) (listAfter R s cs) ≡ s .L + grown (fileIn s) (listAfter R s cs)
+LengthAfter R s cs = run R s cs .L + shrunk (fileIn s) (listAfter R s cs) ≡ s .L + grown (fileIn s) (listAfter R s cs)

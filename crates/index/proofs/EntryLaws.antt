@@ -25,7 +25,23 @@ use Rattle.blorb.specs.declared.Usage.the-variants.{Exec}
 use Rattle.blorb.specs.declared.Known.the-variants.{Is, Unknown}
 use Rattle.index.specs.declared.entries.Judged.the-variants.{At, Fault}
 use Rattle.blorb.specs.Usages.{codeOf, usageOf}
-use Rattle.index.specs.Entries.{usageAt, numberAt, startAt, place, typedAt, entryFault, unstartedFault, judgedBy, earlier, Before, samePair, Topped, slotOf, Below, entriesFrom}
+use Rattle.index.specs.Entries.{
+  usageAt,
+  numberAt,
+  startAt,
+  place,
+  typedAt,
+  entryFault,
+  unstartedFault,
+  judgedBy,
+  earlier,
+  Before,
+  samePair,
+  Topped,
+  slotOf,
+  Below,
+  entriesFrom,
+}
 
 -- rule 5 of the chunk at x, by its type and its data
 pub chunk-at : (f : List ℕ) (x from to t : ℕ) → from ≡ x + 8 → to ≡ from + rd32 (drop (x + 4) f) → t ≡ rd32 (drop x f)
@@ -85,17 +101,22 @@ shape true true b14 true true b16 p v h = rw (h refl)
 
 module _ (profile : ℕ) (f : List ℕ) (base : ℕ) (w : walkFrom f base ≡ accept) where
   pub entries-on : (j n : ℕ)
-      → entriesFrom profile f base j (suc n) ≡ entryFault profile f base (place j) then (check (not (pairIn (usageAt f (place j)) (numberAt f (place j)) (earlier f base j))) 16 (place j)
-      then (check (leb (lastPlace (earlier f base j)) (placeOf (startAt f (place j)) base (chunksFrom f base))) 27 (place j + 8) then entriesFrom profile f base (suc j) n))
+      → entriesFrom profile f base j (suc n) ≡ entryFault profile f base (place j) then
+      (check (not (pairIn (usageAt f (place j)) (numberAt f (place j)) (earlier f base j))) 16 (place j)
+      then (check (leb (lastPlace (earlier f base j)) (placeOf (startAt f (place j)) base (chunksFrom f base))) 27 (place j + 8) then entriesFrom profile f
+      base (suc j) n))
   unfolding entriesFrom entriesFault entriesIn refFault entryFault earlier ref-at entryIn
   entries-on j n =
       let q : place j + 12 ≡ place (suc j) = omega arith in
       let h : isStart (startAt f (place j)) base (chunksFrom f base) ≡ true
-      → allows profile (usageAt f (place j)) (getD (chunksFrom f base) (placeOf (startAt f (place j)) base (chunksFrom f base)) noChunk) ≡ typedAt profile f (usageAt f (place j)) (startAt f (place j))
+      → allows profile (usageAt f (place j)) (getD (chunksFrom f base) (placeOf (startAt f (place j)) base (chunksFrom f base)) noChunk) ≡ typedAt profile f
+      (usageAt f (place j)) (startAt f (place j))
       = λ e. ap (allows profile (usageAt f (place j))) (begun f (startAt f (place j)) base w e .chunk) in
       rw (refOf-at f base (place j), drop-drop 8 (place j) f, drop-drop 12 (place j) f, q)
-      (shape (knownUsage (usageAt f (place j))) (isStart (startAt f (place j)) base (chunksFrom f base)) _ (typedAt profile f (usageAt f (place j)) (startAt f (place j)))
-      (not (eqb (usageAt f (place j)) (codeOf Exec)) || eqb (numberAt f (place j)) 0) (not (pairIn (usageAt f (place j)) (numberAt f (place j)) (earlier f base j))) (place j) _ h)
+      (shape (knownUsage (usageAt f (place j))) (isStart (startAt f (place j)) base (chunksFrom f base)) _ (typedAt profile f (usageAt f (place j))
+      (startAt f (place j)))
+      (not (eqb (usageAt f (place j)) (codeOf Exec)) || eqb (numberAt f (place j)) 0)
+      (not (pairIn (usageAt f (place j)) (numberAt f (place j)) (earlier f base j))) (place j) _ h)
 
   pub entries-end : (j : ℕ) → entriesFrom profile f base j 0 ≡ accept
   unfolding entriesFrom entriesFault entriesIn
@@ -130,7 +151,8 @@ module _ (f : List ℕ) (base : ℕ) where
     where
       go : (b : Bool) → eqb i m ≡ b → (i < m → samePair f i j ≡ true → pairIn (usageAt f (place j)) (numberAt f (place j)) (earlier f base m) ≡ true)
           → pairIn (usageAt f (place j)) (numberAt f (place j)) (earlier f base m) || samePair f m j ≡ true
-      go true t ih = let s : samePair f m j ≡ true = ap (λ (k : ℕ). samePair f k j) (sym (eqb-true i m t)) ∙ e in rw s (or-true (pairIn (usageAt f (place j)) (numberAt f (place j)) (earlier f base m)))
+      go true t ih = let s : samePair f m j ≡ true = ap (λ (k : ℕ). samePair f k j) (sym (eqb-true i m t)) ∙ e in
+          rw s (or-true (pairIn (usageAt f (place j)) (numberAt f (place j)) (earlier f base m)))
       go false t ih = let n : i ≡ m → ⊥ = eqb-false i m t in rw (ih (omega arith) e)
 
 -- an entry's start, or its fault
@@ -162,11 +184,13 @@ module _ (profile : ℕ) (f : List ℕ) (base p : ℕ) where
         q14 : typedAt profile f (usageAt f p) (startAt f p) ≡ true
         q14 = ap (λ (u : ℕ). typedAt profile f u (startAt f p)) (known-is _ k e .1) ∙ t
 
-        pub judge-15 : not (eqb (usageAt f p) (codeOf Exec)) || eqb (numberAt f p) 0 ≡ false → Fault 15 (p + 4) ≡ judgedBy (entryFault profile f base p) (startAt f p)
+        pub judge-15 : not (eqb (usageAt f p) (codeOf Exec)) || eqb (numberAt f p) 0 ≡ false → Fault 15 (p + 4) ≡ judgedBy (entryFault profile f base p)
+            (startAt f p)
         unfolding entryFault
         judge-15 h = judged (refuse 15 (p + 4)) (pass _ _ _ _ (known-is _ k e .0) ∙ pass _ _ _ _ b ∙ pass _ _ _ _ q14 ∙ fails-last _ _ _ h)
 
-        pub judge-good : not (eqb (usageAt f p) (codeOf Exec)) || eqb (numberAt f p) 0 ≡ true → At (startAt f p) ≡ judgedBy (entryFault profile f base p) (startAt f p)
+        pub judge-good : not (eqb (usageAt f p) (codeOf Exec)) || eqb (numberAt f p) 0 ≡ true → At (startAt f p) ≡ judgedBy (entryFault profile f base p)
+            (startAt f p)
         unfolding entryFault
         judge-good h = judged accept (pass _ _ _ _ (known-is _ k e .0) ∙ pass _ _ _ _ b ∙ pass _ _ _ _ q14 ∙ holds-last _ _ _ h)
 
@@ -199,18 +223,22 @@ module _ (profile : ℕ) (f : List ℕ) (base count j : ℕ) (w : walkFrom f bas
   left : count - j ≡ suc (count - (j + 1))
   left = omega arith
 
-  turn : entriesFrom profile f base j (count - j) ≡ entryFault profile f base (place j) then (check (not (pairIn (usageAt f (place j)) (numberAt f (place j)) (earlier f base j))) 16 (place j)
-      then (check (leb (lastPlace (earlier f base j)) (placeOf (startAt f (place j)) base (chunksFrom f base))) 27 (place j + 8) then entriesFrom profile f base (suc j) (count - (j + 1))))
+  turn : entriesFrom profile f base j (count - j) ≡ entryFault profile f base (place j) then
+      (check (not (pairIn (usageAt f (place j)) (numberAt f (place j)) (earlier f base j))) 16 (place j)
+      then (check (leb (lastPlace (earlier f base j)) (placeOf (startAt f (place j)) base (chunksFrom f base))) 27 (place j + 8) then entriesFrom profile f
+      base (suc j) (count - (j + 1))))
   turn = ap (λ (n : ℕ). entriesFrom profile f base j n) left ∙ entries-on profile f base w j (count - (j + 1))
 
   pub entry-stop : (k p : ℕ) → entryFault profile f base (place j) ≡ refuse k p → refuse k p ≡ entriesFrom profile f base j (count - j)
   entry-stop k p e = sym (turn ∙ refuses _ _ _ _ e)
 
   module _ (g : entryFault profile f base (place j) ≡ accept) where
-    pub pair-stop : pairIn (usageAt f (place j)) (numberAt f (place j)) (earlier f base j) ≡ true → refuse 16 (place j) ≡ entriesFrom profile f base j (count - j)
+    pub pair-stop : pairIn (usageAt f (place j)) (numberAt f (place j)) (earlier f base j) ≡ true → refuse 16 (place j) ≡ entriesFrom profile f
+        base j (count - j)
     pair-stop e = sym (turn ∙ accepts _ _ g ∙ stop _ _ _ _ (rw e))
 
-    module _ (e : pairIn (usageAt f (place j)) (numberAt f (place j)) (earlier f base j) ≡ false) (x y : ℕ) (b : Before f base j x) (ey : startAt f (place j) ≡ y) where
+    module _ (e : pairIn (usageAt f (place j)) (numberAt f (place j)) (earlier f base j) ≡ false) (x y : ℕ) (b : Before f base j x)
+        (ey : startAt f (place j) ≡ y) where
       at-place : ℕ
       at-place = placeOf (startAt f (place j)) base (chunksFrom f base)
 
@@ -266,11 +294,13 @@ key-go : (a b c : Bool) (u n v m : ℕ) → n < 4294967296 → m < 4294967296
     → eqb (u * 4294967296 + n) (v * 4294967296 + m) ≡ a → eqb u v ≡ b → eqb n m ≡ c → a ≡ b && c
 key-go true true true u n v m hn hm x y z = refl
 key-go true true false u n v m hn hm x y z =
-    let p : u * 4294967296 + n ≡ v * 4294967296 + m = eqb-true _ _ x in let q : u ≡ v = eqb-true _ _ y in let r : n ≡ m → ⊥ = eqb-false _ _ z in absurd (r (omega arith))
+    let p : u * 4294967296 + n ≡ v * 4294967296 + m = eqb-true _ _ x in let q : u ≡ v = eqb-true _ _ y in let r : n ≡ m → ⊥ = eqb-false _ _ z in
+    absurd (r (omega arith))
 key-go true false c u n v m hn hm x y z =
     let p : u * 4294967296 + n ≡ v * 4294967296 + m = eqb-true _ _ x in let q : u ≡ v → ⊥ = eqb-false _ _ y in absurd (q (omega arith))
 key-go false true true u n v m hn hm x y z =
-    let p : u * 4294967296 + n ≡ v * 4294967296 + m → ⊥ = eqb-false _ _ x in let q : u ≡ v = eqb-true _ _ y in let r : n ≡ m = eqb-true _ _ z in absurd (p (omega arith))
+    let p : u * 4294967296 + n ≡ v * 4294967296 + m → ⊥ = eqb-false _ _ x in let q : u ≡ v = eqb-true _ _ y in let r : n ≡ m = eqb-true _ _ z in
+    absurd (p (omega arith))
 key-go false true false u n v m hn hm x y z = refl
 key-go false false c u n v m hn hm x y z = refl
 
@@ -289,13 +319,15 @@ module _ (f : List ℕ) (base j top : ℕ) (t : Topped f j top) (h : top ≤ num
   fresh (suc m) l =
       pair-suc f base (usageAt f (place j)) (numberAt f (place j)) m
       ∙ rw (fresh m (omega arith))
-      (differ _ _ (usageAt f (place m)) (numberAt f (place m)) (usageAt f (place j)) (numberAt f (place j)) refl refl (λ e. let p = t m (omega arith) e in omega arith))
+      (differ _ _ (usageAt f (place m)) (numberAt f (place m)) (usageAt f (place j)) (numberAt f (place j)) refl refl (λ e. let p =
+      t m (omega arith) e in omega arith))
 
 -- the tops
 pub topped : (f tops : List ℕ) (j k : ℕ) → Below f tops j → k ≡ slotOf (usageAt f (place j)) → Topped f j (getD tops k 0)
 topped f tops j k b q i h e = rw (q, ← e) (b i h)
 
-pub below-next : (f tops : List ℕ) (j k r : ℕ) → Below f tops j → k ≡ slotOf (usageAt f (place j)) → k < length tops → numberAt f (place j) < r → getD tops k 0 ≤ r
+pub below-next : (f tops : List ℕ) (j k r : ℕ) → Below f tops j → k ≡ slotOf (usageAt f (place j)) → k < length tops → numberAt f (place j) < r
+    → getD tops k 0 ≤ r
     → Below f (set tops k r) (j + 1)
 below-next f tops j k r b q l hn ht i h = go (eqb (slotOf (usageAt f (place i))) k) refl (eqb i j) refl
   where

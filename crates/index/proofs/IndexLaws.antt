@@ -145,18 +145,21 @@ module _ (f : List ℕ) (u n : ℕ) where
 
 -- by the numbers that the code has read
 module _ (f : List ℕ) (u n count i a b : ℕ) (h : i < count) (ea : a ≡ usageAt f (place i)) (eb : b ≡ numberAt f (place i)) where
-  place-on : pairPlace u n (entriesIn (count - i) (drop (place i) f)) ≡ cond (eqb a u && eqb b n) 0 (suc (pairPlace u n (entriesIn (count - (i + 1)) (drop (place (i + 1)) f))))
+  place-on : pairPlace u n (entriesIn (count - i) (drop (place i) f)) ≡ cond (eqb a u && eqb b n) 0
+      (suc (pairPlace u n (entriesIn (count - (i + 1)) (drop (place (i + 1)) f))))
   place-on =
       let left : count - i ≡ suc (count - (i + 1)) = omega arith in
       let more : suc i ≡ i + 1 = sym (add-one i) in
       ap (λ (k : ℕ). pairPlace u n (entriesIn k (drop (place i) f))) left ∙ pair-on f u n (count - (i + 1)) i
-      ∙ ap (λ (k : ℕ). cond (eqb (usageAt f (place i)) u && eqb (numberAt f (place i)) n) 0 (suc (pairPlace u n (entriesIn (count - (i + 1)) (drop (place k) f))))) more
+      ∙ ap (λ (k : ℕ). cond (eqb (usageAt f (place i)) u && eqb (numberAt f (place i)) n) 0
+      (suc (pairPlace u n (entriesIn (count - (i + 1)) (drop (place k) f))))) more
       ∙ rw (ea, eb) refl
 
   pub place-hit : eqb a u && eqb b n ≡ true → i ≡ i + pairPlace u n (entriesIn (count - i) (drop (place i) f))
   place-hit e = rw (place-on, e) (omega arith)
 
-  pub place-next : eqb a u && eqb b n ≡ false → i + 1 + pairPlace u n (entriesIn (count - (i + 1)) (drop (place (i + 1)) f)) ≡ i + pairPlace u n (entriesIn (count - i) (drop (place i) f))
+  pub place-next : eqb a u && eqb b n ≡ false → i + 1 + pairPlace u n (entriesIn (count - (i + 1)) (drop (place (i + 1)) f)) ≡ i + pairPlace u n
+      (entriesIn (count - i) (drop (place i) f))
   place-next e = rw (place-on, e) (omega arith)
 
 -- entry i of the list
@@ -174,7 +177,8 @@ unfolding pairPlace hitIn
 place-start u n [] d h = absurd (not-suc-le-zero h)
 place-start u n (e ∷ es) d h = go (eqb (e .usage) u && eqb (e .number) n) h (place-start u n es d)
   where
-    go : (b : Bool) → cond b 0 (suc (pairPlace u n es)) < suc (length es) → (pairPlace u n es < length es → hitIn u n es ≡ At (getD es (pairPlace u n es) d .start))
+    go : (b : Bool) → cond b 0 (suc (pairPlace u n es)) < suc (length es)
+        → (pairPlace u n es < length es → hitIn u n es ≡ At (getD es (pairPlace u n es) d .start))
         → pickHit b (e .start) (hitIn u n es) ≡ At (getD (e ∷ es) (cond b 0 (suc (pairPlace u n es))) d .start)
     go true h ih = refl
     go false h ih = ih (le-of-suc-le-suc h)
@@ -184,7 +188,8 @@ unfolding pairPlace hitIn
 place-none u n [] h = refl
 place-none u n (e ∷ es) h = go (eqb (e .usage) u && eqb (e .number) n) h (place-none u n es)
   where
-    go : (b : Bool) → suc (length es) ≤ cond b 0 (suc (pairPlace u n es)) → (length es ≤ pairPlace u n es → hitIn u n es ≡ Nothing) → pickHit b (e .start) (hitIn u n es) ≡ Nothing
+    go : (b : Bool) → suc (length es) ≤ cond b 0 (suc (pairPlace u n es)) → (length es ≤ pairPlace u n es → hitIn u n es ≡ Nothing) → pickHit b (e .start)
+        (hitIn u n es) ≡ Nothing
     go true h ih = absurd (not-suc-le-zero h)
     go false h ih = ih (le-of-suc-le-suc h)
 
@@ -194,7 +199,8 @@ module _ (f : List ℕ) (u n count i : ℕ) (e : i ≡ pairPlace u n (entriesIn 
   find-at h x ex =
       let d : Entry = record { usage = 0; number = 0; start = 0 } in
       let l : pairPlace u n (entriesIn count (drop 24 f)) < length (entriesIn count (drop 24 f)) = rw (length-entriesIn count (drop 24 f)) (omega arith) in
-      let g : getD (entriesIn count (drop 24 f)) i d .start ≡ x = ap (λ (y : Entry). y .start) (entry-getD f count i 24 d h) ∙ ap rd32 (drop-drop 8 (place i) f) ∙ sym ex in
+      let g : getD (entriesIn count (drop 24 f)) i d .start ≡ x = ap (λ (y : Entry). y .start) (entry-getD f count i 24 d h)
+      ∙ ap rd32 (drop-drop 8 (place i) f) ∙ sym ex in
       sym (place-start u n (entriesIn count (drop 24 f)) d l ∙ ap (λ (k : ℕ). At (getD (entriesIn count (drop 24 f)) k d .start)) (sym e) ∙ ap At g)
 
   pub find-none : count ≤ i → Nothing ≡ hitIn u n (entriesIn count (drop 24 f))
@@ -269,7 +275,8 @@ module _ (R : Rules) (f : List ℕ) (base : ℕ) (w : walkFrom f base ≡ accept
       (picture-hit n es (earlier ++ (r ∷ [])) (p + 12) (a .2)))
     where
       go : (b : Bool) → eqb (y .usage) Pict && eqb (y .number) n ≡ b
-          → (pairIn Pict n earlier || (eqb (y .usage) Pict && eqb (y .number) n) ≡ true → picture n (chunksFrom f base) (map (refOf base (chunksFrom f base)) es) ≡ false)
+          → (pairIn Pict n earlier || (eqb (y .usage) Pict && eqb (y .number) n) ≡ true → picture n (chunksFrom f base)
+          (map (refOf base (chunksFrom f base)) es) ≡ false)
           → picture n (chunksFrom f base) (map (refOf base (chunksFrom f base)) es) ≡ pictureBy f (hitIn Pict n es)
           → b && not (eqb (rd32 (drop (y .start) f)) Rect) || picture n (chunksFrom f base) (map (refOf base (chunksFrom f base)) es)
           ≡ pictureBy f (pickHit b (y .start) (hitIn Pict n es))
@@ -279,7 +286,8 @@ module _ (R : Rules) (f : List ℕ) (base : ℕ) (w : walkFrom f base ≡ accept
       go false e later ih = ih
 
 -- the chunk of a hit
-pub hit-begun : (f : List ℕ) (count u n x : ℕ) → EntriesPassed f count → hitIn u n (entriesIn count (drop 24 f)) ≡ At x → (x < length f) × (walkFrom f x ≡ accept)
+pub hit-begun : (f : List ℕ) (count u n x : ℕ) → EntriesPassed f count → hitIn u n (entriesIn count (drop 24 f)) ≡ At x
+    → (x < length f) × (walkFrom f x ≡ accept)
 hit-begun f count u n x j e =
     let b = begun f x (place count) (j .walks) (hit-start (j .rules) f (place count) (j .walks) u n x (entriesIn count (drop 24 f)) [] 24 (j .entries) e) in
     (b .below, b .walks)

@@ -43,7 +43,8 @@ rules-flags rs all earlier at (c ∷ cs) =
 
 pub optional-is : (R : Rules) (f : List ℕ) (count : ℕ) → walkFrom f (place count) ≡ accept
     → entriesFault R (place count) (chunksFrom f (place count)) [] 24 (entriesIn count (drop 24 f)) ≡ accept
-    → optional (place count) (map (refOf (place count) (chunksFrom f (place count))) (entriesIn count (drop 24 f))) (chunksFrom f (place count)) ≡ optionalFault f count
+    → optional (place count) (map (refOf (place count) (chunksFrom f (place count))) (entriesIn count (drop 24 f))) (chunksFrom f (place count)) ≡
+    optionalFault f count
 unfolding optional optionalFault pictured typeIn
 optional-is R f count w h =
     rules-flags _ _ [] (place count) (chunksFrom f (place count))
@@ -121,7 +122,8 @@ module _ (pic : ℕ → Bool) (f : List ℕ) (a b : Bool) (at : ℕ) where
   rules-end h = rw (chunks-end f at h)
 
   module _ (h : at < length f) (w : walkFrom f at ≡ accept) where
-    turn : rulesFrom pic a b at (chunksFrom f at) ≡ oneRule pic a b at (chunkFrom f at) then rulesFrom pic (a || eqb (rd32 (drop at f)) RelN) (b || eqb (rd32 (drop at f)) Fspc) (skipAt f at) (chunksFrom f (skipAt f at))
+    turn : rulesFrom pic a b at (chunksFrom f at) ≡ oneRule pic a b at (chunkFrom f at) then rulesFrom pic (a || eqb (rd32 (drop at f)) RelN)
+        (b || eqb (rd32 (drop at f)) Fspc) (skipAt f at) (chunksFrom f (skipAt f at))
     unfolding rulesFrom chunkIn
     turn = let i = fine f at h w in rw (i .chunks, i .next)
 

@@ -13,7 +13,20 @@ ghost use Rattle.blorb.specs.Rules.{plainAllows};
 ghost use Rattle.blorb.specs.Usages.{codeOf};
 ghost use Rattle.blorb.specs.declared.Usage.the-variants.{Exec};
 ghost use Rattle.chunks.specs.Walk.{chunkFrom, chunksFrom, walkFrom, verdictOf, Reached};
-ghost use Rattle.index.specs.Entries.{startAt, place, typedAt, entryFault, unstartedFault, judgedBy, samePair, usageAt, numberAt, slotOf, entriesFrom, pairPlace};
+ghost use Rattle.index.specs.Entries.{
+  startAt,
+  place,
+  typedAt,
+  entryFault,
+  unstartedFault,
+  judgedBy,
+  samePair,
+  usageAt,
+  numberAt,
+  slotOf,
+  entriesFrom,
+  pairPlace,
+};
 ghost use Rattle.index.specs.Hits.{hitIn};
 
 // An entry's judgement: its start, where a chunk begins, or its fault.

@@ -72,7 +72,8 @@ module _ (profile : ℕ) (m : Model) (u n t : ℕ) (d : List ℕ) (s : Sound m) 
   own-type = getD-append-seam (m .chunks) c [] noChunk
 
   entry-judged : refFault (rulesOf profile) (m .chunks ++ (c ∷ [])) (m .refs) (24 + 12 * K) x
-      ≡ check (allows profile u c) 14 (24 + 12 * K) then check (not (eqb u Exec) || eqb n 0) 15 (24 + 12 * K + 4) then check (not (ltb (find u n (m .refs)) K)) 16 (24 + 12 * K)
+      ≡ check (allows profile u c) 14 (24 + 12 * K) then check (not (eqb u Exec) || eqb n 0) 15 (24 + 12 * K + 4) then check
+      (not (ltb (find u n (m .refs)) K)) 16 (24 + 12 * K)
   unfolding refFault
   entry-judged = rw (own-type, pair-found u n (m .refs))
 
@@ -87,7 +88,8 @@ module _ (profile : ℕ) (m : Model) (u n t : ℕ) (d : List ℕ) (s : Sound m) 
       let v : Verdict = check (not (eqb u Exec) || eqb n 0) 15 (24 + 12 * K + 4) then check (not (ltb (find u n (m .refs)) K)) 16 (24 + 12 * K) in
       let w : Verdict = optional (base (suc K)) (m .refs ++ (x ∷ [])) (m .chunks ++ (c ∷ [])) in
       let A : Verdict = check (knownUsage u) 12 (24 + 12 * K) in
-      let e : (A then refFault (rulesOf profile) (m .chunks ++ (c ∷ [])) (m .refs) (24 + 12 * K) x) then w ≡ A then (check (allows profile u c) 14 (24 + 12 * K) then v)
+      let e : (A then refFault (rulesOf profile) (m .chunks ++ (c ∷ [])) (m .refs) (24 + 12 * K) x) then w ≡ A then
+      (check (allows profile u c) 14 (24 + 12 * K) then v)
       = ap (λ (z : Verdict). (A then z) then w) entry-judged ∙ then-assoc A (check (allows profile u c) 14 (24 + 12 * K) then v) w
       ∙ ap (λ (z : Verdict). A then z) (unlooked (allows profile u c) 14 (24 + 12 * K) v w seven) in
       added-verdict (rulesOf profile) m u n c s ok
@@ -101,9 +103,12 @@ module _ (profile : ℕ) (m : Model) (u n t : ℕ) (d : List ℕ) (s : Sound m) 
       let l1 : length (file (added m u n c)) ≡ length (file m) + (20 + (length d + length d % 2)) = length-added m u n c ∙ omega (arith, size-of t d) in
       let sd : Sound (added m u n c) = added-sound m u n c s hu hn (record { type-fits = ht }) in
       ap hundred (verdict-file (rulesOf profile) (added m u n c) sd (added-in-order m u n c s ord) ∙ (λ i. check (leb (l1 i) 16777216) 1 0 then model-judged i))
-      ∙ hundreds (leb (length (file m) + (20 + (length d + length d % 2))) 16777216) (not (eqb t RIdx)) (leb (suc K) 4096) (knownUsage u) (allows profile u c) (not (eqb u Exec) || eqb n 0) (not (ltb (find u n (m .refs)) K)) (length (file m) + 12) (24 + 12 * K)
-      ∙ ap (λ (z : ℕ). check (leb (length (file m) + (20 + (length d + length d % 2))) 16777216) 101 0 then (check (not (eqb t RIdx)) 109 (length (file m) + 12) then (check (leb z 4096) 111 20
-      then (check (knownUsage u) 112 (24 + 12 * K) then (check (allows profile u c) 114 (24 + 12 * K) then (check (not (eqb u Exec) || eqb n 0) 115 (24 + 12 * K + 4) then check (not (ltb (find u n (m .refs)) K)) 116 (24 + 12 * K))))))) k1
+      ∙ hundreds (leb (length (file m) + (20 + (length d + length d % 2))) 16777216) (not (eqb t RIdx)) (leb (suc K) 4096) (knownUsage u)
+      (allows profile u c) (not (eqb u Exec) || eqb n 0) (not (ltb (find u n (m .refs)) K)) (length (file m) + 12) (24 + 12 * K)
+      ∙ ap (λ (z : ℕ). check (leb (length (file m) + (20 + (length d + length d % 2))) 16777216) 101 0 then
+      (check (not (eqb t RIdx)) 109 (length (file m) + 12) then (check (leb z 4096) 111 20
+      then (check (knownUsage u) 112 (24 + 12 * K) then (check (allows profile u c) 114 (24 + 12 * K) then (check (not (eqb u Exec) || eqb n 0) 115
+      (24 + 12 * K + 4) then check (not (ltb (find u n (m .refs)) K)) 116 (24 + 12 * K))))))) k1
     where
       hundreds : (a b c d e f g : Bool) (p q : ℕ)
           → hundred (check a 1 0 then (check b 9 p then (check c 11 20 then (check d 12 q then (check e 14 q then (check f 15 (q + 4) then check g 16 q))))))
@@ -117,7 +122,8 @@ add-fault : (profile : ℕ) (f : List ℕ) (k : ℕ) (b : Bool) (u n t : ℕ) (d
 add-fault profile f k b u n t d bytes fine co eb hu hn ht =
     let g = accept-back (rulesOf profile) f bytes fine in
     let old : verdict (rulesOf profile) (file (model f)) ≡ accept = ap (verdict (rulesOf profile)) (g .0) ∙ fine in
-    add-judged profile (model f) u n t d (g .1) (file-judged (rulesOf profile) (model f) (g .1) old) hu hn ht (file-ordered (rulesOf profile) (model f) (g .1) old)
+    add-judged profile (model f) u n t d (g .1) (file-judged (rulesOf profile) (model f) (g .1) old) hu hn ht
+    (file-ordered (rulesOf profile) (model f) (g .1) old)
     ∙ (λ j. addJudged profile (length (g .0 j)) (sym (co .entries) j) (eb j) u n t d)
 
 -- the ways out of the code
@@ -164,8 +170,10 @@ module _ (profile : ℕ) (f : List ℕ) (k : ℕ) (g : Target) (u n t : ℕ) (d 
             module _ (h6 : (not (eqb u Exec) || eqb n 0) ≡ true) where
               pub out-116 : (p : Piece) → g ≡ target.At p → refuse 116 (24 + 12 * k) ≡ H
               unfolding addJudged check _then_
-              out-116 p e = sym (shape true (target-at (model f) u n p (sym (pre .1 .1) ∙ e) .0) ∙ rw (le-leb _ _ h1, ne-eqb t RIdx h2, le-leb _ _ h3, h4, h5, h6))
+              out-116 p e = sym (shape true (target-at (model f) u n p (sym (pre .1 .1) ∙ e) .0)
+                  ∙ rw (le-leb _ _ h1, ne-eqb t RIdx h2, le-leb _ _ h3, h4, h5, h6))
 
               pub out-done : g ≡ target.Nothing → accept ≡ H
               unfolding addJudged check _then_
-              out-done e = sym (shape false (target-nothing (model f) u n (sym (pre .1 .1) ∙ e)) ∙ rw (le-leb _ _ h1, ne-eqb t RIdx h2, le-leb _ _ h3, h4, h5, h6))
+              out-done e = sym (shape false (target-nothing (model f) u n (sym (pre .1 .1) ∙ e))
+                  ∙ rw (le-leb _ _ h1, ne-eqb t RIdx h2, le-leb _ _ h3, h4, h5, h6))

@@ -70,7 +70,8 @@ module _ (profile : ℕ) (b : List ℕ) (l J U u n x : ℕ) where
   asked-whole fs e = told-whole _ (model (take l b)) u n x fs e
 
 -- the entry of a pair
-pub target-at : (m : Model) (u n : ℕ) (p : Piece) → targetOf m u n ≡ target.At p → (ltb (find u n (m .refs)) (length (m .refs)) ≡ true) × (p ≡ pieceOf m (find u n (m .refs)))
+pub target-at : (m : Model) (u n : ℕ) (p : Piece) → targetOf m u n ≡ target.At p → (ltb (find u n (m .refs)) (length (m .refs)) ≡ true)
+    × (p ≡ pieceOf m (find u n (m .refs)))
 unfolding targetOf
 target-at m u n p e = go (ltb (find u n (m .refs)) (length (m .refs))) e
   where
@@ -108,7 +109,8 @@ front-nothing m e = go (typeIn Fspc (m .chunks)) e
     go false e = refl
     go true e = cc
 
-pub front-at : (m : Model) (s q : ℕ) → frontOf m ≡ front.At s q → (typeIn Fspc (m .chunks) ≡ true) × (s ≡ start m (frontPlace (m .chunks))) × (q ≡ frontNumber (m .chunks))
+pub front-at : (m : Model) (s q : ℕ) → frontOf m ≡ front.At s q → (typeIn Fspc (m .chunks) ≡ true) × (s ≡ start m (frontPlace (m .chunks)))
+    × (q ≡ frontNumber (m .chunks))
 unfolding frontOf
 front-at m s q e = go (typeIn Fspc (m .chunks)) e
   where

@@ -49,7 +49,8 @@ not-flip true y e = ap not e
 not-flip false y e = ap not e
 
 -- the frontispiece's place among fewer chunks
-front-without : (cs : List Chunk) (k : ℕ) → k < length cs → Plain (getD cs k noChunk) → (frontPlace (without k cs) ≡ lower k (record { usage = 0; number = 0; chunk = frontPlace cs }) .chunk) × (eqb (frontPlace cs) k ≡ false)
+front-without : (cs : List Chunk) (k : ℕ) → k < length cs → Plain (getD cs k noChunk)
+    → (frontPlace (without k cs) ≡ lower k (record { usage = 0; number = 0; chunk = frontPlace cs }) .chunk) × (eqb (frontPlace cs) k ≡ false)
 unfolding frontPlace without lower
 front-without [] k h p = absurd (not-suc-le-zero h)
 front-without (c ∷ cs) zero h p = rw (p .no-front) (lowered (frontPlace cs), ne-eqb (suc (frontPlace cs)) 0 (λ e. omega arith))
@@ -65,8 +66,10 @@ front-without (c ∷ cs) (suc k) h p = go (eqb (c .type) Fspc) (front-without cs
         at-test true e = let lt = ltb-true k x e in rw (lt-ltb (suc k) (suc x) (omega arith)) (omega arith)
         at-test false e = let le = ltb-false k x e in rw (le-ltb (suc k) (suc x) (omega arith))
 
-    go : (b : Bool) → (frontPlace (take k cs ++ drop (suc k) cs) ≡ cond (ltb k (frontPlace cs)) (frontPlace cs - 1) (frontPlace cs)) × (eqb (frontPlace cs) k ≡ false)
-        → (cond b 0 (suc (frontPlace (take k cs ++ drop (suc k) cs))) ≡ cond (ltb (suc k) (cond b 0 (suc (frontPlace cs)))) (cond b 0 (suc (frontPlace cs)) - 1) (cond b 0 (suc (frontPlace cs)))) × (eqb (cond b 0 (suc (frontPlace cs))) (suc k) ≡ false)
+    go : (b : Bool) → (frontPlace (take k cs ++ drop (suc k) cs) ≡ cond (ltb k (frontPlace cs)) (frontPlace cs - 1) (frontPlace cs))
+        × (eqb (frontPlace cs) k ≡ false)
+        → (cond b 0 (suc (frontPlace (take k cs ++ drop (suc k) cs))) ≡ cond (ltb (suc k) (cond b 0 (suc (frontPlace cs))))
+        (cond b 0 (suc (frontPlace cs)) - 1) (cond b 0 (suc (frontPlace cs)))) × (eqb (cond b 0 (suc (frontPlace cs))) (suc k) ≡ false)
     go true ih = (rw (le-ltb (suc k) 0 (omega arith)), ne-eqb 0 (suc k) (λ e. omega arith))
     go false ih = (ap suc (ih .0) ∙ up (frontPlace cs), ne-eqb (suc (frontPlace cs)) (suc k) (λ e. eqb-false (frontPlace cs) k (ih .1) (omega arith)))
 
@@ -81,9 +84,11 @@ fell-all n cs s j = both (ltb s (24 + 12 * suc n + total (take j cs)))
 -- what rule 7 says after a removal, in the old file's terms
 unfoldable pub lostFront : Model → ℕ → ℕ → ℕ → Verdict
 lostFront m i u n = cond (typeIn Fspc (m .chunks))
-    (check (not (eqb u Pict && eqb n (frontNumber (m .chunks)))) 19 (fallen (start m (refAt m i .chunk)) (goneSize m i) (start m (frontPlace (m .chunks))) + 8)) accept
+    (check (not (eqb u Pict && eqb n (frontNumber (m .chunks)))) 19 (fallen (start m (refAt m i .chunk)) (goneSize m i)
+    (start m (frontPlace (m .chunks))) + 8)) accept
 
-module _ (profile : ℕ) (m : Model) (i u n : ℕ) (s : Sound m) (ok : modelFault (rulesOf profile) m ≡ accept) (h : i < length (m .refs)) (eu : refAt m i .usage ≡ u) (en : refAt m i .number ≡ n) where
+module _ (profile : ℕ) (m : Model) (i u n : ℕ) (s : Sound m) (ok : modelFault (rulesOf profile) m ≡ accept) (h : i < length (m .refs))
+    (eu : refAt m i .usage ≡ u) (en : refAt m i .number ≡ n) where
   abbrev k : ℕ
   k = refAt m i .chunk
 
@@ -93,7 +98,8 @@ module _ (profile : ℕ) (m : Model) (i u n : ℕ) (s : Sound m) (ok : modelFaul
   abbrev rs : List Ref
   rs = m .refs
 
-  parts : (secondIndex (base (length (m .refs))) (m .chunks) ≡ accept) × (length (m .refs) ≤ 4096) × (refsFault (rulesOf profile) (m .chunks) [] 24 (m .refs) ≡ accept) × (optional (base (length (m .refs))) (m .refs) (m .chunks) ≡ accept)
+  parts : (secondIndex (base (length (m .refs))) (m .chunks) ≡ accept) × (length (m .refs) ≤ 4096) × (refsFault (rulesOf profile) (m .chunks) [] 24
+      (m .refs) ≡ accept) × (optional (base (length (m .refs))) (m .refs) (m .chunks) ≡ accept)
   unfolding modelFault
   parts =
       let a = then-accept _ _ ok in
@@ -113,7 +119,8 @@ module _ (profile : ℕ) (m : Model) (i u n : ℕ) (s : Sound m) (ok : modelFaul
       (picture-without profile q cs i rs (parts .2) h (ap (λ (z : ℕ). picture z cs rs) w ∙ front-picture (base (length rs)) rs cs (parts .3) e))
       ∙ ap not (pair q)
 
-  pick : (b : Bool) (x y p p′ : ℕ) (t t′ : Bool) → typeIn Fspc (m .chunks) ≡ b → (b ≡ true → t ≡ t′) → p ≡ p′ → cond b (check t 19 (p + 8)) accept ≡ cond b (check t′ 19 (p′ + 8)) accept
+  pick : (b : Bool) (x y p p′ : ℕ) (t t′ : Bool) → typeIn Fspc (m .chunks) ≡ b → (b ≡ true → t ≡ t′) → p ≡ p′ → cond b (check t 19 (p + 8)) accept ≡ cond b
+      (check t′ 19 (p′ + 8)) accept
   pick true x y p p′ t t′ e f w = λ z. check (f refl z) 19 (w z + 8)
   pick false x y p p′ t t′ e f w = refl
 
@@ -126,10 +133,12 @@ module _ (profile : ℕ) (m : Model) (i u n : ℕ) (s : Sound m) (ok : modelFaul
       let x : Ref = record { usage = 0; number = 0; chunk = frontPlace cs } in
       let n1 : length (map (lower k) (without i rs)) ≡ length (without i rs) = length-map (without i rs) (lower k) in
       let n2 : suc (length (without i rs)) ≡ length rs = length-without i rs h in
-      let place : startOf (base (length (map (lower k) (without i rs)))) (without k cs) (frontPlace (without k cs)) ≡ fallen (startOf (base (length rs)) cs k) (goneSize m i) (startOf (base (length rs)) cs (frontPlace cs))
+      let place : startOf (base (length (map (lower k) (without i rs)))) (without k cs) (frontPlace (without k cs)) ≡ fallen
+      (startOf (base (length rs)) cs k) (goneSize m i) (startOf (base (length rs)) cs (frontPlace cs))
       = (λ z. startOf (base (n1 z)) (without k cs) (fw .0 z)) ∙ fell (length (without i rs)) cs k x there (fw .1)
       ∙ (λ z. fallen (startOf (base (n2 z)) cs k) (sym gs z) (startOf (base (n2 z)) cs (frontPlace cs))) in
-      optional-like (base (length rs)) (base (length (map (lower k) (without i rs)))) rs (map (lower k) (without i rs)) cs (without k cs) (like-without cs k there pl) (parts .3)
+      optional-like (base (length rs)) (base (length (map (lower k) (without i rs)))) rs (map (lower k) (without i rs)) cs (without k cs)
+      (like-without cs k there pl) (parts .3)
       ∙ pick (typeIn Fspc cs) 0 0 _ _ _ _ refl (λ e. picture-lower (frontNumber cs) cs k (without i rs) alone ∙ still (frontNumber cs) e refl) place
 
   entry-seven : goneSize m i ≡ 0
@@ -137,8 +146,10 @@ module _ (profile : ℕ) (m : Model) (i u n : ℕ) (s : Sound m) (ok : modelFaul
   unfolding lostFront removedEntry start
   entry-seven gs =
       let n2 : suc (length (without i rs)) ≡ length rs = length-without i rs h in
-      let place : startOf (base (length (without i rs))) cs (frontPlace cs) ≡ fallen (startOf (base (length rs)) cs k) (goneSize m i) (startOf (base (length rs)) cs (frontPlace cs))
-      = fell-all (length (without i rs)) cs (startOf (base (length rs)) cs k) (frontPlace cs) ∙ (λ z. fallen (startOf (base (length rs)) cs k) (sym gs z) (startOf (base (n2 z)) cs (frontPlace cs))) in
+      let place : startOf (base (length (without i rs))) cs (frontPlace cs) ≡ fallen (startOf (base (length rs)) cs k) (goneSize m i)
+      (startOf (base (length rs)) cs (frontPlace cs))
+      = fell-all (length (without i rs)) cs (startOf (base (length rs)) cs k) (frontPlace cs) ∙ (λ z. fallen (startOf (base (length rs)) cs k) (sym gs z)
+      (startOf (base (n2 z)) cs (frontPlace cs))) in
       optional-like (base (length rs)) (base (length (without i rs))) rs (without i rs) cs cs (like-self cs) (parts .3)
       ∙ pick (typeIn Fspc cs) 0 0 _ _ _ _ refl (λ e. still (frontNumber cs) e refl) place
 
@@ -157,7 +168,8 @@ module _ (profile : ℕ) (m : Model) (i u n : ℕ) (s : Sound m) (ok : modelFaul
       let le : length (removedBoth m i k .refs) ≤ 4096 = omega (arith, length-remaining m i k h, parts .1) in
       let a : secondIndex (base (length (removedBoth m i k .refs))) (removedBoth m i k .chunks) ≡ accept
       = (unfold removedBoth in second-without (base (length rs)) (base (length (map (lower k) (without i rs)))) cs k (parts .0)) in
-      let b : refsFault (rulesOf profile) (removedBoth m i k .chunks) [] 24 (removedBoth m i k .refs) ≡ accept = (unfold removedBoth shared in refs-removed (rulesOf profile) cs k i rs e (parts .2)) in
+      let b : refsFault (rulesOf profile) (removedBoth m i k .chunks) [] 24 (removedBoth m i k .refs) ≡ accept =
+      (unfold removedBoth shared in refs-removed (rulesOf profile) cs k i rs e (parts .2)) in
       accepts _ _ a ∙ pass _ _ _ _ (le-leb _ _ le) ∙ accepts _ _ b
       ∙ both-seven e (gone-alone e)
 
@@ -167,7 +179,8 @@ module _ (profile : ℕ) (m : Model) (i u n : ℕ) (s : Sound m) (ok : modelFaul
       let le : length (removedEntry m i .refs) ≤ 4096 = (unfold removedEntry in omega (arith, length-without i rs h, parts .1)) in
       let a : secondIndex (base (length (removedEntry m i .refs))) (removedEntry m i .chunks) ≡ accept
       = (unfold removedEntry in second-any (base (length rs)) (base (length (without i rs))) cs (parts .0)) in
-      let b : refsFault (rulesOf profile) (removedEntry m i .chunks) [] 24 (removedEntry m i .refs) ≡ accept = (unfold removedEntry in refs-without (rulesOf profile) cs [] [] 24 24 i rs (λ a b c. c) (parts .2)) in
+      let b : refsFault (rulesOf profile) (removedEntry m i .chunks) [] 24 (removedEntry m i .refs) ≡ accept =
+      (unfold removedEntry in refs-without (rulesOf profile) cs [] [] 24 24 i rs (λ a b c. c) (parts .2)) in
       accepts _ _ a ∙ pass _ _ _ _ (le-leb _ _ le) ∙ accepts _ _ b
       ∙ entry-seven (gone-shared e)
 
@@ -183,7 +196,8 @@ module _ (profile : ℕ) (m : Model) (i u n : ℕ) (s : Sound m) (ok : modelFaul
   unfolding removed goneSize
   removed-length = go (shared m i) refl
     where
-      go : (b : Bool) → shared m i ≡ b → length (file (cond b (removedEntry m i) (removedBoth m i (refAt m i .chunk)))) + (12 + cond b 0 (size (chunkAt m (refAt m i .chunk)))) ≡ length (file m)
+      go : (b : Bool) → shared m i ≡ b → length (file (cond b (removedEntry m i) (removedBoth m i (refAt m i .chunk)))) + (12 + cond b 0
+          (size (chunkAt m (refAt m i .chunk)))) ≡ length (file m)
       go false e = omega (arith, length-removed m i (refAt m i .chunk) h there)
       go true e = entry-length
         where
@@ -201,7 +215,8 @@ pub remove-fault : (profile : ℕ) (f : List ℕ) (u n : ℕ) → All Byte f →
     → find u n (model f .refs) < length (model f .refs)
     → hundred (verdict (rulesOf profile) (file (removed (model f) (find u n (model f .refs)))))
     ≡ cond (typeIn Fspc (model f .chunks)) (check (not (eqb u Pict && eqb n (frontNumber (model f .chunks)))) 119
-    (fallen (start (model f) (refAt (model f) (find u n (model f .refs)) .chunk)) (goneSize (model f) (find u n (model f .refs))) (start (model f) (frontPlace (model f .chunks))) + 8)) accept
+    (fallen (start (model f) (refAt (model f) (find u n (model f .refs)) .chunk)) (goneSize (model f) (find u n (model f .refs)))
+    (start (model f) (frontPlace (model f .chunks))) + 8)) accept
 unfolding edited
 remove-fault profile f u n bytes fine hu hn found =
     let m : Model = model f in
@@ -212,9 +227,17 @@ remove-fault profile f u n bytes fine hu hn found =
     let ord = edits-keep-order m (remove u n) (g .1) (file-ordered (rulesOf profile) m (g .1) old) in
     let fp = find-pair u n (m .refs) found in
     let sd : Sound (removed m i) = edit-sound m (remove u n) (g .1) (hu, hn) found in
-    let short : length (file (removed m i)) ≤ 16777216 = omega (arith, removed-length profile m i u n (g .1) mf found (fp .0) (fp .1), ap length (g .0), g .2) in
-    ap hundred (verdict-file (rulesOf profile) (removed m i) sd ord ∙ pass _ _ _ _ (le-leb _ _ short) ∙ removed-model profile m i u n (g .1) mf found (fp .0) (fp .1))
-    ∙ (unfold lostFront in hundred-front (typeIn Fspc (m .chunks)) (not (eqb u Pict && eqb n (frontNumber (m .chunks)))) (fallen (start m (refAt m i .chunk)) (goneSize m i) (start m (frontPlace (m .chunks))) + 8))
+    let short : length (file (removed m i)) ≤ 16777216 = omega (
+      arith,
+      removed-length profile m i u n (g .1) mf found (fp .0) (fp .1),
+      ap length
+          (g .0),
+      g .2,
+    ) in
+    ap hundred (verdict-file (rulesOf profile) (removed m i) sd ord ∙ pass _ _ _ _ (le-leb _ _ short) ∙ removed-model profile m i u n (g .1) mf found
+    (fp .0) (fp .1))
+    ∙ (unfold lostFront in hundred-front (typeIn Fspc (m .chunks)) (not (eqb u Pict && eqb n (frontNumber (m .chunks)))) (fallen (start m (refAt m i .chunk))
+    (goneSize m i) (start m (frontPlace (m .chunks))) + 8))
 
 -- the ways out of the code
 module _ (profile : ℕ) (f : List ℕ) (r : Front) (u n s a : ℕ) (bytes : All Byte f)
@@ -232,10 +255,12 @@ module _ (profile : ℕ) (f : List ℕ) (r : Front) (u n s a : ℕ) (bytes : All
         let w = front-at (model f) at q (sym (pre .1 .1) ∙ e) in
         remove-fault profile f u n bytes (pre .0) hu hn (li .found)
         ∙ ap (λ (b : Bool). cond b (check (not (eqb u Pict && eqb n (frontNumber (model f .chunks)))) 119
-        (fallen (start (model f) (refAt (model f) (find u n (model f .refs)) .chunk)) (goneSize (model f) (find u n (model f .refs))) (start (model f) (frontPlace (model f .chunks))) + 8)) accept) (w .0)
+        (fallen (start (model f) (refAt (model f) (find u n (model f .refs)) .chunk)) (goneSize (model f) (find u n (model f .refs)))
+        (start (model f) (frontPlace (model f .chunks))) + 8)) accept) (w .0)
         ∙ (λ z. check (not (eqb u Pict && eqb n (sym (w .2) z))) 119 (fallen (sym (li .starts) z) (sym (li .gone) z) (sym (w .1) z) + 8))
 
-    pub lost-front : (eqb u Pict && eqb n q) ≡ true → refuse 119 (fallen s a at + 8) ≡ hundred (verdict (rulesOf profile) (file (removed (model f) (find u n (model f .refs)))))
+    pub lost-front : (eqb u Pict && eqb n q) ≡ true → refuse 119 (fallen s a at + 8) ≡ hundred
+        (verdict (rulesOf profile) (file (removed (model f) (find u n (model f .refs)))))
     unfolding check
     lost-front t = sym (shape ∙ rw t)
 

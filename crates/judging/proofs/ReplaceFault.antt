@@ -44,16 +44,19 @@ use Rattle.judging.proofs.RemoveFault.{hundred-front}
 use Rattle.edits.proofs.FaultLaws.{hundred-then, hundred-check}
 
 -- a second index: only the new chunk can be one
-second-set : (at at′ : ℕ) (cs : List Chunk) (k : ℕ) (c : Chunk) → k < length cs → secondIndex at cs ≡ accept → secondIndex at′ (set cs k c) ≡ check (not (eqb (c .type) RIdx)) 9 (startOf at′ cs k)
+second-set : (at at′ : ℕ) (cs : List Chunk) (k : ℕ) (c : Chunk) → k < length cs → secondIndex at cs ≡ accept → secondIndex at′ (set cs k c) ≡ check
+    (not (eqb (c .type) RIdx)) 9 (startOf at′ cs k)
 unfolding secondIndex startOf total
 second-set at at′ [] k c h ok = absurd (not-suc-le-zero h)
 second-set at at′ (x ∷ cs) zero c h ok =
     let z : at′ ≡ at′ + 0 = omega arith in
-    ap (λ (v : Verdict). check (not (eqb (c .type) RIdx)) 9 at′ then v) (second-any (at + size x) (at′ + size c) cs (then-accept _ _ ok .1)) ∙ then-end _ ∙ ap (check (not (eqb (c .type) RIdx)) 9) z
+    ap (λ (v : Verdict). check (not (eqb (c .type) RIdx)) 9 at′ then v) (second-any (at + size x) (at′ + size c) cs (then-accept _ _ ok .1)) ∙ then-end _
+    ∙ ap (check (not (eqb (c .type) RIdx)) 9) z
 second-set at at′ (x ∷ cs) (suc k) c h ok =
     let p = then-accept _ _ ok in
     let z : at′ + size x + total (take k cs) ≡ at′ + (size x + total (take k cs)) = omega arith in
-    pass _ _ _ _ (check-accept _ _ _ (p .0)) ∙ second-set (at + size x) (at′ + size x) cs k c (le-of-suc-le-suc h) (p .1) ∙ ap (check (not (eqb (c .type) RIdx)) 9) z
+    pass _ _ _ _ (check-accept _ _ _ (p .0)) ∙ second-set (at + size x) (at′ + size x) cs k c (le-of-suc-le-suc h) (p .1)
+    ∙ ap (check (not (eqb (c .type) RIdx)) 9) z
 
 -- the frontispiece keeps its place
 front-set : (cs : List Chunk) (k : ℕ) (c : Chunk) → k < length cs → Plain (getD cs k noChunk) → Plain c → frontPlace (set cs k c) ≡ frontPlace cs
@@ -62,7 +65,8 @@ front-set [] k c h o p = absurd (not-suc-le-zero h)
 front-set (x ∷ cs) zero c h o p = rw (o .no-front, p .no-front)
 front-set (x ∷ cs) (suc k) c h o p = rw (front-set cs k c (le-of-suc-le-suc h) o p)
 
-module _ (profile : ℕ) (m : Model) (u n t : ℕ) (d : List ℕ) (s : Sound m) (ok : modelFault (rulesOf profile) m ≡ accept) (h : find u n (m .refs) < length (m .refs)) (alone : shared m (find u n (m .refs)) ≡ false) where
+module _ (profile : ℕ) (m : Model) (u n t : ℕ) (d : List ℕ) (s : Sound m) (ok : modelFault (rulesOf profile) m ≡ accept)
+    (h : find u n (m .refs) < length (m .refs)) (alone : shared m (find u n (m .refs)) ≡ false) where
   abbrev i : ℕ
   i = find u n (m .refs)
 
@@ -81,7 +85,8 @@ module _ (profile : ℕ) (m : Model) (u n t : ℕ) (d : List ℕ) (s : Sound m) 
   abbrev p : ℕ
   p = 24 + 12 * find u n (m .refs)
 
-  parts : (secondIndex (base (length (m .refs))) (m .chunks) ≡ accept) × (length (m .refs) ≤ 4096) × (refsFault (rulesOf profile) (m .chunks) [] 24 (m .refs) ≡ accept) × (optional (base (length (m .refs))) (m .refs) (m .chunks) ≡ accept)
+  parts : (secondIndex (base (length (m .refs))) (m .chunks) ≡ accept) × (length (m .refs) ≤ 4096) × (refsFault (rulesOf profile) (m .chunks) [] 24
+      (m .refs) ≡ accept) × (optional (base (length (m .refs))) (m .refs) (m .chunks) ≡ accept)
   unfolding modelFault
   parts =
       let a = then-accept _ _ ok in
@@ -95,19 +100,22 @@ module _ (profile : ℕ) (m : Model) (u n t : ℕ) (d : List ℕ) (s : Sound m) 
   -- 119: the frontispiece's picture becomes a 'Rect'
   unfoldable pub spoiltFront : Verdict
   spoiltFront = cond (typeIn Fspc (m .chunks)) (check (not ((eqb u Pict && eqb n (frontNumber (m .chunks))) && eqb t Rect)) 19
-      (behind (start m (refAt m (find u n (m .refs)) .chunk)) (size (chunkAt m (refAt m (find u n (m .refs)) .chunk))) (size (chunkOf t d)) (start m (frontPlace (m .chunks))) + 8)) accept
+      (behind (start m (refAt m (find u n (m .refs)) .chunk)) (size (chunkAt m (refAt m (find u n (m .refs)) .chunk))) (size (chunkOf t d))
+      (start m (frontPlace (m .chunks))) + 8)) accept
 
   seven : allows profile u (chunkOf t d) ≡ true → optional (base (length (m .refs))) (m .refs) (set (m .chunks) k (chunkOf t d)) ≡ spoiltFront
   unfolding spoiltFront shared start
   seven pl =
       let o = chunk-plain profile cs [] 24 rs i (parts .2) h in
       let q = allowed-plain profile u c pl in
-      let place : startOf (base (length rs)) (set cs k c) (frontPlace (set cs k c)) ≡ behind (startOf (base (length rs)) cs k) (size (getD cs k noChunk)) (size c) (startOf (base (length rs)) cs (frontPlace cs))
+      let place : startOf (base (length rs)) (set cs k c) (frontPlace (set cs k c)) ≡ behind (startOf (base (length rs)) cs k) (size (getD cs k noChunk))
+      (size c) (startOf (base (length rs)) cs (frontPlace cs))
       = ap (startOf (base (length rs)) (set cs k c)) (front-set cs k c there o q) ∙ shifted (base (length rs)) cs k c (frontPlace cs) there in
       optional-replaced (rulesOf profile) (base (length rs)) (base (length rs)) cs rs u n c (parts .2) (parts .3) h alone there o q
       ∙ ap (λ (z : ℕ). cond (typeIn Fspc cs) (check (not ((eqb u Pict && eqb n (frontNumber cs)) && eqb t Rect)) 19 (z + 8)) accept) place
 
-  pub replaced-model : modelFault (rulesOf profile) (replaced m k (chunkOf t d)) ≡ check (not (eqb t RIdx)) 9 (start m k) then (check (allows profile u (chunkOf t d)) 14 p then spoiltFront)
+  pub replaced-model : modelFault (rulesOf profile) (replaced m k (chunkOf t d)) ≡ check (not (eqb t RIdx)) 9 (start m k) then
+      (check (allows profile u (chunkOf t d)) 14 p then spoiltFront)
   unfolding modelFault replaced start shared
   replaced-model =
       let fp = find-pair u n rs h in
@@ -116,9 +124,11 @@ module _ (profile : ℕ) (m : Model) (u n t : ℕ) (d : List ℕ) (s : Sound m) 
       = refs-replaced (rulesOf profile) cs k c there [] 24 rs i h refl alone (parts .2) ∙ ap (λ (z : ℕ). check (allows profile z c) 14 p) (fp .0) in
       let w : Verdict = optional (base (length rs)) rs (set cs k c) in
       (λ z. a z then (check (leb (length rs) 4096) 11 20 then (b z then w)))
-      ∙ ap (λ (v : Verdict). check (not (eqb t RIdx)) 9 (startOf (base (length rs)) cs k) then v) (pass _ _ _ _ (le-leb _ _ (parts .1)) ∙ looked (allows profile u c) refl w)
+      ∙ ap (λ (v : Verdict). check (not (eqb t RIdx)) 9 (startOf (base (length rs)) cs k) then v) (pass _ _ _ _ (le-leb _ _ (parts .1))
+      ∙ looked (allows profile u c) refl w)
     where
-      looked : (x : Bool) → allows profile u (chunkOf t d) ≡ x → (w : Verdict) → check x 14 p then optional (base (length (m .refs))) (m .refs) (set (m .chunks) k (chunkOf t d)) ≡ check x 14 p then spoiltFront
+      looked : (x : Bool) → allows profile u (chunkOf t d) ≡ x → (w : Verdict) → check x 14 p then optional (base (length (m .refs))) (m .refs)
+          (set (m .chunks) k (chunkOf t d)) ≡ check x 14 p then spoiltFront
       looked true e w = ap (λ (v : Verdict). check true 14 p then v) (seven e)
       looked false e w = (unfold check _then_ in refl)
 
@@ -130,7 +140,9 @@ pub replace-fault : (profile : ℕ) (f : List ℕ) (u n t : ℕ) (d : List ℕ) 
     then (check (not (eqb t RIdx)) 109 (start (model f) (refAt (model f) (find u n (model f .refs)) .chunk))
     then (check (allows profile u (chunkOf t d)) 114 (24 + 12 * find u n (model f .refs))
     then cond (typeIn Fspc (model f .chunks)) (check (not ((eqb u Pict && eqb n (frontNumber (model f .chunks))) && eqb t Rect)) 119
-    (behind (start (model f) (refAt (model f) (find u n (model f .refs)) .chunk)) (size (chunkAt (model f) (refAt (model f) (find u n (model f .refs)) .chunk))) (size (chunkOf t d)) (start (model f) (frontPlace (model f .chunks))) + 8)) accept))
+    (behind (start (model f) (refAt (model f) (find u n (model f .refs)) .chunk))
+    (size (chunkAt (model f) (refAt (model f) (find u n (model f .refs)) .chunk))) (size (chunkOf t d)) (start (model f) (frontPlace (model f .chunks)))
+    + 8)) accept))
 unfolding replaced
 replace-fault profile f u n t d bytes fine hu hn ht found alone =
     let m : Model = model f in
@@ -141,14 +153,19 @@ replace-fault profile f u n t d bytes fine hu hn ht found alone =
     let ord = file-ordered (rulesOf profile) m (g .1) old in
     let sd : Sound (replaced m k (chunkOf t d)) = replaced-sound m k (chunkOf t d) (g .1) (record { type-fits = ht }) in
     let th = there profile m u n t d (g .1) mf found alone in
-    let len : length (file (replaced m k (chunkOf t d))) ≡ length f - size (chunkAt m k) + size (chunkOf t d) = omega (arith, length-replaced m k (chunkOf t d) th, ap length (g .0), size-getD (m .chunks) k noChunk th, file-length m) in
+    let len : length (file (replaced m k (chunkOf t d))) ≡ length f - size (chunkAt m k) + size (chunkOf t d) =
+    omega (arith, length-replaced m k (chunkOf t d) th, ap length (g .0), size-getD (m .chunks) k noChunk th, file-length m) in
     ap hundred (verdict-file (rulesOf profile) (replaced m k (chunkOf t d)) sd ord
     ∙ (λ z. check (leb (len z) 16777216) 1 0 then replaced-model profile m u n t d (g .1) mf found alone z))
-    ∙ spread (leb (length f - size (chunkAt m k) + size (chunkOf t d)) 16777216) (not (eqb t RIdx)) (allows profile u (chunkOf t d)) (start m k) (24 + 12 * find u n (m .refs)) (spoiltFront profile m u n t d (g .1) mf found alone)
-    ∙ ap (λ (v : Verdict). check (leb (length f - size (chunkAt m k) + size (chunkOf t d)) 16777216) 101 0 then (check (not (eqb t RIdx)) 109 (start m k) then (check (allows profile u (chunkOf t d)) 114 (24 + 12 * find u n (m .refs)) then v)))
-    (unfold spoiltFront in hundred-front (typeIn Fspc (m .chunks)) (not ((eqb u Pict && eqb n (frontNumber (m .chunks))) && eqb t Rect)) (behind (start m k) (size (chunkAt m k)) (size (chunkOf t d)) (start m (frontPlace (m .chunks))) + 8))
+    ∙ spread (leb (length f - size (chunkAt m k) + size (chunkOf t d)) 16777216) (not (eqb t RIdx)) (allows profile u (chunkOf t d)) (start m k)
+    (24 + 12 * find u n (m .refs)) (spoiltFront profile m u n t d (g .1) mf found alone)
+    ∙ ap (λ (v : Verdict). check (leb (length f - size (chunkAt m k) + size (chunkOf t d)) 16777216) 101 0 then (check (not (eqb t RIdx)) 109 (start m k)
+    then (check (allows profile u (chunkOf t d)) 114 (24 + 12 * find u n (m .refs)) then v)))
+    (unfold spoiltFront in hundred-front (typeIn Fspc (m .chunks)) (not ((eqb u Pict && eqb n (frontNumber (m .chunks))) && eqb t Rect))
+    (behind (start m k) (size (chunkAt m k)) (size (chunkOf t d)) (start m (frontPlace (m .chunks))) + 8))
   where
-    spread : (a b c : Bool) (p q : ℕ) (v : Verdict) → hundred (check a 1 0 then (check b 9 p then (check c 14 q then v))) ≡ check a 101 0 then (check b 109 p then (check c 114 q then hundred v))
+    spread : (a b c : Bool) (p q : ℕ) (v : Verdict) → hundred (check a 1 0 then (check b 9 p then (check c 14 q then v))) ≡ check a 101 0 then
+        (check b 109 p then (check c 114 q then hundred v))
     spread a b c p q v = simp (hundred-then, hundred-check)
 
 pub size-body : (c : Chunk) → size c ≡ 8 + (length (c .body) + length (c .body) % 2)
@@ -171,15 +188,20 @@ module _ (profile : ℕ) (f : List ℕ) (r : Front) (p : Piece) (u n t : ℕ) (d
   new = 8 + (length d + length d % 2)
 
   shape : (b : Bool) → typeIn Fspc (model f .chunks) ≡ b
-      → H ≡ check (leb (length f - a + (8 + (length d + length d % 2))) 16777216) 101 0 then (check (not (eqb t RIdx)) 109 (p .start) then (check (allows profile u (chunkOf t d)) 114 (24 + 12 * p .place)
-      then cond b (check (not ((eqb u Pict && eqb n (frontNumber (model f .chunks))) && eqb t Rect)) 119 (behind (p .start) a (8 + (length d + length d % 2)) (start (model f) (frontPlace (model f .chunks))) + 8)) accept))
+      → H ≡ check (leb (length f - a + (8 + (length d + length d % 2))) 16777216) 101 0 then (check (not (eqb t RIdx)) 109 (p .start) then
+      (check (allows profile u (chunkOf t d)) 114 (24 + 12 * p .place)
+      then cond b (check (not ((eqb u Pict && eqb n (frontNumber (model f .chunks))) && eqb t Rect)) 119 (behind (p .start) a (8 + (length d + length d % 2))
+      (start (model f) (frontPlace (model f .chunks))) + 8)) accept))
   shape b e =
       let sz : size (chunkOf t d) ≡ new = size-of t d ∙ omega arith in
       let i : ℕ = find u n (model f .refs) in
-      let sp : size (chunkAt (model f) (refAt (model f) i .chunk)) ≡ a = size-body (chunkAt (model f) (refAt (model f) i .chunk)) ∙ ap (λ (z : Piece). 8 + (z .length + z .length % 2)) (sym (o .piece)) in
+      let sp : size (chunkAt (model f) (refAt (model f) i .chunk)) ≡ a = size-body (chunkAt (model f) (refAt (model f) i .chunk))
+      ∙ ap (λ (z : Piece). 8 + (z .length + z .length % 2)) (sym (o .piece)) in
       replace-fault profile f u n t d bytes (pre .0) hu hn ht (o .found) (sym (shared-is (model f) i p (o .piece)) ∙ o .alone)
-      ∙ (λ z. check (leb (length f - sp z + sz z) 16777216) 101 0 then (check (not (eqb t RIdx)) 109 (sym (o .piece) z .start) then (check (allows profile u (chunkOf t d)) 114 (24 + 12 * sym (o .piece) z .place)
-      then cond (e z) (check (not ((eqb u Pict && eqb n (frontNumber (model f .chunks))) && eqb t Rect)) 119 (behind (sym (o .piece) z .start) (sp z) (sz z) (start (model f) (frontPlace (model f .chunks))) + 8)) accept)))
+      ∙ (λ z. check (leb (length f - sp z + sz z) 16777216) 101 0 then (check (not (eqb t RIdx)) 109 (sym (o .piece) z .start) then
+      (check (allows profile u (chunkOf t d)) 114 (24 + 12 * sym (o .piece) z .place)
+      then cond (e z) (check (not ((eqb u Pict && eqb n (frontNumber (model f .chunks))) && eqb t Rect)) 119 (behind (sym (o .piece) z .start) (sp z) (sz z)
+      (start (model f) (frontPlace (model f .chunks))) + 8)) accept)))
 
   pub out-101 : 16777216 < length f - a + new → refuse 101 0 ≡ H
   unfolding check _then_
@@ -202,12 +224,14 @@ module _ (profile : ℕ) (f : List ℕ) (r : Front) (p : Piece) (u n t : ℕ) (d
       there-is : H ≡ check (not ((eqb u Pict && eqb n q) && eqb t Rect)) 119 (behind (p .start) a (8 + (length d + length d % 2)) at + 8)
       there-is =
           let w = front-at (model f) at q (sym (pre .1 .1) ∙ fr) in
-          let g : check (leb (length f - a + (8 + (length d + length d % 2))) 16777216) 101 0 then (check (not (eqb t RIdx)) 109 (p .start) then (check (allows profile u (chunkOf t d)) 114 (24 + 12 * p .place)
+          let g : check (leb (length f - a + (8 + (length d + length d % 2))) 16777216) 101 0 then (check (not (eqb t RIdx)) 109 (p .start) then
+          (check (allows profile u (chunkOf t d)) 114 (24 + 12 * p .place)
           then check (not ((eqb u Pict && eqb n q) && eqb t Rect)) 119 (behind (p .start) a (8 + (length d + length d % 2)) at + 8)))
           ≡ check (not ((eqb u Pict && eqb n q) && eqb t Rect)) 119 (behind (p .start) a (8 + (length d + length d % 2)) at + 8)
           = pass _ _ _ _ (le-leb _ _ h) ∙ pass _ _ _ _ (ap not (ne-eqb t RIdx e)) ∙ pass _ _ _ _ pl in
           shape true (w .0)
-          ∙ (λ z. check (leb (length f - a + (8 + (length d + length d % 2))) 16777216) 101 0 then (check (not (eqb t RIdx)) 109 (p .start) then (check (allows profile u (chunkOf t d)) 114 (24 + 12 * p .place)
+          ∙ (λ z. check (leb (length f - a + (8 + (length d + length d % 2))) 16777216) 101 0 then (check (not (eqb t RIdx)) 109 (p .start) then
+          (check (allows profile u (chunkOf t d)) 114 (24 + 12 * p .place)
           then check (not ((eqb u Pict && eqb n (sym (w .2) z)) && eqb t Rect)) 119 (behind (p .start) a (8 + (length d + length d % 2)) (sym (w .1) z) + 8))))
           ∙ g
 

@@ -119,7 +119,8 @@ pub fn remove_fault(
     size: u32,
 ) -> Outcome
     requires { ⌜ (verdict (rulesOf profile) (now s) ≡ accept) × (Listed (now s) usage number start size × (front ≡ frontOf (model (now s)))) ⌝ }
-    ensures { λ r. ⌜ verdictOf r ≡ hundred (verdict (rulesOf profile) (file (removed (model (now (s .entry))) (find usage number (model (now (s .entry)) .refs))))) ⌝ }
+    ensures { λ r. ⌜ verdictOf r ≡ hundred
+        (verdict (rulesOf profile) (file (removed (model (now (s .entry))) (find usage number (model (now (s .entry)) .refs))))) ⌝ }
 {
     match front {
         Front::Nothing => Outcome::Done,
@@ -172,7 +173,9 @@ pub fn replace_fault(
     d: &[u8],
 ) -> Outcome
     requires { ⌜ (verdict (rulesOf profile) (now s) ≡ accept) × (Own (now s) usage number piece × (front ≡ frontOf (model (now s)))) ⌝ }
-    ensures { λ r. ⌜ verdictOf r ≡ hundred (verdict (rulesOf profile) (file (replaced (model (now (s .entry))) (refAt (model (now (s .entry))) (find usage number (model (now (s .entry)) .refs)) .chunk) (chunkOf kind (now (d .entry)))))) ⌝ }
+    ensures { λ r. ⌜ verdictOf r ≡ hundred
+        (verdict (rulesOf profile) (file (replaced (model (now (s .entry)))
+        (refAt (model (now (s .entry))) (find usage number (model (now (s .entry)) .refs)) .chunk) (chunkOf kind (now (d .entry)))))) ⌝ }
 {
     let len = s.len();
     let m = d.len();

@@ -35,9 +35,11 @@ pair-in m i s small h =
     let X : List ℕ = entriesBytes (entries m) ++ chunksBytes (m .chunks) in
     let at : ℕ = base (length (m .refs)) in
     let d : drop (24 + 12 * i) (file m) ≡ drop (12 * i) X
-    = ap (drop (24 + 12 * i)) (file-parts m) ∙ sym (drop-drop (12 * i) 24 (F ++ X)) ∙ ap (drop (12 * i)) (drop-at F X 24 (length-heading (length (m .refs)) (total (m .chunks)))) in
+    = ap (drop (24 + 12 * i)) (file-parts m) ∙ sym (drop-drop (12 * i) 24 (F ++ X))
+    ∙ ap (drop (12 * i)) (drop-at F X 24 (length-heading (length (m .refs)) (total (m .chunks)))) in
     let e : entryIn (drop (12 * i) X) ≡ entryOf at (m .chunks) (refAt m i)
-    = entry-in (entries m) i (entryOf at (m .chunks) noRef) (chunksBytes (m .chunks)) (entries-ok m s small) (simp length-map h) ∙ entry-of at (m .chunks) (m .refs) i in (
+    = entry-in (entries m) i (entryOf at (m .chunks) noRef) (chunksBytes (m .chunks)) (entries-ok m s small) (simp length-map h) ∙ entry-of at (m .chunks)
+    (m .refs) i in (
       ap rd32 d ∙ ap (λ (y : Entry). y .usage) e,
       ap rd32 (sym (drop-drop 4 (24 + 12 * i) (file m)) ∙ ap (drop 4) d) ∙ ap (λ (y : Entry). y .number) e,
     )
@@ -53,7 +55,8 @@ module _ (f : List ℕ) (k : ℕ) (a : Indexed f k) (bytes : All Byte f) where
       (ap (λ (z : List ℕ). rd32 (drop (24 + 12 * i) z)) w ∙ p .0, ap (λ (z : List ℕ). rd32 (drop (24 + 12 * i + 4) z)) w ∙ p .1)
 
   pub start-read : (i : ℕ) → i < k → startIn f i ≡ start (model f) (refAt (model f) i .chunk)
-  start-read i h = ap (λ (z : List ℕ). rd32 (drop (32 + 12 * i) z)) (sym (facts .whole)) ∙ start-in (model f) i (facts .sound) (omega (arith, facts .short)) (omega (arith, a .counted .entries))
+  start-read i h = ap (λ (z : List ℕ). rd32 (drop (32 + 12 * i) z)) (sym (facts .whole)) ∙ start-in (model f) i (facts .sound) (omega (arith, facts .short))
+      (omega (arith, a .counted .entries))
 
   -- the search, from entry i on
   module _ (u n i : ℕ) where
@@ -61,14 +64,17 @@ module _ (f : List ℕ) (k : ℕ) (a : Indexed f k) (bytes : All Byte f) where
     rs = model f .refs
 
     unfold-find : i < length (model f .refs)
-        → find u n (drop i (model f .refs)) ≡ cond (eqb (refAt (model f) i .usage) u && eqb (refAt (model f) i .number) n) 0 (suc (find u n (drop (i + 1) (model f .refs))))
+        → find u n (drop i (model f .refs)) ≡ cond (eqb (refAt (model f) i .usage) u && eqb (refAt (model f) i .number) n) 0
+        (suc (find u n (drop (i + 1) (model f .refs))))
     unfolding find
     unfold-find h =
         let e : suc i ≡ i + 1 = omega arith in
-        ap (find u n) (drop-cons rs i noRef h) ∙ ap (λ (z : ℕ). cond (eqb (refAt (model f) i .usage) u && eqb (refAt (model f) i .number) n) 0 (suc (find u n (drop z rs)))) e
+        ap (find u n) (drop-cons rs i noRef h) ∙ ap (λ (z : ℕ). cond (eqb (refAt (model f) i .usage) u && eqb (refAt (model f) i .number) n) 0
+        (suc (find u n (drop z rs)))) e
 
     -- x and y stand in entry i
-    module _ (h : i < k) (x y : ℕ) (ex : x ≡ rd32 (drop (24 + 12 * i) f)) (ey : y ≡ rd32 (drop (24 + 12 * i + 4) f)) (inv : i + find u n (drop i (model f .refs)) ≡ find u n (model f .refs)) where
+    module _ (h : i < k) (x y : ℕ) (ex : x ≡ rd32 (drop (24 + 12 * i) f)) (ey : y ≡ rd32 (drop (24 + 12 * i + 4) f))
+        (inv : i + find u n (drop i (model f .refs)) ≡ find u n (model f .refs)) where
       step : (b : Bool) → (eqb x u && eqb y n) ≡ b → find u n (drop i (model f .refs)) ≡ cond b 0 (suc (find u n (drop (i + 1) (model f .refs))))
       step b e =
           let p = pair-read i h in

@@ -30,7 +30,8 @@ use Rattle.undoing.proofs.ChunkAt.{chunk-in-place, chunk-inside}
 use Rattle.linking.specs.Original.{Original}
 use Rattle.linking.proofs.PlaceLaws.{chunk-there}
 
--- the judgement of the file after a link, as the code makes it: l and k are the old file's length and count, c the original's chunk, i the new entry's place and
+-- the judgement of the file after a link, as the code makes it: l and k are the old file's length and count, c the original's chunk, i the new entry's place
+-- and
 -- o that of the entry that has the pair already
 unfoldable linkJudged : (profile : ℕ) → ℕ → ℕ → Chunk → ℕ → ℕ → ℕ → ℕ → Verdict
 linkJudged profile l k c i o u n =
@@ -41,7 +42,8 @@ linkJudged profile l k c i o u n =
     then check (not (eqb u Exec) || eqb n 0) 115 (24 + 12 * i + 4)
     then check (not (ltb o k)) 116 (cond (ltb o i) (24 + 12 * i) (24 + 12 * suc o))
 
-link-judged : (profile : ℕ) (m : Model) (j u n : ℕ) → Sound m → modelFault (rulesOf profile) m ≡ accept → inOrder 0 (m .refs) ≡ true → j < length (m .refs) → u < W → n < W
+link-judged : (profile : ℕ) (m : Model) (j u n : ℕ) → Sound m → modelFault (rulesOf profile) m ≡ accept → inOrder 0 (m .refs) ≡ true → j < length (m .refs)
+    → u < W → n < W
     → hundred (verdict (rulesOf profile) (file (linked m (refAt m j .chunk) u n)))
     ≡ linkJudged profile (length (file m)) (length (m .refs)) (chunkAt m (refAt m j .chunk)) (linkPlace (refAt m j .chunk) (m .refs)) (find u n (m .refs)) u n
 unfolding linkJudged
@@ -53,7 +55,8 @@ link-judged profile m j u n s ok ord h hu hn =
     let k1 : suc K ≡ K + 1 = omega arith in
     ap hundred (verdict-file (rulesOf profile) (linked m k u n) (linked-sound m u n j s hu hn h) (linked-in-order m k u n ord)
     ∙ (λ z. check (leb (linked-length m k u n z) 16777216) 1 0 then linked-verdict profile m k u n ok z))
-    ∙ hundreds (leb (length (file m) + 12) 16777216) (leb (suc K) 4096) (knownUsage u) (allows profile u (chunkAt m k)) (not (eqb u Exec) || eqb n 0) (not (pairIn u n (m .refs))) (24 + 12 * i)
+    ∙ hundreds (leb (length (file m) + 12) 16777216) (leb (suc K) 4096) (knownUsage u) (allows profile u (chunkAt m k)) (not (eqb u Exec) || eqb n 0)
+    (not (pairIn u n (m .refs))) (24 + 12 * i)
     (cond (ltb o i) (24 + 12 * i) (24 + 12 * suc o))
     ∙ (λ z. check (leb (length (file m) + 12) 16777216) 101 0 then (check (leb (k1 z) 4096) 111 20 then (check (knownUsage u) 112 (24 + 12 * i)
     then (check (allows profile u (chunkAt m k)) 114 (24 + 12 * i) then (check (not (eqb u Exec) || eqb n 0) 115 (24 + 12 * i + 4)
@@ -66,7 +69,8 @@ link-judged profile m j u n s ok ord h hu hn =
 
 -- from an accepted file, as the code has it: the entry goes in at i, and o is the place that the search for the pair gave
 module _ (profile : ℕ) (f : List ℕ) (k : ℕ) (p : Piece) (i u n : ℕ) (bytes : All Byte f)
-    (pre : (verdict (rulesOf profile) f ≡ accept) × (Original f k p × ((i ≡ linkPlace (refAt (model f) (p .place) .chunk) (model f .refs)) × (i ≤ k)))) (hu : u < W) (hn : n < W) where
+    (pre : (verdict (rulesOf profile) f ≡ accept) × (Original f k p × ((i ≡ linkPlace (refAt (model f) (p .place) .chunk) (model f .refs)) × (i ≤ k))))
+    (hu : u < W) (hn : n < W) where
   abbrev H : Verdict
   H = hundred (verdict (rulesOf profile) (file (linked (model f) (refAt (model f) (p .place) .chunk) u n)))
 
@@ -87,7 +91,8 @@ module _ (profile : ℕ) (f : List ℕ) (k : ℕ) (p : Piece) (i u n : ℕ) (byt
 
   -- the chunk is read in place
   pub chunk-read : chunkIn (drop (p .start) f) ≡ chunkAt (model f) (refAt (model f) (p .place) .chunk)
-  chunk-read = (λ z. chunkIn (drop (starts-at z) (sym (accepted-file .whole) z))) ∙ chunk-in-place (model f) (refAt (model f) (p .place) .chunk) (accepted-file .sound)
+  chunk-read = (λ z. chunkIn (drop (starts-at z) (sym (accepted-file .whole) z))) ∙ chunk-in-place (model f) (refAt (model f) (p .place) .chunk)
+      (accepted-file .sound)
       (chunk-there f k p orig bytes) small
 
   pub chunk-lies : p .start + (8 + rd32 (drop (p .start + 4) f)) ≤ length f

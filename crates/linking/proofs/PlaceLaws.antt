@@ -27,7 +27,8 @@ module _ (f : List ℕ) (k : ℕ) (p : Piece) (o : Original f k p) (bytes : All 
   pub own-start : startIn f (p .place) ≤ p .start
   own-start = omega (arith, start-read f k (o .indexed) bytes (p .place) (o .there), starts-at)
 
-  pub place-here : (i : ℕ) → 0 < i → i ≤ k → startIn f (i - 1) ≤ p .start → (i < k → p .start < startIn f i) → i ≡ linkPlace (refAt (model f) (p .place) .chunk) (model f .refs)
+  pub place-here : (i : ℕ) → 0 < i → i ≤ k → startIn f (i - 1) ≤ p .start → (i < k → p .start < startIn f i)
+      → i ≡ linkPlace (refAt (model f) (p .place) .chunk) (model f .refs)
   place-here i pos le low high =
       let a = facts f k (o .indexed) bytes in
       let e = o .indexed .counted .entries in

@@ -58,8 +58,10 @@ pub fn link_fault(
     usage: u32,
     number: u32,
 ) -> Outcome
-    requires { ⌜ (verdict (rulesOf profile) (now s) ≡ accept) × (Original (now s) count piece × ((place ≡ linkPlace (refAt (model (now s)) (piece .place) .chunk) (model (now s) .refs)) × (place ≤ count))) ⌝ }
-    ensures { λ r. ⌜ verdictOf r ≡ hundred (verdict (rulesOf profile) (file (linked (model (now (s .entry))) (refAt (model (now (s .entry))) (piece .place) .chunk) usage number))) ⌝ }
+    requires { ⌜ (verdict (rulesOf profile) (now s) ≡ accept)
+        × (Original (now s) count piece × ((place ≡ linkPlace (refAt (model (now s)) (piece .place) .chunk) (model (now s) .refs)) × (place ≤ count))) ⌝ }
+    ensures { λ r. ⌜ verdictOf r ≡ hundred
+        (verdict (rulesOf profile) (file (linked (model (now (s .entry))) (refAt (model (now (s .entry))) (piece .place) .chunk) usage number))) ⌝ }
 {
     if 16777216 < s.len() + 12 {
         return judge::refused(101, 0);

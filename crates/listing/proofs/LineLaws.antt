@@ -23,7 +23,8 @@ tag-is f from to bytes e h =
     rw n (sym (again (drop from f) (all-drop Byte from f bytes) (simp length-drop (omega arith))))
 
 module _ (out : List ℕ) (a b e : ℕ) (o1 o2 o3 : List ℕ) where
-  pub head-line : (size count : ℕ) → Wrote out 0 (text "blorb " ++ decimal size) a o1 → Wrote o1 a (text " bytes " ++ decimal count) b o2 → Wrote o2 b (text " resources\n") e o3
+  pub head-line : (size count : ℕ) → Wrote out 0 (text "blorb " ++ decimal size) a o1 → Wrote o1 a (text " bytes " ++ decimal count) b o2
+      → Wrote o2 b (text " resources\n") e o3
       → Wrote out 0 (headLine size count) e o3 × (e ≤ 64)
   unfolding headLine
   head-line size count w1 w2 w3 =
@@ -32,7 +33,8 @@ module _ (out : List ℕ) (a b e : ℕ) (o1 o2 o3 : List ℕ) where
         omega (arith, w1 .0, w2 .0, w3 .0, decimal-20 size, decimal-20 count),
       )
 
-  pub refused-line : (number place : ℕ) → Wrote out 0 (text "refused " ++ decimal number) a o1 → Wrote o1 a (text " at " ++ decimal place) b o2 → Wrote o2 b (text "\n") e o3
+  pub refused-line : (number place : ℕ) → Wrote out 0 (text "refused " ++ decimal number) a o1 → Wrote o1 a (text " at " ++ decimal place) b o2
+      → Wrote o2 b (text "\n") e o3
       → Wrote out 0 (refusedLine number place) e o3 × (e ≤ 64)
   unfolding refusedLine
   refused-line number place w1 w2 w3 =
@@ -42,7 +44,8 @@ module _ (out : List ℕ) (a b e : ℕ) (o1 o2 o3 : List ℕ) where
       )
 
 -- an entry's fields, by the numbers that the code has read
-module _ (f : List ℕ) (p n x : ℕ) (en : (n ≡ numberAt f p) × (n < 2 ^ 32)) (ex : (x ≡ startAt f p) × (x < 2 ^ 32)) (out : List ℕ) (at a b e : ℕ) (o1 o2 o3 : List ℕ) where
+module _ (f : List ℕ) (p n x : ℕ) (en : (n ≡ numberAt f p) × (n < 2 ^ 32)) (ex : (x ≡ startAt f p) × (x < 2 ^ 32)) (out : List ℕ) (at a b e : ℕ)
+    (o1 o2 o3 : List ℕ) where
   pub fields-text : Wrote out at (be32 (usageAt f p)) a o1 × (a ≡ at + 4) → Wrote o1 a (text " " ++ decimal n) b o2 → Wrote o2 b (text " at " ++ decimal x) e o3
       → Wrote out at (fieldsAt f p) e o3 × (e ≤ at + 29)
   unfolding fieldsAt
@@ -65,10 +68,15 @@ module _ (f : List ℕ) (x m k : ℕ) (em : (m ≡ rd32 (drop (x + 4) f)) × (m 
       let v4 = more out at (text " " ++ t ++ text " " ++ decimal (8 + m - k)) d o3 v3 (text "\n") e o4 w4 in
       (rw (← (em .0), ← ek) v4, omega (arith, w1 .0, w2 .1, w3 .0, w4 .0, decimal-size m k (em .1)))
 
-pub entry-text : (f out mid after : List ℕ) (p x at to end : ℕ) → x ≡ startAt f p → Wrote out at (fieldsAt f p) to mid × (to ≤ at + 29) → Wrote mid to (chunkText f x) end after × (end ≤ to + 17)
+pub entry-text : (f out mid after : List ℕ) (p x at to end : ℕ) → x ≡ startAt f p → Wrote out at (fieldsAt f p) to mid × (to ≤ at + 29)
+    → Wrote mid to (chunkText f x) end after × (end ≤ to + 17)
     → Wrote out at (lineAt f p) end after × (end ≤ at + 48)
 unfolding lineAt
-entry-text f out mid after p x at to end ex w v = (rw (← ex) (more out at (fieldsAt f p) to mid (w .0) (chunkText f x) end after (v .0)), omega (arith, w .1, v .1))
+entry-text f out mid after p x at to end ex w v = (
+  rw (← ex) (more out at (fieldsAt f p) to mid (w .0) (chunkText f x) end after (v .0)),
+  omega
+      (arith, w .1, v .1),
+)
 
 -- the line is the definition's
 pub line-is : (f : List ℕ) (p : ℕ) → lineAt f p ≡ entryLine (usageAt f p) (numberAt f p) (startAt f p) (rd32 (drop (startAt f p) f)) (givenSize f (startAt f p))

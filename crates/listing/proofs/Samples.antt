@@ -4,10 +4,46 @@ use Prim.Native.Nat.{ℕ}
 use mathlib.Core.List.{List, [], _∷_, _++_}
 use lib.ListN.{set}
 use Rattle.blorb.specs.Bytes.{be32, rd32}
-use Rattle.blorb.specs.Format.{refOf, Chunk, size, sized, total, chunkBytes, chunksBytes, fileBytes, chunkIn, chunksIn, chunksOf, entryIn, entriesIn, entryBytes, entriesBytes, indexChunk, entriesOf, isStart, placeOf}
+use Rattle.blorb.specs.Format.{
+  refOf,
+  Chunk,
+  size,
+  sized,
+  total,
+  chunkBytes,
+  chunksBytes,
+  fileBytes,
+  chunkIn,
+  chunksIn,
+  chunksOf,
+  entryIn,
+  entriesIn,
+  entryBytes,
+  entriesBytes,
+  indexChunk,
+  entriesOf,
+  isStart,
+  placeOf,
+}
 use Rattle.blorb.specs.Lookup.{leftOut}
 use Rattle.blorb.specs.Tags.{tag, FORM, Pict, Snd, Data, Rect}
-use Rattle.blorb.specs.Verdict.{headFault, _then_, check, verdict, reading, chunkFault, walkFault, secondIndex, indexFault, refFault, entriesFault, restFault, layoutFault, pairIn, lastPlace}
+use Rattle.blorb.specs.Verdict.{
+  headFault,
+  _then_,
+  check,
+  verdict,
+  reading,
+  chunkFault,
+  walkFault,
+  secondIndex,
+  indexFault,
+  refFault,
+  entriesFault,
+  restFault,
+  layoutFault,
+  pairIn,
+  lastPlace,
+}
 use Rattle.blorb.specs.Rules.{plainAllows, allows, adriftAllows, optional, profileVerdict, oneOf, picture, typeIn, single, chunkRule, chunkRules}
 use Rattle.reader.specs.Reading.{readOf, indexOf, lookupOf}
 use Rattle.index.specs.Hits.{hitIn}
@@ -15,7 +51,10 @@ use Rattle.listing.specs.Text.{text, decimal}
 use Rattle.listing.specs.Listing.{headLine, refusedLine, entryLine, linesOf, listingOf}
 
 computed : ℕ
-unfolding listingOf linesOf headLine refusedLine entryLine decimal readOf indexOf lookupOf leftOut hitIn refOf profileVerdict reading plainAllows adriftAllows allows optional oneOf picture typeIn single chunkRule chunkRules headFault verdict _then_ check chunkFault walkFault secondIndex indexFault refFault entriesFault restFault layoutFault pairIn lastPlace rd32 be32 chunksOf chunksIn chunkIn sized size total entriesOf entriesIn entryIn isStart placeOf fileBytes chunkBytes chunksBytes indexChunk entriesBytes entryBytes
+unfolding listingOf linesOf headLine refusedLine entryLine decimal readOf indexOf lookupOf leftOut hitIn refOf profileVerdict reading plainAllows
+    adriftAllows allows optional oneOf picture typeIn single chunkRule chunkRules headFault verdict _then_ check chunkFault walkFault secondIndex indexFault
+    refFault entriesFault restFault layoutFault pairIn lastPlace rd32 be32 chunksOf chunksIn chunkIn sized size total entriesOf entriesIn entryIn isStart
+    placeOf fileBytes chunkBytes chunksBytes indexChunk entriesBytes entryBytes
 computed = 0
 
 eel : Chunk

@@ -21,7 +21,19 @@ use Rattle.reader.specs.declared.Reading.{Reading}
 use Rattle.reader.specs.declared.Reading.the-variants.{Accepted, Refused}
 use Rattle.reader.proofs.Promises.{accepted-is, counted}
 use Rattle.listing.specs.Text.{text, digit, lastDigit, digitsOf, decimal}
-use Rattle.listing.specs.Listing.{headLine, refusedLine, linesOf, listingBy, listingOf, pickReading, inputReading, inputListing, roomBy, roomFor, inputRoom}
+use Rattle.listing.specs.Listing.{
+  headLine,
+  refusedLine,
+  linesOf,
+  listingBy,
+  listingOf,
+  pickReading,
+  inputReading,
+  inputListing,
+  roomBy,
+  roomFor,
+  inputRoom,
+}
 use Rattle.listing.specs.InPlace.{fieldsAt, chunkText, lineAt}
 use Rattle.listing.proofs.TextLaws.{tenth, decimal-20, decimal-10, decimal-size}
 use Rattle.listing.proofs.ListLaws.{lines-on}

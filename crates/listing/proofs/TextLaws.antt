@@ -19,7 +19,8 @@ one-more : (k n : ℕ) → n < 10 ^ suc k → digitsOf (suc k) n ≡ digitsOf (s
 one-more zero n h = let l : n < 10 = omega arith in rw (lt-ltb n 10 l)
 one-more (suc k) n h = go (ltb n 10) (one-more k (n / 10) (tenth (suc k) n h))
   where
-    go : (b : Bool) → digitsOf (suc k) (n / 10) ≡ digitsOf (suc (suc k)) (n / 10) → lastDigit b n (λ m. digitsOf (suc k) m) ≡ lastDigit b n (λ m. digitsOf (suc (suc k)) m)
+    go : (b : Bool) → digitsOf (suc k) (n / 10) ≡ digitsOf (suc (suc k)) (n / 10) → lastDigit b n (λ m. digitsOf (suc k) m) ≡ lastDigit b n
+        (λ m. digitsOf (suc (suc k)) m)
     go true e = refl
     go false e = ap (λ (l : List ℕ). l ++ (digit (n % 10) ∷ [])) e
 

@@ -125,7 +125,8 @@ fn put_head(out: &mut [u8], size: usize, count: usize) -> usize
 // The first line takes at most 64 bytes and an entry's line at most 48.
 fn list_accepted(file: &[u8], size: usize, count: usize, out: &mut [u8]) -> Listed
     requires { ⌜ readOf 0 (now file) ≡ Accepted size count ⌝ }
-    ensures { λ r. ⌜ (r ≡ listedIn (length (now (out .entry))) (roomBy (Accepted size count)) (listingBy (now (file .entry)) (Accepted size count))) × (now (out .exit) ≡ outBy r (listingBy (now (file .entry)) (Accepted size count)) (now (out .entry))) ⌝ }
+    ensures { λ r. ⌜ (r ≡ listedIn (length (now (out .entry))) (roomBy (Accepted size count)) (listingBy (now (file .entry)) (Accepted size count)))
+        × (now (out .exit) ≡ outBy r (listingBy (now (file .entry)) (Accepted size count)) (now (out .entry))) ⌝ }
 {
     if out.len() < 64 + 48 * count {
         return Listed::NoRoom;
@@ -136,7 +137,8 @@ fn list_accepted(file: &[u8], size: usize, count: usize, out: &mut [u8]) -> List
 
 // The one line `refused 7 at 47`.
 fn list_refused(number: u64, place: usize, out: &mut [u8]) -> Listed
-    ensures { λ r. ⌜ (r ≡ listedIn (length (now (out .entry))) 64 (refusedLine number place)) × (now (out .exit) ≡ outBy r (refusedLine number place) (now (out .entry))) ⌝ }
+    ensures { λ r. ⌜ (r ≡ listedIn (length (now (out .entry))) 64 (refusedLine number place)) × (now (out .exit) ≡ outBy r (refusedLine number place)
+        (now (out .entry))) ⌝ }
 {
     if out.len() < 64 {
         return Listed::NoRoom;
@@ -148,7 +150,8 @@ fn list_refused(number: u64, place: usize, out: &mut [u8]) -> Listed
 
 // The listing of a file. It is validated once; entries and chunk headers are then read where they stand.
 pub fn list(file: &[u8], out: &mut [u8]) -> Listed
-    ensures { λ r. ⌜ (r ≡ listedIn (length (now (out .entry))) (roomFor (now (file .entry))) (listingOf (now (file .entry)))) × (now (out .exit) ≡ outBy r (listingOf (now (file .entry))) (now (out .entry))) ⌝ }
+    ensures { λ r. ⌜ (r ≡ listedIn (length (now (out .entry))) (roomFor (now (file .entry))) (listingOf (now (file .entry))))
+        × (now (out .exit) ≡ outBy r (listingOf (now (file .entry))) (now (out .entry))) ⌝ }
 {
     match reader::read(file, 0) {
         Reading::Accepted { length, count } => list_accepted(file, length, count, out),
@@ -158,7 +161,8 @@ pub fn list(file: &[u8], out: &mut [u8]) -> Listed
 
 // The listing of the lister's input: of the bytes that were read, or its refusal, if more follow or these are over 65,536.
 pub fn list_input(file: &[u8], longer: bool, out: &mut [u8]) -> Listed
-    ensures { λ r. ⌜ (r ≡ listedIn (length (now (out .entry))) (inputRoom (now (file .entry)) longer) (inputListing (now (file .entry)) longer)) × (now (out .exit) ≡ outBy r (inputListing (now (file .entry)) longer) (now (out .entry))) ⌝ }
+    ensures { λ r. ⌜ (r ≡ listedIn (length (now (out .entry))) (inputRoom (now (file .entry)) longer) (inputListing (now (file .entry)) longer))
+        × (now (out .exit) ≡ outBy r (inputListing (now (file .entry)) longer) (now (out .entry))) ⌝ }
 {
     if longer {
         return list_refused(1, 0, out);

@@ -11,7 +11,8 @@ use Rattle.listing.specs.declared.Listed.{Listed}
 use Rattle.listing.specs.declared.Listed.the-variants.{Written, NoRoom}
 use Rattle.listing.proofs.Sense.{input-room}
 
-module _ (f : List ℕ) (longer : Bool) (out : List ℕ) (r : Listed) (wide : 196672 ≤ length out) (answer : r ≡ listedIn (length out) (inputRoom f longer) (inputListing f longer)) where
+module _ (f : List ℕ) (longer : Bool) (out : List ℕ) (r : Listed) (wide : 196672 ≤ length out) (answer : r ≡ listedIn (length out) (inputRoom f longer)
+    (inputListing f longer)) where
   all-of-it : r ≡ Written (length (inputListing f longer))
   unfolding listedIn
   all-of-it = let h : inputRoom f longer ≤ length out = omega (arith, input-room f longer) in answer ∙ rw (le-leb (inputRoom f longer) (length out) h)

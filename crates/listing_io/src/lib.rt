@@ -11,7 +11,8 @@ ghost use Rattle.listing.specs.Listing.{inputListing};
 // The whole listing: 196,672 bytes are room for one of 4,096 entries, so that the other branch is never taken.
 fn list_whole(file: &[u8], longer: bool, out: &mut [u8]) -> usize
     requires { ⌜ 196672 ≤ length (now out) ⌝ }
-    ensures { λ r. ⌜ (r ≡ length (inputListing (now (file .entry)) longer)) × (now (out .exit) ≡ inputListing (now (file .entry)) longer ++ drop r (now (out .entry))) × (r ≤ length (now (out .exit))) ⌝ }
+    ensures { λ r. ⌜ (r ≡ length (inputListing (now (file .entry)) longer)) × (now (out .exit) ≡ inputListing (now (file .entry)) longer ++ drop r
+        (now (out .entry))) × (r ≤ length (now (out .exit))) ⌝ }
 {
     let Listed::Written(n) = listing::list_input(file, longer, out) else {
         return 0;

@@ -101,18 +101,21 @@ heading-written b n t h =
     (ap (noted b 0) (simp append-assoc))
 
 pub chunk-written : (b : List ℕ) (at t : ℕ) (d : List ℕ) → at + (8 + (length d + length d % 2)) ≤ length b
-    → noted (noted (noted (noted b at (be32 t)) (at + 4) (be32 (length d))) (at + 8) d) (at + 8 + length d) (replicate (length d % 2) 0) ≡ noted b at (chunkBytes (chunkOf t d))
+    → noted (noted (noted (noted b at (be32 t)) (at + 4) (be32 (length d))) (at + 8) d) (at + 8 + length d) (replicate (length d % 2) 0) ≡ noted b at
+    (chunkBytes (chunkOf t d))
 unfolding chunkBytes
 chunk-written b at t d h =
     rw (
       noted-next b at (at + 4) (be32 t) (be32 (length d)) (simp length-be32) (simp length-be32 (omega arith)),
       noted-next b at (at + 8) (be32 t ++ be32 (length d)) d (simp (length-append, length-be32)) (omega arith),
-      noted-next b at (at + 8 + length d) ((be32 t ++ be32 (length d)) ++ d) (replicate (length d % 2) 0) (simp (length-append, length-be32) (omega arith)) (simp length-replicate (omega arith)),
+      noted-next b at (at + 8 + length d) ((be32 t ++ be32 (length d)) ++ d) (replicate (length d % 2) 0) (simp (length-append, length-be32) (omega arith))
+          (simp length-replicate (omega arith)),
     )
     (ap (noted b at) (simp append-assoc))
 
 pub record-written : (b : List ℕ) (at k u n p s t : ℕ) (d : List ℕ) → at + (29 + length d) ≤ length b
-    → noted (noted (noted (noted (noted b at (k ∷ [])) (at + 1) (be32 u ++ (be32 n ++ be32 p))) (at + 13) (be32 s ++ (be32 t ++ be32 (length d)))) (at + 25) d) (at + 25 + length d) (be32 (25 + length d))
+    → noted (noted (noted (noted (noted b at (k ∷ [])) (at + 1) (be32 u ++ (be32 n ++ be32 p))) (at + 13) (be32 s ++ (be32 t ++ be32 (length d)))) (at + 25)
+    d) (at + 25 + length d) (be32 (25 + length d))
     ≡ noted b at (recBytes (record { kind = k; usage = u; number = n; place = p; start = s; type = t; body = d }))
 unfolding recBytes recBody
 record-written b at k u n p s t d h =
@@ -124,7 +127,8 @@ record-written b at k u n p s t d h =
       noted-next b at (at + 1) (k ∷ []) x (omega arith) (omega arith),
       noted-next b at (at + 13) (k ∷ x) y (omega arith) (omega arith),
       noted-next b at (at + 25) ((k ∷ x) ++ y) d (simp (length-append, length-be32) (omega arith)) (omega arith),
-      noted-next b at (at + 25 + length d) (((k ∷ x) ++ y) ++ d) (be32 (25 + length d)) (simp (length-append, length-be32) (omega arith)) (simp length-be32 (omega arith)),
+      noted-next b at (at + 25 + length d) (((k ∷ x) ++ y) ++ d) (be32 (25 + length d)) (simp (length-append, length-be32) (omega arith))
+          (simp length-be32 (omega arith)),
     )
     (ap (noted b at) (simp append-assoc))
 

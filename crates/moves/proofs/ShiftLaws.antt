@@ -5,7 +5,22 @@ use mathlib.Core.List.{List, _++_, append-assoc}
 use native.Mathlib.Omega.{arith}
 use native.Mathlib.Numerals.{add-one}
 use lib.ListN.{take-append-drop, length, getD, take, drop, set, length-drop}
-use lib.Seq.{take-add, take-take, take-paste, drop-drop, take-all, take-append-le, drop-append-le, drop-at, paste, paste-zero, paste-suc, length-paste, drop-paste, length-take-le}
+use lib.Seq.{
+  take-add,
+  take-take,
+  take-paste,
+  drop-drop,
+  take-all,
+  take-append-le,
+  drop-append-le,
+  drop-at,
+  paste,
+  paste-zero,
+  paste-suc,
+  length-paste,
+  drop-paste,
+  length-take-le,
+}
 use Rattle.moves.specs.Shift.{slid}
 
 pub slid-none : (b : List ℕ) (dst src n : ℕ) → n ≡ 0 → b ≡ slid b dst src n
@@ -38,8 +53,10 @@ copy-more b d at i n h l =
     let q : at + i + n ≡ at + (i + n) = omega arith in
     ap (λ (p : List ℕ). p ++ take n (drop i d) ++ drop (at + i + n) m) (take-paste b at d i (omega arith) (omega arith))
     ∙ ap (λ (p : List ℕ). take at b ++ take i d ++ take n (drop i d) ++ p)
-    (sym (drop-drop n (at + i) m) ∙ ap (λ (p : List ℕ). drop n p) (drop-paste b at d i (omega arith) (omega arith)) ∙ drop-drop n (at + i) b ∙ ap (λ (k : ℕ). drop k b) q)
-    ∙ ap (λ (p : List ℕ). p ++ drop (at + (i + n)) b) (append-assoc (take at b) (take i d) (take n (drop i d)) ∙ ap (λ (p : List ℕ). take at b ++ p) (sym (take-add i n d)))
+    (sym (drop-drop n (at + i) m) ∙ ap (λ (p : List ℕ). drop n p) (drop-paste b at d i (omega arith) (omega arith)) ∙ drop-drop n (at + i) b
+    ∙ ap (λ (k : ℕ). drop k b) q)
+    ∙ ap (λ (p : List ℕ). p ++ drop (at + (i + n)) b) (append-assoc (take at b) (take i d) (take n (drop i d)) ∙ ap (λ (p : List ℕ). take at b ++ p)
+    (sym (take-add i n d)))
 
 -- a part of a list's front
 part-front : (p r : List ℕ) (j n : ℕ) → j + n ≤ length p → take n (drop j (p ++ r)) ≡ take n (drop j p)
@@ -60,7 +77,8 @@ front-more b j k n r h =
     let y = take n (drop j b) in
     let a : m ≡ p ++ (t ++ w) = append-assoc p t w in
     let lp : length p ≡ j + n + k = length-take-le (j + n + k) b (omega arith) in
-    let e1 : take (j + k) m ≡ x = ap (λ (l : List ℕ). take (j + k) l) a ∙ take-append-le (j + k) p (t ++ w) (omega arith) ∙ take-take (j + k) (j + n + k) b (omega arith) in
+    let e1 : take (j + k) m ≡ x = ap (λ (l : List ℕ). take (j + k) l) a ∙ take-append-le (j + k) p (t ++ w) (omega arith) ∙ take-take (j + k) (j + n + k) b
+    (omega arith) in
     let e2 : take n (drop j m) ≡ y =
     ap (λ (l : List ℕ). take n (drop j l)) a
     ∙ part-front p (t ++ w) j n (omega arith)

@@ -61,7 +61,12 @@ good profile f h =
     let j : EntriesPassed f count = is-judged profile f (a1 .0) (a2 .0) (a3 .0) (skipAt f 12) refl (a4 .0) (a5 .0) count refl (a6 .0) in
     record {
       verdict = h;
-      passed = record { judged = j; optional = sym (optional-is (j .rules) f count (j .walks) (j .entries)) ∙ a6 .1; short = accept-short (rulesOf profile) f v };
+      passed = record {
+        judged = j;
+        optional = sym (optional-is (j .rules) f count (j .walks) (j .entries)) ∙ a6 .1;
+        short =
+            accept-short (rulesOf profile) f v;
+      };
       index = is;
       many = ap length is ∙ length-entriesIn count (drop 24 f);
       model = model-of f (a2 .0) (a3 .0) (a5 .0) count refl;
@@ -129,7 +134,8 @@ module _ (profile : ℕ) (f : List ℕ) (u n : ℕ) where
         sym (look-on ∙ rw (e, l, ← et, ← ek))
 
 -- the part that a lookup names lies in the file
-part-go : (profile : ℕ) (f : List ℕ) (u n count t a m : ℕ) (g : Good profile f count) (x : Hit) → hitIn u n (entriesIn count (drop 24 f)) ≡ x → foundBy f x ≡ Found t a m → a + m ≤ length f
+part-go : (profile : ℕ) (f : List ℕ) (u n count t a m : ℕ) (g : Good profile f count) (x : Hit) → hitIn u n (entriesIn count (drop 24 f)) ≡ x
+    → foundBy f x ≡ Found t a m → a + m ≤ length f
 part-go profile f u n count t a m g (At x) e q =
     let b = hit-begun f count u n x (g .passed .judged) e in
     let i = fine f x (b .0) (b .1) in
@@ -138,7 +144,8 @@ part-go profile f u n count t a m g (At x) e q =
     omega (arith, left-most (chunkFrom f x .type), i .inside, i .next, i .bodied)
 part-go profile f u n count t a m g Nothing e q = let z : _≡_ {A = ℕ} 0 1 = cc in absurd (omega arith)
 
-look-go : (profile : ℕ) (f : List ℕ) (u n t a m : ℕ) (v : Verdict) → profileVerdict profile f ≡ v → lookedBy v (foundBy f (hitIn u n (indexOf f))) ≡ Found t a m → a + m ≤ length f
+look-go : (profile : ℕ) (f : List ℕ) (u n t a m : ℕ) (v : Verdict) → profileVerdict profile f ≡ v → lookedBy v (foundBy f (hitIn u n (indexOf f))) ≡ Found t
+    a m → a + m ≤ length f
 look-go profile f u n t a m accept e q =
     let g = good profile f e in
     part-go profile f u n (rd32 (drop 20 f)) t a m g (hitIn u n (entriesIn (rd32 (drop 20 f)) (drop 24 f))) refl (rw (g .index) at q)
@@ -153,7 +160,8 @@ module _ (profile : ℕ) (f : List ℕ) (i n : ℕ) (g : Good profile f n) (l : 
   pub entry-unknown : usageOf u ≡ Unknown → Withheld 12 (place i) ≡ askedOf profile f i
   entry-unknown e = rw (rw eu at e) at (entry-there profile f i n g l)
 
-  pub entry-known : (k : Usage) (a x : ℕ) → usageOf u ≡ Is k → a ≡ numberAt f (place i) → x ≡ startAt f (place i) → Given (record { usage = k; number = a; start = x }) ≡ askedOf profile f i
+  pub entry-known : (k : Usage) (a x : ℕ) → usageOf u ≡ Is k → a ≡ numberAt f (place i) → x ≡ startAt f (place i)
+      → Given (record { usage = k; number = a; start = x }) ≡ askedOf profile f i
   entry-known k a x e ea ex =
       let q : usageOf (usageAt f (place i)) ≡ Is k = rw eu at e in
       (λ j. Given (record { usage = k; number = ea j; start = ex j })) ∙ (rw q at (entry-there profile f i n g l))
@@ -172,7 +180,8 @@ pub not-unknown : (u : ℕ) (k : Known) → usageOf u ≡ k → knownUsage u ≡
 not-unknown u (Is x) e h = (x, e)
 not-unknown u Unknown e h = let n : knownUsage u ≡ false = known-not u e in let z : _≡_ {A = ℕ} 0 1 = cc in absurd (omega arith)
 
-pub given-as : (profile : ℕ) (f : List ℕ) (i : ℕ) → profileVerdict profile f ≡ accept → i < length (indexOf f) → (x : Usage) → usageOf (getD (indexOf f) i noEntry .usage) ≡ Is x
+pub given-as : (profile : ℕ) (f : List ℕ) (i : ℕ) → profileVerdict profile f ≡ accept → i < length (indexOf f) → (x : Usage)
+    → usageOf (getD (indexOf f) i noEntry .usage) ≡ Is x
     → askedOf profile f i ≡ Given (record { usage = x; number = getD (indexOf f) i noEntry .number; start = getD (indexOf f) i noEntry .start })
 unfolding askedOf
 given-as profile f i h l x e = rw (h, lt-ltb i (length (indexOf f)) l, e)

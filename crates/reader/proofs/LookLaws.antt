@@ -39,7 +39,8 @@ unfolding find lookIn
 look-at cs u n [] h = absurd (not-suc-le-zero h)
 look-at cs u n (r ∷ rs) h = go (eqb (r .usage) u && eqb (r .number) n) h (look-at cs u n rs)
   where
-    go : (b : Bool) → cond b 0 (suc (find u n rs)) < suc (length rs) → (find u n rs < length rs → lookIn cs u n rs ≡ here (getD cs (getD rs (find u n rs) noRef .chunk) noChunk))
+    go : (b : Bool) → cond b 0 (suc (find u n rs)) < suc (length rs)
+        → (find u n rs < length rs → lookIn cs u n rs ≡ here (getD cs (getD rs (find u n rs) noRef .chunk) noChunk))
         → cond b (here (getD cs (r .chunk) noChunk)) (lookIn cs u n rs) ≡ here (getD cs (getD (r ∷ rs) (cond b 0 (suc (find u n rs))) noRef .chunk) noChunk)
     go true h ih = refl
     go false h ih = ih (le-of-suc-le-suc h)
@@ -100,7 +101,8 @@ module _ (profile : ℕ) (f : List ℕ) (u n : ℕ) (h : profileVerdict profile 
   at-place = pairPlace u n (entriesIn (rd32 (drop 20 f)) (drop 24 f))
 
   find-is : find u n (model f .refs) ≡ at-place
-  find-is = rw (good profile f h .model) (find-pair (place (rd32 (drop 20 f))) (chunksFrom f (place (rd32 (drop 20 f)))) u n (entriesIn (rd32 (drop 20 f)) (drop 24 f)))
+  find-is = rw (good profile f h .model) (find-pair (place (rd32 (drop 20 f))) (chunksFrom f (place (rd32 (drop 20 f)))) u n
+      (entriesIn (rd32 (drop 20 f)) (drop 24 f)))
 
   many-is : length (model f .refs) ≡ rd32 (drop 20 f)
   many-is = rw (good profile f h .model) (refs-count f (rd32 (drop 20 f)))
@@ -115,7 +117,8 @@ module _ (profile : ℕ) (f : List ℕ) (u n : ℕ) (h : profileVerdict profile 
       let found : lookupOf profile f u n ≡ foundAt (chunkFrom f x) x
       = look-on profile f u n count g ∙ ap (foundBy f) (sym (find-at f u n count at-place refl l x refl)) in
       let r : find u n (model f .refs) < length (model f .refs) = rw (find-is, many-is) l in
-      let k : refAt (model f) (find u n (model f .refs)) .chunk ≡ placeOf x (place count) (chunksFrom f (place count)) = rw (find-is, g .model) (chunk-of f count at-place (g .passed) l) in
+      let k : refAt (model f) (find u n (model f .refs)) .chunk ≡ placeOf x (place count) (chunksFrom f (place count)) = rw (find-is, g .model)
+      (chunk-of f count at-place (g .passed) l) in
       let cs : model f .chunks ≡ chunksFrom f (place count) = ap (λ (m : Model). m .chunks) (g .model) in
       record {
         found = found;

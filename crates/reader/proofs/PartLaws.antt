@@ -95,14 +95,16 @@ same-place a b at cs ha hb = go (eqb a b) refl
 
 -- so an entry's chunk is shared exactly if its start stands again
 module _ (at : ℕ) (cs : List Chunk) (x i : ℕ) (s : isStart x at cs ≡ true) where
-  behind : (j : ℕ) (es : List Entry) → All (λ e. isStart (e .start) at cs ≡ true) es → i < j → startAgain x i j es ≡ uses (placeOf x at cs) (map (refOf at cs) es)
+  behind : (j : ℕ) (es : List Entry) → All (λ e. isStart (e .start) at cs ≡ true) es → i < j → startAgain x i j es ≡ uses (placeOf x at cs)
+      (map (refOf at cs) es)
   unfolding startAgain uses refOf
   behind j [] ok l = refl
   behind j (e ∷ es) ok l =
       let n : eqb j i ≡ false = ne-eqb j i (λ q. omega arith) in
       rw (n, same-place (e .start) x at cs (ok .0) s, behind (suc j) es (ok .1) (omega arith))
 
-  others : (d j : ℕ) (es : List Entry) → All (λ e. isStart (e .start) at cs ≡ true) es → i ≡ j + d → startAgain x i j es ≡ uses (placeOf x at cs) (without d (map (refOf at cs) es))
+  others : (d j : ℕ) (es : List Entry) → All (λ e. isStart (e .start) at cs ≡ true) es → i ≡ j + d → startAgain x i j es ≡ uses (placeOf x at cs)
+      (without d (map (refOf at cs) es))
   unfolding startAgain uses refOf without
   others zero j [] ok q = refl
   others (suc d) j [] ok q = refl
@@ -111,10 +113,12 @@ module _ (at : ℕ) (cs : List Chunk) (x i : ℕ) (s : isStart x at cs ≡ true)
       rw y (behind (suc j) es (ok .1) (omega arith))
   others (suc d) j (e ∷ es) ok q =
       let n : eqb j i ≡ false = ne-eqb j i (λ r. omega arith) in
-      rw (n, same-place (e .start) x at cs (ok .0) s) (ap (λ (b : Bool). eqb (placeOf (e .start) at cs) (placeOf x at cs) || b) (others d (suc j) es (ok .1) (omega arith)))
+      rw (n, same-place (e .start) x at cs (ok .0) s) (ap (λ (b : Bool). eqb (placeOf (e .start) at cs) (placeOf x at cs) || b)
+      (others d (suc j) es (ok .1) (omega arith)))
 
 -- the starts of a passed file's entries
-pub starts : (f : List ℕ) (count : ℕ) → Passed f count → All (λ e. isStart (e .start) (place count) (chunksFrom f (place count)) ≡ true) (entriesIn count (drop 24 f))
+pub starts : (f : List ℕ) (count : ℕ) → Passed f count → All (λ e. isStart (e .start) (place count) (chunksFrom f (place count)) ≡ true)
+    (entriesIn count (drop 24 f))
 starts f count g = starts-ok (g .judged .rules) (place count) (chunksFrom f (place count)) [] 24 (entriesIn count (drop 24 f)) (g .judged .entries)
 
 -- entry i of a passed file
@@ -129,16 +133,19 @@ module _ (f : List ℕ) (count i : ℕ) (g : Passed f count) (h : i < count) whe
   pub begins-there : isStart (startAt f (place i)) (place count) (chunksFrom f (place count)) ≡ true
   begins-there =
       let l : i < length (entriesIn count (drop 24 f)) = rw (length-entriesIn count (drop 24 f)) h in
-      rw (← start-of) (all-getD (λ e. isStart (e .start) (place count) (chunksFrom f (place count)) ≡ true) (entriesIn count (drop 24 f)) i nothing (starts f count g) l)
+      rw (← start-of) (all-getD (λ e. isStart (e .start) (place count) (chunksFrom f (place count)) ≡ true) (entriesIn count (drop 24 f)) i nothing
+      (starts f count g) l)
 
-  pub entry-begun : Begun f (startAt f (place i)) (getD (chunksFrom f (place count)) (placeOf (startAt f (place i)) (place count) (chunksFrom f (place count))) noChunk)
+  pub entry-begun : Begun f (startAt f (place i)) (getD (chunksFrom f (place count)) (placeOf (startAt f (place i)) (place count)
+      (chunksFrom f (place count))) noChunk)
   entry-begun = begun f (startAt f (place i)) (place count) (g .judged .walks) begins-there
 
   pub entry-room : (x : ℕ) → x ≡ startAt f (place i) → x + 8 ≤ length f
   entry-room x e = rw e (fine f (startAt f (place i)) (entry-begun .below) (entry-begun .walks) .header)
 
   ref-of : refAt (modelAt f count) i ≡ refOf (place count) (chunksFrom f (place count)) (getD (entriesIn count (drop 24 f)) i nothing)
-  ref-of = getD-map-in (refOf (place count) (chunksFrom f (place count))) (entriesIn count (drop 24 f)) i nothing noRef (rw (length-entriesIn count (drop 24 f)) h)
+  ref-of = getD-map-in (refOf (place count) (chunksFrom f (place count))) (entriesIn count (drop 24 f)) i nothing noRef
+      (rw (length-entriesIn count (drop 24 f)) h)
 
   pub chunk-of : refAt (modelAt f count) i .chunk ≡ placeOf (startAt f (place i)) (place count) (chunksFrom f (place count))
   unfolding refOf
@@ -158,7 +165,8 @@ module _ (f : List ℕ) (count i : ℕ) (g : Passed f count) (h : i < count) whe
       let es : x ≡ start (modelAt f count) (refAt (modelAt f count) i .chunk) = rw (k, refs-count f count) (sym (startOf-placeOf x (place count) cs s .0)) in
       let ek : t ≡ getD cs (refAt (modelAt f count) i .chunk) noChunk .type = rw (k, c) et in
       let el : m ≡ length (getD cs (refAt (modelAt f count) i .chunk) noChunk .body) = rw (k, c, fine f x (rw ex (b .below)) (rw ex (b .walks)) .bodied) em in
-      let eg : again ≡ shared (modelAt f count) i = ea ∙ (rw k (others (place count) cs x i s i 0 (entriesIn count (drop 24 f)) (starts f count g) (omega arith))) in
+      let eg : again ≡ shared (modelAt f count) i = ea ∙ (rw k (others (place count) cs x i s i 0 (entriesIn count (drop 24 f)) (starts f count g)
+      (omega arith))) in
       λ j. record { place = i; start = es j; kind = ek j; length = el j; shared = eg j }
 
 -- the entry of a pair
@@ -206,7 +214,8 @@ module _ (f : List ℕ) (at : ℕ) where
           let q : rd32 (chunkFrom f at .body) ≡ n = body-word f at (omega (arith, i .bodied)) ∙ sym en in
           rw (i .chunks, ← et, eq-eqb t Fspc e) (ap (front.At at) (sym q))
 
-      pub front-next : (t ≡ Fspc → ⊥) → (Fronts (chunksFrom f (skipAt f at))) × (frontFrom (skipAt f at) (chunksFrom f (skipAt f at)) ≡ frontFrom at (chunksFrom f at))
+      pub front-next : (t ≡ Fspc → ⊥) → (Fronts (chunksFrom f (skipAt f at))) × (frontFrom (skipAt f at) (chunksFrom f (skipAt f at)) ≡ frontFrom at
+          (chunksFrom f at))
       unfolding frontFrom chunkIn
       front-next e = let i = fine f at h w in (fronts-on .1, rw (i .chunks, i .next, ← et, ne-eqb t Fspc e))
 
@@ -244,7 +253,8 @@ front-first at (c ∷ cs) = go (eqb (c .type) Fspc) (typeIn Fspc cs) (front-firs
     go false true ih = ih ∙ ap (λ (x : ℕ). front.At x (rd32 (getD cs (frontPlace cs) noChunk .body))) (sym (startOf-suc at c cs (frontPlace cs)))
     go false false ih = ih
 
-front-model : (b : Bool) (f : List ℕ) (count : ℕ) → frontIn b (place count) (chunksFrom f (place count)) (frontPlace (chunksFrom f (place count))) ≡ frontBy b (modelAt f count)
+front-model : (b : Bool) (f : List ℕ) (count : ℕ) → frontIn b (place count) (chunksFrom f (place count)) (frontPlace (chunksFrom f (place count))) ≡ frontBy
+    b (modelAt f count)
 unfolding start base
 front-model true f count = rw (refs-count f count)
 front-model false f count = refl
@@ -293,11 +303,13 @@ module _ (profile : ℕ) (f : List ℕ) where
   pub entries-no : (r : Judgement) (k p : ℕ) → profile ≤ 1 → JudgesEntries profile r f → r ≡ judgement.Refused k p → Refused k p ≡ readOf profile f
   entries-no r k p h j e = (rw e at j) ∙ known-is h
 
-  pub entries-good : (r : Judgement) (n : ℕ) (ordinary : Bool) → JudgesEntries profile r f → r ≡ judgement.Good n ordinary → JudgesEntries profile (judgement.Good n ordinary) f
+  pub entries-good : (r : Judgement) (n : ℕ) (ordinary : Bool) → JudgesEntries profile r f → r ≡ judgement.Good n ordinary → JudgesEntries profile
+      (judgement.Good n ordinary) f
   entries-good r n ordinary j e = rw e at j
 
   -- 17 to 19 decide
-  pub rest-is : (n : ℕ) (v : Verdict) → profile ≤ 1 → readBy (optionalFault f n) (length f) n ≡ readKnown profile f → optionalFault f n ≡ v → readBy v (length f) n ≡ readOf profile f
+  pub rest-is : (n : ℕ) (v : Verdict) → profile ≤ 1 → readBy (optionalFault f n) (length f) n ≡ readKnown profile f → optionalFault f n ≡ v
+      → readBy v (length f) n ≡ readOf profile f
   rest-is n v h q e = ap (λ (x : Verdict). readBy x (length f) n) (sym e) ∙ q ∙ known-is h
 
   pub judged-good : (r : Judgement) (n : ℕ) (ordinary : Bool) → Judges profile r f → r ≡ judgement.Good n ordinary
@@ -310,5 +322,6 @@ module _ (profile : ℕ) (f : List ℕ) where
   pub inspected-no : (u n x k p : ℕ) → profileVerdict profile f ≡ refuse k p → inspection.Refused k p ≡ inspectionOf (profileVerdict profile f) (model f) u n x
   inspected-no u n x k p e = rw e
 
-  pub inspected : (u n x count : ℕ) → Good profile f count → (t : Facts) → t ≡ factsOf (modelAt f count) u n x → inspection.Whole t ≡ inspectionOf (profileVerdict profile f) (model f) u n x
+  pub inspected : (u n x count : ℕ) → Good profile f count → (t : Facts) → t ≡ factsOf (modelAt f count) u n x → inspection.Whole t ≡ inspectionOf
+      (profileVerdict profile f) (model f) u n x
   inspected u n x count g t e = rw (g .verdict, g .model) (ap inspection.Whole e)

@@ -56,7 +56,8 @@ accepted-is profile f l n e =
 
 -- and it is its header, its index and its chunks, and nothing else
 pub accepted-file : (profile : ℕ) (f : List ℕ) (l n : ℕ) → readOf profile f ≡ Accepted l n → All Byte f → (file (model f) ≡ f) × Sound (model f)
-accepted-file profile f l n e bytes = let q = accept-back (rulesOf profile) f bytes (profile-accept profile f (accepted-is profile f l n e .2) .1) in (q .0, q .1)
+accepted-file profile f l n e bytes = let q = accept-back (rulesOf profile) f bytes (profile-accept profile f (accepted-is profile f l n e .2) .1)
+    in (q .0, q .1)
 
 -- a file that the verdict accepts is read so
 pub accepted-when : (profile : ℕ) (f : List ℕ) → profileVerdict profile f ≡ accept → readOf profile f ≡ Accepted (length f) (length (model f .refs))
@@ -77,7 +78,8 @@ accepts-exactly profile f bytes =
     )
 
 -- the reader refuses exactly as the verdict does
-pub refused-is : (profile : ℕ) (f : List ℕ) (k p : ℕ) → (readOf profile f ≡ Refused k p → profileVerdict profile f ≡ refuse k p) × (profileVerdict profile f ≡ refuse k p → readOf profile f ≡ Refused k p)
+pub refused-is : (profile : ℕ) (f : List ℕ) (k p : ℕ) → (readOf profile f ≡ Refused k p → profileVerdict profile f ≡ refuse k p)
+    × (profileVerdict profile f ≡ refuse k p → readOf profile f ≡ Refused k p)
 refused-is profile f k p = (λ e. refused-as profile f k p e, λ e. refused profile f k p e)
 
 -- a file over the limit is refused with 1 at 0, whatever it holds
@@ -116,7 +118,8 @@ entry-at profile f l n i e h =
     let u : ℕ = usageAt f (place i) in
     let k : ℕ = numberAt f (place i) in
     let x : ℕ = startAt f (place i) in
-    let listed : getD (indexOf f) i noEntry ≡ record { usage = u; number = k; start = x } = rw (g .index) (entry-getD f n i 24 noEntry h ∙ fields f (place i)) in
+    let listed : getD (indexOf f) i noEntry ≡ record { usage = u; number = k; start = x } = rw (g .index) (entry-getD f n i 24 noEntry h
+    ∙ fields f (place i)) in
     let es : entriesFault (j .rules) (place n) (chunksFrom f (place n)) [] 24 (indexOf f) ≡ accept = rw (g .index) (j .entries) in
     let hit : hitIn u k (indexOf f) ≡ At x = rw listed at (only-hit (j .rules) f (place n) (j .walks) (indexOf f) [] 24 i noEntry es (rw (g .many) h)) in
     let there : hitIn u k (entriesIn n (drop 24 f)) ≡ At x = rw (g .index) at hit in
@@ -143,12 +146,15 @@ pub entry-given : (profile : ℕ) (f : List ℕ) (i : ℕ) → profileVerdict pr
     → (x : Usage) × (askedOf profile f i ≡ Given (record { usage = x; number = getD (indexOf f) i noEntry .number; start = getD (indexOf f) i noEntry .start }))
 entry-given profile f i h l =
     let g = good profile f h in
-    let es : entriesFault (g .passed .judged .rules) (place (rd32 (drop 20 f))) (chunksFrom f (place (rd32 (drop 20 f)))) [] 24 (indexOf f) ≡ accept = rw (g .index) (g .passed .judged .entries) in
-    let k = not-unknown (getD (indexOf f) i noEntry .usage) _ refl (known-at (g .passed .judged .rules) f (place (rd32 (drop 20 f))) (indexOf f) [] 24 i noEntry es l) in
+    let es : entriesFault (g .passed .judged .rules) (place (rd32 (drop 20 f))) (chunksFrom f (place (rd32 (drop 20 f)))) [] 24 (indexOf f) ≡ accept =
+    rw (g .index) (g .passed .judged .entries) in
+    let k = not-unknown (getD (indexOf f) i noEntry .usage) _ refl (known-at (g .passed .judged .rules) f (place (rd32 (drop 20 f))) (indexOf f) [] 24 i
+    noEntry es l) in
     (k .0, given-as profile f i h l (k .0) (k .1))
 
 -- an entry of the index with the pair (u, n) and the start x: the lookup gives the chunk at x, and the part is what is shown of that chunk
-pub lookup-found : (profile : ℕ) (f : List ℕ) (u n i x : ℕ) → profileVerdict profile f ≡ accept → i < length (indexOf f) → getD (indexOf f) i noEntry ≡ record { usage = u; number = n; start = x }
+pub lookup-found : (profile : ℕ) (f : List ℕ) (u n i x : ℕ) → profileVerdict profile f ≡ accept → i < length (indexOf f)
+    → getD (indexOf f) i noEntry ≡ record { usage = u; number = n; start = x }
     → (lookupOf profile f u n ≡ foundAt (chunkFrom f x) x) × (All Byte f → partOf (lookupOf profile f u n) f ≡ shown (chunkFrom f x))
 unfolding lookupOf
 lookup-found profile f u n i x h l e =
@@ -168,12 +174,14 @@ pub lookup-here : (profile : ℕ) (f : List ℕ) (u n : ℕ) → profileVerdict 
     × (All Byte f → partOf (lookupOf profile f u n) f ≡ shown c)
 lookup-here profile f u n h c e =
     either profile f u n h
-    ((lookupOf profile f u n ≡ foundAt c (start (model f) (refAt (model f) (find u n (model f .refs)) .chunk))) × (All Byte f → partOf (lookupOf profile f u n) f ≡ shown c))
+    ((lookupOf profile f u n ≡ foundAt c (start (model f) (refAt (model f) (find u n (model f .refs)) .chunk))) × (All Byte f
+    → partOf (lookupOf profile f u n) f ≡ shown c))
     (λ x t. let q : chunkFrom f x ≡ c = cc (t .looked, e) in (rw (t .begins, ← q) (t .found), λ bytes. t .part bytes ∙ ap shown q))
     (λ a. let z : _≡_ {A = ℕ} 0 1 = cc (a .looked, e) in absurd (omega arith))
 
 -- it finds nothing: the reader's lookup is refused with 22
-pub lookup-nowhere : (profile : ℕ) (f : List ℕ) (u n : ℕ) → profileVerdict profile f ≡ accept → lookup (model f) u n ≡ missing → lookupOf profile f u n ≡ Missing 22 0
+pub lookup-nowhere : (profile : ℕ) (f : List ℕ) (u n : ℕ) → profileVerdict profile f ≡ accept → lookup (model f) u n ≡ missing → lookupOf profile f u
+    n ≡ Missing 22 0
 lookup-nowhere profile f u n h e =
     either profile f u n h (lookupOf profile f u n ≡ Missing 22 0)
     (λ x t. let z : _≡_ {A = ℕ} 0 1 = cc (t .looked, e) in absurd (omega arith))
@@ -181,9 +189,11 @@ lookup-nowhere profile f u n h e =
 
 -- the lookup is refused with 22 exactly if no entry has the pair
 pub lookup-missing : (profile : ℕ) (f : List ℕ) (u n : ℕ) → profileVerdict profile f ≡ accept
-    → (lookupOf profile f u n ≡ Missing 22 0 → pairIn u n (model f .refs) ≡ false) × (pairIn u n (model f .refs) ≡ false → lookupOf profile f u n ≡ Missing 22 0)
+    → (lookupOf profile f u n ≡ Missing 22 0 → pairIn u n (model f .refs) ≡ false) × (pairIn u n (model f .refs) ≡ false → lookupOf profile f u
+    n ≡ Missing 22 0)
 lookup-missing profile f u n h =
-    either profile f u n h ((lookupOf profile f u n ≡ Missing 22 0 → pairIn u n (model f .refs) ≡ false) × (pairIn u n (model f .refs) ≡ false → lookupOf profile f u n ≡ Missing 22 0))
+    either profile f u n h ((lookupOf profile f u n ≡ Missing 22 0 → pairIn u n (model f .refs) ≡ false) × (pairIn u n (model f .refs) ≡ false
+    → lookupOf profile f u n ≡ Missing 22 0))
     (λ x t. (
       λ e. let z : _≡_ {A = ℕ} 0 1 = cc (t .found, e) in absurd (omega arith),
       λ e. let z : _≡_ {A = ℕ} 0 1 = cc (t .pair, e) in absurd (omega arith),

@@ -38,7 +38,8 @@ module _ (f : List ℕ) where
     pub is-shaped : Shaped f count
     is-shaped = rw ec (shaped f (first-long first) walks shape)
 
-    pub ordinary-behind : (ordinary : Bool) → (ordinary ≡ true → allOrdinary (chunksFrom f (skipAt f 12)) ≡ true) → ordinary ≡ true → allOrdinary (chunksFrom f (place count)) ≡ true
+    pub ordinary-behind : (ordinary : Bool) → (ordinary ≡ true → allOrdinary (chunksFrom f (skipAt f 12)) ≡ true) → ordinary ≡ true
+        → allOrdinary (chunksFrom f (place count)) ≡ true
     ordinary-behind ordinary p e =
         ap (λ (x : ℕ). allOrdinary (chunksFrom f x)) (sym (is-shaped .base) ∙ sym (fine f 12 (first-long first) walks .next)) ∙ p e
 
@@ -69,10 +70,12 @@ module _ (profile : ℕ) (f : List ℕ) where
   unfolding layoutFault
   layout-short h = rw (chunks-end f 12 h) (sym (refuses (firstFault f) _ 8 12 (sym (first-none f h))))
 
-  pub layout : walkFrom f 12 ≡ accept → layoutFault (rulesOf profile) (chunksOf f) ≡ firstFault f then restFault (rulesOf profile) (chunkFrom f 12) (chunksFrom f (nextAt f 12))
+  pub layout : walkFrom f 12 ≡ accept → layoutFault (rulesOf profile) (chunksOf f) ≡ firstFault f then restFault (rulesOf profile) (chunkFrom f 12)
+      (chunksFrom f (nextAt f 12))
   layout w = rw (chunks-is f) (go (ltb 12 (length f)) refl)
     where
-      go : (b : Bool) → ltb 12 (length f) ≡ b → layoutFault (rulesOf profile) (chunksFrom f 12) ≡ firstFault f then restFault (rulesOf profile) (chunkFrom f 12) (chunksFrom f (nextAt f 12))
+      go : (b : Bool) → ltb 12 (length f) ≡ b → layoutFault (rulesOf profile) (chunksFrom f 12) ≡ firstFault f then restFault (rulesOf profile)
+          (chunkFrom f 12) (chunksFrom f (nextAt f 12))
       go true e = layout-long w (ltb-true _ _ e)
       go false e = layout-short (ltb-false _ _ e)
 

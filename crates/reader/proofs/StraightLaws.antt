@@ -106,7 +106,8 @@ came-end f base at p e c =
     (sym (c .along .rest) ∙ walk-end f at l, sym (c .second) ∙ second-end f at l, λ o. sym (c .along .ordinary o) ∙ ordinary-end f at l)
 
 -- 12, 14 and 15 by the numbers that the code has read
-pub suits-good : (profile : ℕ) (f : List ℕ) (p u x n : ℕ) (k : Usage) → u ≡ usageAt f p → usageOf u ≡ Is k → x ≡ startAt f p → typedAt profile f (codeOf k) x ≡ true
+pub suits-good : (profile : ℕ) (f : List ℕ) (p u x n : ℕ) (k : Usage) → u ≡ usageAt f p → usageOf u ≡ Is k → x ≡ startAt f p
+    → typedAt profile f (codeOf k) x ≡ true
     → n ≡ numberAt f p → not (eqb u (codeOf Exec)) || eqb n 0 ≡ true → (base : ℕ) → isStart (startAt f p) base (chunksFrom f base) ≡ true
     → entryFault profile f base p ≡ accept
 suits-good profile f p u x n k eu e ex t en h base b = judged-at _ _ _ (sym (by-good profile f base p u x eu k e ex (rw ex b) t n en h)) .0
@@ -121,7 +122,8 @@ sofar-none profile f base count found n =
     record { entries = ap (entriesFrom profile f base 0) z; last = base; before = before-none f base; behind = omega arith; level = λ l. absurd (n l) }
 
 -- an entry more
-pub sofar-next : (profile : ℕ) (f : List ℕ) (base count j found at start behind : ℕ) → walkFrom f base ≡ accept → j < count → entryFault profile f base (place j) ≡ accept
+pub sofar-next : (profile : ℕ) (f : List ℕ) (base count j found at start behind : ℕ) → walkFrom f base ≡ accept → j < count → entryFault profile f base
+    (place j) ≡ accept
     → pairIn (usageAt f (place j)) (numberAt f (place j)) (earlier f base j) ≡ false → startAt f (place j) ≡ start → start < 4294967296
     → ((start ≡ found → ⊥) → at ≤ start) → start ≤ behind → SoFar profile f base count j found at → SoFar profile f base count (j + 1) start behind
 sofar-next profile f base count j found at start behind w h good fresh es small onward l s = record {
@@ -142,7 +144,8 @@ sofar-end profile f base count j found at w e s =
     let z : count - j ≡ 0 = omega arith in sym (s .entries) ∙ ap (entriesFrom profile f base j) z ∙ entries-end profile f base w j
 
 -- the file's head and the index's length; the rest by the pass
-module _ (profile : ℕ) (f : List ℕ) (count m : ℕ) (head : headFault f ≡ accept) (room : 24 ≤ length f) (index : rd32 (drop 12 f) ≡ RIdx) (em : m ≡ rd32 (drop 16 f))
+module _ (profile : ℕ) (f : List ℕ) (count m : ℕ) (head : headFault f ≡ accept) (room : 24 ≤ length f) (index : rd32 (drop 12 f) ≡ RIdx)
+    (em : m ≡ rd32 (drop 16 f))
     (ec : count ≡ rd32 (drop 20 f)) (shape : m ≡ 4 + 12 * count) (few : count ≤ 4096) (all : place count ≤ length f) where
   even : m % 2 ≡ 0
   even = omega arith
@@ -164,7 +167,8 @@ module _ (profile : ℕ) (f : List ℕ) (count m : ℕ) (head : headFault f ≡ 
     shaped : 4 ≤ rd32 (drop 16 f)
     shaped = omega arith
 
-    straight-good : (ordinary : Bool) → (ordinary ≡ true → allOrdinary (chunksFrom f (place count)) ≡ true) → JudgesEntries profile (judgement.Good count ordinary) f
+    straight-good : (ordinary : Bool) → (ordinary ≡ true → allOrdinary (chunksFrom f (place count)) ≡ true) → JudgesEntries profile
+        (judgement.Good count ordinary) f
     straight-good ordinary o =
         let first = sym (first-good f long index) in
         let i = sym (shape-good f long walk shaped (sym em ∙ shape ∙ ap (λ (n : ℕ). 4 + 12 * n) ec) (omega arith)) in (

@@ -228,7 +228,8 @@ pub fn lookup(file: &[u8], profile: u32, usage: [u8; 4], number: u32) -> Looked
 
 // The part of `file` that the lookup names: these very bytes, where they lie. It is empty where the lookup refuses.
 pub fn data(file: &[u8], profile: u32, usage: [u8; 4], number: u32) -> &[u8]
-    ensures { λ r. ⌜ (now r ≡ partOf (lookupOf profile (now (file .entry)) (rd32 usage) number) (now (file .entry))) × (r .ptr ≡ partAt (lookupOf profile (now (file .entry)) (rd32 usage) number) (file .entry .ptr)) ⌝ }
+    ensures { λ r. ⌜ (now r ≡ partOf (lookupOf profile (now (file .entry)) (rd32 usage) number) (now (file .entry)))
+        × (r .ptr ≡ partAt (lookupOf profile (now (file .entry)) (rd32 usage) number) (file .entry .ptr)) ⌝ }
 {
     match lookup(file, profile, usage, number) {
         Looked::Found {

@@ -147,7 +147,8 @@ fn repeats(s: &[u8], j: usize) -> bool
 // Whether no entry before entry j has its usage and number; all of its usage have numbers below `top`.
 fn is_fresh(s: &[u8], j: usize, top: u64) -> bool
     requires { ⌜ (j < 4096) × (place j + 8 ≤ length (now s)) × Topped (now s) j top ⌝ }
-    ensures { λ r. ⌜ (r ≡ true → (base : ℕ) → pairIn (usageAt (now (s .entry)) (place j)) (numberAt (now (s .entry)) (place j)) (earlier (now (s .entry)) base j) ≡ false) ⌝ }
+    ensures { λ r. ⌜ (r ≡ true → (base : ℕ) → pairIn (usageAt (now (s .entry)) (place j)) (numberAt (now (s .entry)) (place j))
+        (earlier (now (s .entry)) base j) ≡ false) ⌝ }
 {
     if top <= blorb::be32_at(s, 24 + 12 * j + 4) {
         return true;

@@ -5,26 +5,20 @@
 // and four of number for each pair. The next sample follows at once; tests/make_reading_samples.py writes them.
 use blorb::Entry;
 use libc::STDIN_FILENO;
-use libc::STDOUT_FILENO;
 use reader::Asked;
 use reader::Looked;
 use reader::Reading;
+use sampling::checksum;
+use sampling::labelled;
+use sampling::refused;
+use sampling::text;
 ghost use mathlib.Core.Path.{_≡_};
-ghost use Prim.Native.Nat.{_<_};
 ghost use lib.ListN.{length};
 
 fn room() -> [u8; 1048576]
     ensures { λ r. ⌜ 1048576 ≡ length r ⌝ }
 {
     [0; 1048576]
-}
-
-fn text(s: &[u8]) {
-    io::write_all(STDOUT_FILENO, s);
-}
-
-fn number(n: u64) {
-    io::print_decimal(STDOUT_FILENO, n);
 }
 
 // The four bytes of a usage or a type.
@@ -39,20 +33,11 @@ fn tag(code: u64) {
     );
 }
 
-fn refused(k: u64, place: usize) {
-    text(b"refused ");
-    number(k);
-    text(b" at ");
-    number(place as u64);
-}
-
 fn verdict(file: &[u8], profile: u32) {
     match reader::read(file, profile) {
         Reading::Accepted { length, count } => {
-            text(b"accepted ");
-            number(length as u64);
-            text(b" bytes ");
-            number(count as u64);
+            labelled(b"accepted ", length as u64);
+            labelled(b" bytes ", count as u64);
             text(b" entries\n");
         }
         Reading::Refused { number, place } => {
@@ -65,15 +50,12 @@ fn verdict(file: &[u8], profile: u32) {
 fn given(e: Entry) {
     let u = e.usage;
     tag(u.code());
-    text(b" ");
-    number(e.number as u64);
-    text(b" at ");
-    number(e.start as u64);
+    labelled(b" ", e.number as u64);
+    labelled(b" at ", e.start as u64);
 }
 
 fn ask_entry(file: &[u8], profile: u32, i: usize) {
-    text(b" entry ");
-    number(i as u64);
+    labelled(b" entry ", i as u64);
     text(b": ");
     match reader::entry(file, profile, i) {
         Asked::Given(e) => given(e),
@@ -82,26 +64,10 @@ fn ask_entry(file: &[u8], profile: u32, i: usize) {
     text(b"\n");
 }
 
-fn wide(x: u8) -> u64
-    ensures { λ r. ⌜ r < 256 ⌝ }
-{
-    x as u64
-}
-
-// A sum of the bytes that depends on their order.
-fn checksum(s: &[u8]) -> u64 {
-    let mut sum = 0;
-    for i in 0..s.len() {
-        sum = sum % 4294967291 * 257 + wide(s[i]) + 1;
-    }
-    sum
-}
-
 fn ask_pair(file: &[u8], profile: u32, usage: [u8; 4], n: u32) {
     text(b" ");
     text(&usage);
-    text(b" ");
-    number(n as u64);
+    labelled(b" ", n as u64);
     text(b": ");
     match reader::lookup(file, profile, usage, n) {
         Looked::Found {
@@ -110,18 +76,14 @@ fn ask_pair(file: &[u8], profile: u32, usage: [u8; 4], n: u32) {
             length,
         } => {
             tag(kind as u64);
-            text(b" at ");
-            number(start as u64);
-            text(b" length ");
-            number(length as u64);
+            labelled(b" at ", start as u64);
+            labelled(b" length ", length as u64);
         }
         Looked::Refused { number, place } => refused(number, place),
     }
     let part = reader::data(file, profile, usage, n);
-    text(b"; part ");
-    number(part.len() as u64);
-    text(b" sum ");
-    number(checksum(part));
+    labelled(b"; part ", part.len() as u64);
+    labelled(b" sum ", checksum(part));
     text(b"\n");
 }
 

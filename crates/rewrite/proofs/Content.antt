@@ -53,10 +53,12 @@ module _ (b : List ℕ) (L : ℕ) where
       let t : List ℕ = tail (length (p ++ (x ++ s))) in
       let a : written b L (p ++ (x ++ s)) ≡ p ++ (x ++ (s ++ t)) = written-tail (p ++ (x ++ s)) ∙ simp append-assoc in
       let c : p ++ (y ++ (s ++ t)) ≡ (p ++ (y ++ s)) ++ t = simp append-assoc in
-      ap (λ (z : List ℕ). noted z at y) a ∙ noted-over p x (s ++ t) y at e l ∙ c ∙ ap (λ (z : ℕ). (p ++ (y ++ s)) ++ tail z) n ∙ sym (written-tail (p ++ (y ++ s)))
+      ap (λ (z : List ℕ). noted z at y) a ∙ noted-over p x (s ++ t) y at e l ∙ c ∙ ap (λ (z : ℕ). (p ++ (y ++ s)) ++ tail z) n
+      ∙ sym (written-tail (p ++ (y ++ s)))
 
   -- the starts of entries
-  pub starts-written : (f : ℕ → ℕ) (p : List ℕ) (es : List Entry) (s : List ℕ) (at : ℕ) → length p ≡ at → All EntryOk es → length (entriesBytes (map (moved f) es)) ≡ length (entriesBytes es)
+  pub starts-written : (f : ℕ → ℕ) (p : List ℕ) (es : List Entry) (s : List ℕ) (at : ℕ) → length p ≡ at → All EntryOk es
+      → length (entriesBytes (map (moved f) es)) ≡ length (entriesBytes es)
       → startsMoved f (length es) at (written b L (p ++ (entriesBytes es ++ s))) ≡ written b L (p ++ (entriesBytes (map (moved f) es) ++ s))
   starts-written f p es s at e ok l =
       let x : List ℕ = entriesBytes es in
@@ -65,7 +67,8 @@ module _ (b : List ℕ) (L : ℕ) where
       let t : List ℕ = tail (length (p ++ (x ++ s))) in
       let a : written b L (p ++ (x ++ s)) ≡ p ++ (x ++ (s ++ t)) = written-tail (p ++ (x ++ s)) ∙ simp append-assoc in
       let c : p ++ (y ++ (s ++ t)) ≡ (p ++ (y ++ s)) ++ t = simp append-assoc in
-      ap (startsMoved f (length es) at) a ∙ starts-moved f p es (s ++ t) at e ok ∙ c ∙ ap (λ (z : ℕ). (p ++ (y ++ s)) ++ tail z) n ∙ sym (written-tail (p ++ (y ++ s)))
+      ap (startsMoved f (length es) at) a ∙ starts-moved f p es (s ++ t) at e ok ∙ c ∙ ap (λ (z : ℕ). (p ++ (y ++ s)) ++ tail z) n
+      ∙ sym (written-tail (p ++ (y ++ s)))
 
   -- a part goes, what stands behind it closes up, and zeros follow
   pub closed-written : (p x s : List ℕ) (at k len : ℕ) → length p ≡ at → length x ≡ k → length (p ++ (x ++ s)) ≡ len → len ≤ L → L ≤ length b
@@ -129,7 +132,9 @@ module _ (b : List ℕ) (L : ℕ) where
       let lf : length f ≡ length p + length s = length-append p s in
       let lw : length w ≡ length b = length-written b L f hb (omega arith) in
       let a : w ≡ p ++ (s ++ t) = written-tail f ∙ append-assoc p s t in
-      let lt : length t ≡ length b - length f = length-append (replicate (L - length f) 0) (drop (max L (length f)) b) ∙ (let x : length (replicate {A = ℕ} (L - length f) 0) ≡ L - length f = length-replicate {A = ℕ} (L - length f) 0 in let y : length (drop (max L (length f)) b) ≡ length b - max L (length f) = length-drop (max L (length f)) b in omega arith) in
+      let lt : length t ≡ length b - length f = length-append (replicate (L - length f) 0) (drop (max L (length f)) b)
+      ∙ (let x : length (replicate {A = ℕ} (L - length f) 0) ≡ L - length f = length-replicate {A = ℕ} (L - length f) 0 in
+      let y : length (drop (max L (length f)) b) ≡ length b - max L (length f) = length-drop (max L (length f)) b in omega arith) in
       let g : List ℕ = take k (s ++ t) in
       let lg : length g ≡ k = length-take-le k (s ++ t) (let lst : length (s ++ t) ≡ length s + length t = length-append s t in omega arith) in
       let n1 : length f + k ≡ length (p ++ (g ++ s)) = sym (length-append p (g ++ s) ∙ ap (λ (z : ℕ). length p + z) (length-append g s) ∙ omega arith) in
@@ -142,7 +147,8 @@ module _ (b : List ℕ) (L : ℕ) where
       seam3 p g s t = simp append-assoc
 
   tail-length : (n : ℕ) → L ≤ length b → length (tail n) ≡ length b - n
-  tail-length n hb = length-append (replicate (L - n) 0) (drop (max L n) b) ∙ (let x : length (replicate {A = ℕ} (L - n) 0) ≡ L - n = length-replicate {A = ℕ} (L - n) 0 in let y : length (drop (max L n) b) ≡ length b - max L n = length-drop (max L n) b in omega arith)
+  tail-length n hb = length-append (replicate (L - n) 0) (drop (max L n) b) ∙ (let x : length (replicate {A = ℕ} (L - n) 0) ≡ L - n =
+      length-replicate {A = ℕ} (L - n) 0 in let y : length (drop (max L n) b) ≡ length b - max L n = length-drop (max L n) b in omega arith)
 
   seam : (p x g s : List ℕ) → (p ++ x) ++ (g ++ s) ≡ p ++ ((x ++ g) ++ s)
   seam p x g s = simp append-assoc
@@ -153,12 +159,14 @@ module _ (b : List ℕ) (L : ℕ) where
     pub hole-length : length hole ≡ new
     pub stands : w ≡ written b L (p ++ (hole ++ s))
 
-  pub resized-written : (p x s : List ℕ) (at old new len : ℕ) → length p ≡ at → length x ≡ old → length (p ++ (x ++ s)) ≡ len → len ≤ L → len + (new - old) ≤ length b → L ≤ length b
+  pub resized-written : (p x s : List ℕ) (at old new len : ℕ) → length p ≡ at → length x ≡ old → length (p ++ (x ++ s)) ≡ len → len ≤ L
+      → len + (new - old) ≤ length b → L ≤ length b
       → Resized p s new (resized (written b L (p ++ (x ++ s))) at len old new)
   unfolding resized
   resized-written p x s at old new len ep ex el hl hr hb = go (ltb old new) refl
     where
-      go : (t : Bool) → ltb old new ≡ t → Resized p s new (cond t (slid (written b L (p ++ (x ++ s))) (at + old + (new - old)) (at + old) (len - (at + old))) (closed (written b L (p ++ (x ++ s))) (at + new) len (old - new)))
+      go : (t : Bool) → ltb old new ≡ t → Resized p s new (cond t (slid (written b L (p ++ (x ++ s))) (at + old + (new - old)) (at + old) (len - (at + old)))
+          (closed (written b L (p ++ (x ++ s))) (at + new) len (old - new)))
       go true e =
           let lt : old < new = ltb-true old new e in
           let q : p ++ (x ++ s) ≡ (p ++ x) ++ s = sym (append-assoc p x s) in
@@ -166,7 +174,9 @@ module _ (b : List ℕ) (L : ℕ) where
           let lpx : length (p ++ x) ≡ at + old = length-append p x ∙ omega arith in
           let lq : length ((p ++ x) ++ s) ≡ len = ap length (sym q) ∙ el in
           let lt2 : length (tail (length ((p ++ x) ++ s))) ≡ length b - len = tail-length (length ((p ++ x) ++ s)) hb ∙ ap (λ (z : ℕ). length b - z) lq in
-          let lg : length g ≡ new - old = length-take-le (new - old) (s ++ tail (length ((p ++ x) ++ s))) (let l : length (s ++ tail (length ((p ++ x) ++ s))) ≡ length s + length (tail (length ((p ++ x) ++ s))) = length-append s (tail (length ((p ++ x) ++ s))) in omega arith) in
+          let lg : length g ≡ new - old = length-take-le (new - old) (s ++ tail (length ((p ++ x) ++ s)))
+          (let l : length (s ++ tail (length ((p ++ x) ++ s))) ≡ length s + length (tail (length ((p ++ x) ++ s))) =
+          length-append s (tail (length ((p ++ x) ++ s))) in omega arith) in
           record {
             hole = x ++ g;
             hole-length = length-append x g ∙ omega arith;

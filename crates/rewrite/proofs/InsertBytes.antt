@@ -42,7 +42,8 @@ relocated-risen m s a h p q r t w = λ i x. all x i
     all x = rw (p, q, r, t, w, e, sub-zero (x + (12 + a)), sub-zero (x + 12))
 
 -- the leaves, one after another, on any buffer that holds a front, entries and two parts behind them
-module _ (F : List ℕ) (es : List Entry) (f : ℕ → ℕ) (i n e : ℕ) (lF : length F ≡ 24) (ln : length es ≡ n) (ok : All EntryOk es) (hi : i ≤ n) (ee : e ≡ 24 + 12 * i) where
+module _ (F : List ℕ) (es : List Entry) (f : ℕ → ℕ) (i n e : ℕ) (lF : length F ≡ 24) (ln : length es ≡ n) (ok : All EntryOk es) (hi : i ≤ n)
+    (ee : e ≡ 24 + 12 * i) where
   abbrev A : List ℕ
   A = entriesBytes (take i (map (moved f) es))
 
@@ -75,14 +76,17 @@ module _ (F : List ℕ) (es : List Entry) (f : ℕ → ℕ) (i n e : ℕ) (lF : 
       let G : List ℕ = take 12 (X ++ r) in
       let lX : length X ≡ l - e = length-append B s ∙ omega (arith, lB) in
       let lG : length G ≡ 12 = length-take-le 12 (X ++ r) (simp length-append (omega arith)) in
-      let w1 : startsMoved f n 24 (F ++ (entriesBytes es ++ (s ++ r))) ≡ (F ++ A) ++ (X ++ r) = moved-cut (s ++ r) ∙ ap (λ (z : List ℕ). (F ++ A) ++ z) (sym (append-assoc B s r)) in
+      let w1 : startsMoved f n 24 (F ++ (entriesBytes es ++ (s ++ r))) ≡ (F ++ A) ++ (X ++ r) = moved-cut (s ++ r) ∙ ap (λ (z : List ℕ). (F ++ A) ++ z)
+      (sym (append-assoc B s r)) in
       ap (λ (z : List ℕ). noted (noted (slid z (e + 12) e (l - e)) e x) 0 F′) w1
       ∙ ap (λ (z : List ℕ). noted (noted z e x) 0 F′) (slid-right (F ++ A) X r e 12 (l - e) lFA lX hr)
       ∙ ap (λ (z : List ℕ). noted z 0 F′) (noted-over (F ++ A) G (X ++ drop 12 r) x e lFA (lG ∙ sym lx) ∙ append-assoc F A (x ++ (X ++ drop 12 r)))
       ∙ noted-over [] F (A ++ (x ++ (X ++ drop 12 r))) F′ 0 refl (lF ∙ sym lF′) ∙ simp append-assoc
 
-  pub chunk-leaves : (c1 c2 r x y F′ : List ℕ) (at sz l : ℕ) → 24 + 12 * n + length c1 ≡ at → at + length c2 ≡ l → 12 + sz ≤ length r → length x ≡ 12 → length y ≡ sz → length F′ ≡ 24
-      → noted (noted (noted (slid (slid (startsMoved f n 24 (F ++ (entriesBytes es ++ (c1 ++ (c2 ++ r))))) (at + (12 + sz)) at (l - at)) (e + 12) e (at - e)) e x) (at + 12) y) 0 F′
+  pub chunk-leaves : (c1 c2 r x y F′ : List ℕ) (at sz l : ℕ) → 24 + 12 * n + length c1 ≡ at → at + length c2 ≡ l → 12 + sz ≤ length r → length x ≡ 12
+      → length y ≡ sz → length F′ ≡ 24
+      → noted (noted (noted (slid (slid (startsMoved f n 24 (F ++ (entriesBytes es ++ (c1 ++ (c2 ++ r))))) (at + (12 + sz)) at (l - at)) (e + 12) e (at - e))
+      e x) (at + 12) y) 0 F′
       ≡ F′ ++ ((A ++ (x ++ B)) ++ ((c1 ++ (y ++ c2)) ++ drop (12 + sz) r))
   chunk-leaves c1 c2 r x y F′ at sz l ea el hr lx ly lF′ =
       let X : List ℕ = B ++ c1 in
@@ -96,11 +100,13 @@ module _ (F : List ℕ) (es : List Entry) (f : ℕ → ℕ) (i n e : ℕ) (lF : 
       let lh : length h ≡ sz = length-drop 12 H ∙ omega arith in
       let lHT : length (H ++ T) ≡ length H + length T = length-append H T in
       let lG : length G ≡ 12 = length-take-le 12 (X ++ (H ++ T)) (simp length-append (omega arith)) in
-      let w1 : startsMoved f n 24 (F ++ (entriesBytes es ++ (c1 ++ (c2 ++ r)))) ≡ ((F ++ A) ++ X) ++ (c2 ++ r) = moved-cut (c1 ++ (c2 ++ r)) ∙ simp append-assoc in
+      let w1 : startsMoved f n 24 (F ++ (entriesBytes es ++ (c1 ++ (c2 ++ r)))) ≡ ((F ++ A) ++ X) ++ (c2 ++ r) = moved-cut (c1 ++ (c2 ++ r))
+      ∙ simp append-assoc in
       let w2 : slid (((F ++ A) ++ X) ++ (c2 ++ r)) (at + (12 + sz)) at (l - at) ≡ (F ++ A) ++ (X ++ (H ++ T))
       = slid-right ((F ++ A) ++ X) c2 r at (12 + sz) (l - at) lP (omega arith) hr ∙ append-assoc (F ++ A) X (H ++ T) in
       let w3 : slid ((F ++ A) ++ (X ++ (H ++ T))) (e + 12) e (at - e) ≡ (F ++ A) ++ (G ++ (X ++ (h ++ T)))
-      = slid-right (F ++ A) X (H ++ T) e 12 (at - e) lFA lX (omega arith) ∙ ap (λ (z : List ℕ). (F ++ A) ++ (G ++ (X ++ z))) (drop-append-le 12 H T (omega arith)) in
+      = slid-right (F ++ A) X (H ++ T) e 12 (at - e) lFA lX (omega arith) ∙ ap (λ (z : List ℕ). (F ++ A) ++ (G ++ (X ++ z)))
+      (drop-append-le 12 H T (omega arith)) in
       let P : List ℕ = (F ++ A) ++ (x ++ X) in
       let lxX : length (x ++ X) ≡ length x + length X = length-append x X in
       let lPx : length P ≡ at + 12 = length-append (F ++ A) (x ++ X) ∙ omega (arith, lFA) in
@@ -178,8 +184,10 @@ module _ (b : List ℕ) (l k i at u n : ℕ) (stands : Stands b l k) (ins : Inse
   at-end f z e = ap (λ (x : List ℕ). f ++ x) (drop-drop z l b ∙ ap (λ (x : ℕ). drop x b) (sym e)) ∙ sym (written-longer b l f (omega arith))
 
   pub insert-written : (t : ℕ) (d : List ℕ) → l + (20 + (length d + length d % 2)) ≤ length b
-      → noted (noted (noted (slid (slid (startsMoved (risen at (8 + (length d + length d % 2))) k 24 b) (at + (12 + (8 + (length d + length d % 2)))) at (l - at)) (24 + 12 * i + 12) (24 + 12 * i) (at - (24 + 12 * i)))
-      (24 + 12 * i) (be32 u ++ (be32 n ++ be32 (at + 12)))) (at + 12) (chunkBytes (chunkOf t d))) 0 (heading (k + 1) (l - (24 + 12 * k) + (8 + (length d + length d % 2))))
+      → noted (noted (noted (slid (slid (startsMoved (risen at (8 + (length d + length d % 2))) k 24 b) (at + (12 + (8 + (length d + length d % 2)))) at
+      (l - at)) (24 + 12 * i + 12) (24 + 12 * i) (at - (24 + 12 * i)))
+      (24 + 12 * i) (be32 u ++ (be32 n ++ be32 (at + 12)))) (at + 12) (chunkBytes (chunkOf t d))) 0
+      (heading (k + 1) (l - (24 + 12 * k) + (8 + (length d + length d % 2))))
       ≡ written b l (file (inserted (model (take l b)) i (placeAt (model (take l b)) at) u n (chunkOf t d)))
   insert-written t d room =
       let c : Chunk = chunkOf t d in
@@ -188,7 +196,8 @@ module _ (b : List ℕ) (l k i at u n : ℕ) (stands : Stands b l k) (ins : Inse
       let es : at ≡ start m kc = ins .starts in
       let c1 : List ℕ = chunksBytes (take kc (m .chunks)) in
       let c2 : List ℕ = chunksBytes (drop kc (m .chunks)) in
-      let cut : chunksBytes (m .chunks) ≡ c1 ++ c2 = ap chunksBytes (sym (take-append-drop kc (m .chunks))) ∙ chunks-append (take kc (m .chunks)) (drop kc (m .chunks)) in
+      let cut : chunksBytes (m .chunks) ≡ c1 ++ c2 = ap chunksBytes (sym (take-append-drop kc (m .chunks))) ∙ chunks-append (take kc (m .chunks))
+      (drop kc (m .chunks)) in
       let tot : total (m .chunks) ≡ length c1 + length c2 = sym (length-chunksBytes (m .chunks)) ∙ ap length cut ∙ length-append c1 c2 in
       let F : List ℕ = heading N (total (m .chunks)) in
       let w0 : b ≡ F ++ (entriesBytes (entries m) ++ (c1 ++ (c2 ++ drop l b)))
@@ -203,8 +212,10 @@ module _ (b : List ℕ) (l k i at u n : ℕ) (stands : Stands b l k) (ins : Inse
       let t1 : l - (24 + 12 * k) + sz ≡ total (m .chunks) + size c = omega (arith, file-length m, lm) in
       let F′ : List ℕ = heading (suc N) (total (m .chunks) + size c) in
       let f : ℕ → ℕ = risen at sz in
-      let leaves = chunk-leaves F (entries m) f i N (24 + 12 * i) (length-heading N (total (m .chunks))) (length-map (m .refs) _) listed-ok (omega (arith, ins .listed)) refl
-      c1 c2 (drop l b) (entryBytes x) (chunkBytes c) F′ at sz l ea el (omega arith) (length-entry x) (length-chunkBytes c ∙ sc) (length-heading (suc N) (total (m .chunks) + size c)) in
+      let leaves = chunk-leaves F (entries m) f i N (24 + 12 * i) (length-heading N (total (m .chunks))) (length-map (m .refs) _) listed-ok
+      (omega (arith, ins .listed)) refl
+      c1 c2 (drop l b) (entryBytes x) (chunkBytes c) F′ at sz l ea el (omega arith) (length-entry x) (length-chunkBytes c ∙ sc)
+      (length-heading (suc N) (total (m .chunks) + size c)) in
       let E : List ℕ = entriesBytes (with-at i x (map (moved f) (entries m))) in
       let file-is : file (inserted m i kc u n c) ≡ F′ ++ (E ++ (c1 ++ (chunkBytes c ++ c2)))
       = inserted-file m i kc u n c place
@@ -214,7 +225,8 @@ module _ (b : List ℕ) (l k i at u n : ℕ) (stands : Stands b l k) (ins : Inse
       ∙ ap (λ (z : ℕ). 12 * z) (length-with i x (map (moved f) (entries m)) ∙ ap suc (length-map (entries m) _ ∙ length-map (m .refs) _)) in
       let len : length (file (inserted m i kc u n c)) ≡ l + (12 + sz)
       = ap length file-is ∙ simp length-append (omega (arith, length-heading (suc N) (total (m .chunks) + size c), length-chunkBytes c)) in
-      (λ z. noted (noted (noted (slid (slid (startsMoved f (ek z) 24 (w0 z)) (at + (12 + sz)) at (l - at)) (24 + 12 * i + 12) (24 + 12 * i) (at - (24 + 12 * i)))
+      (λ z. noted (noted (noted (slid (slid (startsMoved f (ek z) 24 (w0 z)) (at + (12 + sz)) at (l - at)) (24 + 12 * i + 12) (24 + 12 * i)
+      (at - (24 + 12 * i)))
       (24 + 12 * i) (sym (entry-bytes u n (at + 12)) z)) (at + 12) (chunkBytes c)) 0 (heading (k1 z) (t1 z)))
       ∙ leaves
       ∙ (λ z. F′ ++ (sym (entries-with (map (moved f) (entries m)) i x) z ++ ((c1 ++ (chunkBytes c ++ c2)) ++ drop (12 + sz) (drop l b))))
@@ -223,7 +235,8 @@ module _ (b : List ℕ) (l k i at u n : ℕ) (stands : Stands b l k) (ins : Inse
       ∙ at-end (file (inserted m i kc u n c)) (12 + sz) len
 
   pub enter-written : l + 12 ≤ length b
-      → noted (noted (slid (startsMoved (λ t. t + 12) k 24 b) (24 + 12 * i + 12) (24 + 12 * i) (l - (24 + 12 * i))) (24 + 12 * i) (be32 u ++ (be32 n ++ be32 (at + 12)))) 0 (heading (k + 1) (l - (24 + 12 * k)))
+      → noted (noted (slid (startsMoved (λ t. t + 12) k 24 b) (24 + 12 * i + 12) (24 + 12 * i) (l - (24 + 12 * i))) (24 + 12 * i)
+      (be32 u ++ (be32 n ++ be32 (at + 12)))) 0 (heading (k + 1) (l - (24 + 12 * k)))
       ≡ written b l (file (entered (model (take l b)) i (placeAt (model (take l b)) at) u n))
   enter-written room =
       let N : ℕ = length (m .refs) in
@@ -238,15 +251,19 @@ module _ (b : List ℕ) (l k i at u n : ℕ) (stands : Stands b l k) (ins : Inse
       let t1 : l - (24 + 12 * k) ≡ total (m .chunks) = omega (arith, file-length m, lm) in
       let F′ : List ℕ = heading (suc N) (total (m .chunks)) in
       let f : ℕ → ℕ = λ t. t + 12 in
-      let leaves = entry-leaves F (entries m) f i N (24 + 12 * i) (length-heading N (total (m .chunks))) (length-map (m .refs) _) listed-ok (omega (arith, ins .listed)) refl
+      let leaves = entry-leaves F (entries m) f i N (24 + 12 * i) (length-heading N (total (m .chunks))) (length-map (m .refs) _) listed-ok
+      (omega (arith, ins .listed)) refl
       C (drop l b) (entryBytes x) F′ l (omega (arith, file-length m, lm)) (omega arith) (length-entry x) (length-heading (suc N) (total (m .chunks))) in
       let E : List ℕ = entriesBytes (with-at i x (map (moved f) (entries m))) in
       let file-is : file (entered m i kc u n) ≡ F′ ++ (E ++ C)
-      = entered-file m i kc u n ∙ (λ z. F′ ++ (entriesBytes (with-at i (record { usage = u; number = n; start = sym es z + 12 }) (map (moved f) (entries m))) ++ C)) in
+      = entered-file m i kc u n ∙ (λ z. F′ ++ (entriesBytes (with-at i (record { usage = u; number = n; start = sym es z + 12 }) (map (moved f) (entries m)))
+      ++ C)) in
       let lE : length E ≡ 12 * suc N = length-entriesBytes (with-at i x (map (moved f) (entries m)))
       ∙ ap (λ (z : ℕ). 12 * z) (length-with i x (map (moved f) (entries m)) ∙ ap suc (length-map (entries m) _ ∙ length-map (m .refs) _)) in
-      let len : length (file (entered m i kc u n)) ≡ l + 12 = ap length file-is ∙ simp length-append (omega (arith, length-heading (suc N) (total (m .chunks)), file-length m, lm)) in
-      (λ z. noted (noted (slid (startsMoved f (ek z) 24 (whole z)) (24 + 12 * i + 12) (24 + 12 * i) (l - (24 + 12 * i))) (24 + 12 * i) (sym (entry-bytes u n (at + 12)) z)) 0 (heading (k1 z) (t1 z)))
+      let len : length (file (entered m i kc u n)) ≡ l + 12 = ap length file-is
+      ∙ simp length-append (omega (arith, length-heading (suc N) (total (m .chunks)), file-length m, lm)) in
+      (λ z. noted (noted (slid (startsMoved f (ek z) 24 (whole z)) (24 + 12 * i + 12) (24 + 12 * i) (l - (24 + 12 * i))) (24 + 12 * i)
+      (sym (entry-bytes u n (at + 12)) z)) 0 (heading (k1 z) (t1 z)))
       ∙ leaves
       ∙ (λ z. F′ ++ (sym (entries-with (map (moved f) (entries m)) i x) z ++ (C ++ drop 12 (drop l b))))
       ∙ seam F′ E C (drop 12 (drop l b))
@@ -255,11 +272,13 @@ module _ (b : List ℕ) (l k i at u n : ℕ) (stands : Stands b l k) (ins : Inse
 
 -- a record that fits the file gives what the code asks
 module _ (b : List ℕ) (l k : ℕ) (stands : Stands b l k) (r : Rec) where
-  insertable : (r .place ≤ length (model (take l b) .refs)) × (r .start ≡ start (model (take l b)) (oldPlace r (model (take l b))) + 12) → Insertable b l k (r .place) (r .start - 12)
+  insertable : (r .place ≤ length (model (take l b) .refs)) × (r .start ≡ start (model (take l b)) (oldPlace r (model (take l b))) + 12)
+      → Insertable b l k (r .place) (r .start - 12)
   insertable h =
       let m : Model = model (take l b) in
       let lf : length (file m) ≡ l = ap length (stands .whole) ∙ length-take-le l b (stands .inside) in
-      let tt : length (chunksBytes (take (oldPlace r m) (m .chunks))) ≤ total (m .chunks) = omega (arith, length-chunksBytes (take (oldPlace r m) (m .chunks)), total-take (oldPlace r m) (m .chunks)) in
+      let tt : length (chunksBytes (take (oldPlace r m) (m .chunks))) ≤ total (m .chunks) =
+      omega (arith, length-chunksBytes (take (oldPlace r m) (m .chunks)), total-take (oldPlace r m) (m .chunks)) in
       let e : r .start - 12 ≡ start m (oldPlace r m) = omega (arith, h .1) in
       record {
         listed = omega (arith, h .0, stands .entries);

@@ -48,7 +48,8 @@ noEntry : Entry
 noEntry = record { usage = 0; number = 0; start = 0 }
 
 -- a list of entries around one of them
-entries-around : (es : List Entry) (i : ℕ) → i < length es → entriesBytes es ≡ entriesBytes (take i es) ++ (entryBytes (getD es i noEntry) ++ entriesBytes (drop (suc i) es))
+entries-around : (es : List Entry) (i : ℕ) → i < length es → entriesBytes es ≡ entriesBytes (take i es) ++ (entryBytes (getD es i noEntry) ++ entriesBytes
+    (drop (suc i) es))
 entries-around es i h =
     ap entriesBytes (split-at es i noEntry h) ∙ entries-append (take i es) (getD es i noEntry ∷ drop (suc i) es)
     ∙ ap (λ (z : List ℕ). entriesBytes (take i es) ++ z) (entries-cons (getD es i noEntry) (drop (suc i) es))
@@ -65,7 +66,8 @@ all-parts a b c d n sz l e h = omega arith
 -- the leaves, one after another, on any split of the chunks
 module _ (b : List ℕ) (L : ℕ) (m : Model) (i st sz t′ : ℕ) (c1 cx c2 : List ℕ) (f : ℕ → ℕ)
     (inside : L ≤ length b) (whole : take L b ≡ file m) (ok : All EntryOk (entries m)) (small : L < W)
-    (hi : i < length (m .refs)) (split : chunksBytes (m .chunks) ≡ c1 ++ (cx ++ c2)) (est : st ≡ 24 + 12 * length (m .refs) + length c1) (esz : length cx ≡ sz) where
+    (hi : i < length (m .refs)) (split : chunksBytes (m .chunks) ≡ c1 ++ (cx ++ c2)) (est : st ≡ 24 + 12 * length (m .refs) + length c1)
+    (esz : length cx ≡ sz) where
   abbrev n : ℕ
   n = length (m .refs)
 
@@ -78,7 +80,8 @@ module _ (b : List ℕ) (L : ℕ) (m : Model) (i st sz t′ : ℕ) (c1 cx c2 : L
   abbrev F : List ℕ
   F = heading (length (m .refs)) (total (m .chunks))
 
-  pub remove-leaves : noted (noted (slid (slid (startsMoved f n 24 b) (36 + 12 * i - 12) (36 + 12 * i) (st - (36 + 12 * i))) (st + sz - (12 + sz)) (st + sz) (L - (st + sz)))
+  pub remove-leaves : noted (noted (slid (slid (startsMoved f n 24 b) (36 + 12 * i - 12) (36 + 12 * i) (st - (36 + 12 * i))) (st + sz - (12 + sz)) (st + sz)
+      (L - (st + sz)))
       (L - (12 + sz)) (replicate (12 + sz) 0)) 0 (heading (n - 1) t′)
       ≡ written b L (heading (n - 1) t′ ++ (entriesBytes (map (moved f) (without i es)) ++ (c1 ++ c2)))
   remove-leaves =
@@ -100,7 +103,8 @@ module _ (b : List ℕ) (L : ℕ) (m : Model) (i st sz t′ : ℕ) (c1 cx c2 : L
       let B : List ℕ = entriesBytes (drop (suc i) es′) in
       let lx : length x ≡ 12 = length-entry (getD es′ i noEntry) in
       let lA : length A ≡ 12 * i = length-entriesBytes (take i es′) ∙ ap (λ (z : ℕ). 12 * z) (length-take-le i es′ (omega arith)) in
-      let lB : length B ≡ 12 * (n - suc i) = length-entriesBytes (drop (suc i) es′) ∙ ap (λ (z : ℕ). 12 * z) (length-drop (suc i) es′ ∙ ap (λ (z : ℕ). z - suc i) ln′) in
+      let lB : length B ≡ 12 * (n - suc i) = length-entriesBytes (drop (suc i) es′) ∙ ap (λ (z : ℕ). 12 * z) (length-drop (suc i) es′
+      ∙ ap (λ (z : ℕ). z - suc i) ln′) in
       let lAB : length A + length B + 12 ≡ 12 * n = omega arith in
       let P : List ℕ = F ++ A in
       let S : List ℕ = B ++ c1 in
@@ -137,8 +141,10 @@ module _ (b : List ℕ) (L : ℕ) (m : Model) (i st sz t′ : ℕ) (c1 cx c2 : L
       let AB : A ++ B ≡ entriesBytes (map (moved f) (without i es))
       = sym (entries-append (take i es′) (drop (suc i) es′)) ∙ ap entriesBytes (without-is i es′) ∙ ap entriesBytes (sym (map-without (moved f) i es)) in
       let lf : length (F′ ++ ((A ++ B) ++ (c1 ++ c2))) + (12 + sz) ≡ L
-      = simp length-append (ap (λ (z : ℕ). z + (length A + length B + (length c1 + length c2)) + (12 + sz)) lF′ ∙ all-parts (length A) (length B) (length c1) (length c2) n sz L lAB lt) in
-      ap (λ (z : List ℕ). noted (noted (slid (slid z (36 + 12 * i - 12) (36 + 12 * i) (st - (36 + 12 * i))) (st + sz - (12 + sz)) (st + sz) (L - (st + sz))) (L - (12 + sz)) zs) 0 F′) w1
+      = simp length-append (ap (λ (z : ℕ). z + (length A + length B + (length c1 + length c2)) + (12 + sz)) lF′ ∙ all-parts (length A) (length B) (length c1)
+      (length c2) n sz L lAB lt) in
+      ap (λ (z : List ℕ). noted (noted (slid (slid z (36 + 12 * i - 12) (36 + 12 * i) (st - (36 + 12 * i))) (st + sz - (12 + sz)) (st + sz) (L - (st + sz)))
+      (L - (12 + sz)) zs) 0 F′) w1
       ∙ ap (λ (z : List ℕ). noted (noted (slid z (st + sz - (12 + sz)) (st + sz) (L - (st + sz))) (L - (12 + sz)) zs) 0 F′) w2
       ∙ ap (λ (z : List ℕ). noted (noted z (L - (12 + sz)) zs) 0 F′) w3
       ∙ ap (λ (z : List ℕ). noted z 0 F′) w4
@@ -165,10 +171,12 @@ module _ (m : Model) (i : ℕ) (s : Sound m) (h : i < length (m .refs)) where
   there = all-getD (RefOk (length (m .chunks))) (m .refs) i noRef (s .refs-ok) h .chunk-there
 
   both-file : shared m i ≡ false → file (removedBoth m i k) ≡ heading (length (m .refs) - 1) (total (m .chunks) - size (chunkAt m k))
-      ++ (entriesBytes (map (moved (fallen (start m k) (size (chunkAt m k)))) (without i (entries m))) ++ (chunksBytes (take k (m .chunks)) ++ chunksBytes (drop (suc k) (m .chunks))))
+      ++ (entriesBytes (map (moved (fallen (start m k) (size (chunkAt m k)))) (without i (entries m))) ++ (chunksBytes (take k (m .chunks)) ++ chunksBytes
+      (drop (suc k) (m .chunks))))
   both-file alone =
       let n1 : length (removedBoth m i k .refs) ≡ length (m .refs) - 1 = omega (arith, length-remaining m i k h) in
-      let t1 : total (removedBoth m i k .chunks) ≡ total (m .chunks) - size (chunkAt m k) = (unfold removedBoth in omega (arith, total-less (m .chunks) k there)) in
+      let t1 : total (removedBoth m i k .chunks) ≡ total (m .chunks) - size (chunkAt m k) =
+      (unfold removedBoth in omega (arith, total-less (m .chunks) k there)) in
       let c1 : chunksBytes (removedBoth m i k .chunks) ≡ chunksBytes (take k (m .chunks)) ++ chunksBytes (drop (suc k) (m .chunks))
       = (unfold removedBoth without in chunks-append (take k (m .chunks)) (drop (suc k) (m .chunks))) in
       file-parts (removedBoth m i k) ∙ (λ z. heading (n1 z) (t1 z) ++ (entriesBytes (starts-removed m i h there alone z) ++ c1 z))
@@ -180,15 +188,18 @@ module _ (m : Model) (i : ℕ) (s : Sound m) (h : i < length (m .refs)) where
       let t1 : total (removedEntry m i .chunks) ≡ total (m .chunks) - 0 = (unfold removedEntry in omega arith) in
       let c1 : chunksBytes (removedEntry m i .chunks) ≡ chunksBytes (take k (m .chunks)) ++ chunksBytes (drop k (m .chunks))
       = (unfold removedEntry in ap chunksBytes (sym (take-append-drop k (m .chunks))) ∙ chunks-append (take k (m .chunks)) (drop k (m .chunks))) in
-      file-parts (removedEntry m i) ∙ (λ z. heading (n1 z) (t1 z) ++ (entriesBytes ((starts-unlisted m i h ∙ fall-none (start m k) (without i (entries m))) z) ++ c1 z))
+      file-parts (removedEntry m i) ∙ (λ z. heading (n1 z) (t1 z)
+      ++ (entriesBytes ((starts-unlisted m i h ∙ fall-none (start m k) (without i (entries m))) z) ++ c1 z))
 
   start-is : start m k ≡ 24 + 12 * length (m .refs) + length (chunksBytes (take k (m .chunks)))
   unfolding start startOf base
   start-is = ap (λ (z : ℕ). 24 + 12 * length (m .refs) + z) (sym (length-chunksBytes (take k (m .chunks))))
 
 -- from a file in a buffer, as the code has it
-pub remove-written : (b : List ℕ) (l k i st sz : ℕ) → Stands b l k → i < k → st ≡ start (model (take l b)) (refAt (model (take l b)) i .chunk) → sz ≡ goneSize (model (take l b)) i
-    → noted (noted (slid (slid (startsMoved (fallen st sz) k 24 b) (36 + 12 * i - 12) (36 + 12 * i) (st - (36 + 12 * i))) (st + sz - (12 + sz)) (st + sz) (l - (st + sz))) (l - (12 + sz)) (replicate (12 + sz) 0)) 0
+pub remove-written : (b : List ℕ) (l k i st sz : ℕ) → Stands b l k → i < k → st ≡ start (model (take l b)) (refAt (model (take l b)) i .chunk)
+    → sz ≡ goneSize (model (take l b)) i
+    → noted (noted (slid (slid (startsMoved (fallen st sz) k 24 b) (36 + 12 * i - 12) (36 + 12 * i) (st - (36 + 12 * i))) (st + sz - (12 + sz)) (st + sz)
+    (l - (st + sz))) (l - (12 + sz)) (replicate (12 + sz) 0)) 0
     (heading (k - 1) (l - sz - (24 + 12 * k)))
     ≡ written b l (file (removed (model (take l b)) i))
 unfolding goneSize removed
@@ -209,28 +220,37 @@ remove-written b l k i st sz stands hi est esz = go (shared (model (take l b)) i
     th : refAt (model (take l b)) i .chunk < length (model (take l b) .chunks)
     th = there (model (take l b)) i (stands .sound) hi′
 
-    fin : (sz′ : ℕ) (c1 cx c2 : List ℕ) (m′ : Model) → sz ≡ sz′ → chunksBytes (model (take l b) .chunks) ≡ c1 ++ (cx ++ c2) → length cx ≡ sz′ → c1 ≡ chunksBytes (take (refAt (model (take l b)) i .chunk) (model (take l b) .chunks))
+    fin : (sz′ : ℕ) (c1 cx c2 : List ℕ) (m′ : Model) → sz ≡ sz′ → chunksBytes (model (take l b) .chunks) ≡ c1 ++ (cx ++ c2) → length cx ≡ sz′
+        → c1 ≡ chunksBytes (take (refAt (model (take l b)) i .chunk) (model (take l b) .chunks))
         → file m′ ≡ heading (length (model (take l b) .refs) - 1) (total (model (take l b) .chunks) - sz′)
-        ++ (entriesBytes (map (moved (fallen (start (model (take l b)) (refAt (model (take l b)) i .chunk)) sz′)) (without i (entries (model (take l b))))) ++ (c1 ++ c2))
-        → noted (noted (slid (slid (startsMoved (fallen st sz) k 24 b) (36 + 12 * i - 12) (36 + 12 * i) (st - (36 + 12 * i))) (st + sz - (12 + sz)) (st + sz) (l - (st + sz))) (l - (12 + sz)) (replicate (12 + sz) 0)) 0
+        ++ (entriesBytes (map (moved (fallen (start (model (take l b)) (refAt (model (take l b)) i .chunk)) sz′)) (without i (entries (model (take l b)))))
+        ++ (c1 ++ c2))
+        → noted (noted (slid (slid (startsMoved (fallen st sz) k 24 b) (36 + 12 * i - 12) (36 + 12 * i) (st - (36 + 12 * i))) (st + sz - (12 + sz)) (st + sz)
+        (l - (st + sz))) (l - (12 + sz)) (replicate (12 + sz) 0)) 0
         (heading (k - 1) (l - sz - (24 + 12 * k))) ≡ written b l (file m′)
     fin sz′ c1 cx c2 m′ es split lcx ec1 X =
         let ek : k ≡ length (m .refs) = stands .entries in
         let small : length (file m) < W = omega (arith, lm, stands .short) in
         let tt : l - sz - (24 + 12 * k) ≡ total (m .chunks) - sz′ = omega (arith, file-length m, lm) in
-        let est′ : start m kc ≡ 24 + 12 * length (m .refs) + length c1 = start-is m i (stands .sound) hi′ ∙ ap (λ (z : List ℕ). 24 + 12 * length (m .refs) + length z) (sym ec1) in
-        (λ z. noted (noted (slid (slid (startsMoved (fallen (est z) (es z)) (ek z) 24 b) (36 + 12 * i - 12) (36 + 12 * i) (est z - (36 + 12 * i))) (est z + es z - (12 + es z)) (est z + es z) (l - (est z + es z)))
+        let est′ : start m kc ≡ 24 + 12 * length (m .refs) + length c1 = start-is m i (stands .sound) hi′
+        ∙ ap (λ (z : List ℕ). 24 + 12 * length (m .refs) + length z) (sym ec1) in
+        (λ z. noted (noted (slid (slid (startsMoved (fallen (est z) (es z)) (ek z) 24 b) (36 + 12 * i - 12) (36 + 12 * i) (est z - (36 + 12 * i)))
+        (est z + es z - (12 + es z)) (est z + es z) (l - (est z + es z)))
         (l - (12 + es z)) (replicate {A = ℕ} (12 + es z) 0)) 0 (heading (ek z - 1) (tt z)))
-        ∙ remove-leaves b l m i (start m kc) sz′ (total (m .chunks) - sz′) c1 cx c2 (fallen (start m kc) sz′) (stands .inside) (sym (stands .whole)) (entries-ok m (stands .sound) small) (omega arith) hi′ split est′ lcx
+        ∙ remove-leaves b l m i (start m kc) sz′ (total (m .chunks) - sz′) c1 cx c2 (fallen (start m kc) sz′) (stands .inside) (sym (stands .whole))
+        (entries-ok m (stands .sound) small) (omega arith) hi′ split est′ lcx
         ∙ ap (written b l) (sym X)
 
     go : (x : Bool) → shared (model (take l b)) i ≡ x
-        → noted (noted (slid (slid (startsMoved (fallen st sz) k 24 b) (36 + 12 * i - 12) (36 + 12 * i) (st - (36 + 12 * i))) (st + sz - (12 + sz)) (st + sz) (l - (st + sz))) (l - (12 + sz)) (replicate (12 + sz) 0)) 0
+        → noted (noted (slid (slid (startsMoved (fallen st sz) k 24 b) (36 + 12 * i - 12) (36 + 12 * i) (st - (36 + 12 * i))) (st + sz - (12 + sz)) (st + sz)
+        (l - (st + sz))) (l - (12 + sz)) (replicate (12 + sz) 0)) 0
         (heading (k - 1) (l - sz - (24 + 12 * k)))
         ≡ written b l (file (cond x (removedEntry (model (take l b)) i) (removedBoth (model (take l b)) i (refAt (model (take l b)) i .chunk))))
     go false e =
         fin (size (chunkAt m kc)) (chunksBytes (take kc (m .chunks))) (chunkBytes (chunkAt m kc)) (chunksBytes (drop (suc kc) (m .chunks))) (removedBoth m i kc)
-        (esz ∙ ap (λ (x : Bool). cond x 0 (size (chunkAt m kc))) e) (chunks-around (m .chunks) kc th) (length-chunkBytes (chunkAt m kc)) refl (both-file m i (stands .sound) hi′ e)
+        (esz ∙ ap (λ (x : Bool). cond x 0 (size (chunkAt m kc))) e) (chunks-around (m .chunks) kc th) (length-chunkBytes (chunkAt m kc)) refl
+        (both-file m i (stands .sound) hi′ e)
     go true e =
         fin 0 (chunksBytes (take kc (m .chunks))) [] (chunksBytes (drop kc (m .chunks))) (removedEntry m i)
-        (esz ∙ ap (λ (x : Bool). cond x 0 (size (chunkAt m kc))) e) (ap chunksBytes (sym (take-append-drop kc (m .chunks))) ∙ chunks-append (take kc (m .chunks)) (drop kc (m .chunks))) refl refl (entry-file m i (stands .sound) hi′)
+        (esz ∙ ap (λ (x : Bool). cond x 0 (size (chunkAt m kc))) e) (ap chunksBytes (sym (take-append-drop kc (m .chunks)))
+        ∙ chunks-append (take kc (m .chunks)) (drop kc (m .chunks))) refl refl (entry-file m i (stands .sound) hi′)

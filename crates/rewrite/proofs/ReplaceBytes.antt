@@ -59,7 +59,8 @@ resized-same b at len old new e =
     let z : new - new ≡ 0 = omega arith in
     let n : at + new + 0 ≡ at + new = omega arith in
     let m : at + new - 0 ≡ at + new = omega arith in
-    sym (ap (λ (a : ℕ). resized b at len a new) e ∙ rw (le-ltb new new (omega arith), z, n, m, slid-onto b (at + new) (len - (at + new))) (noted-none b (len - 0)))
+    sym (ap (λ (a : ℕ). resized b at len a new) e ∙ rw (le-ltb new new (omega arith), z, n, m, slid-onto b (at + new) (len - (at + new)))
+    (noted-none b (len - 0)))
 
 seam : (a b c d : List ℕ) → a ++ (b ++ (c ++ d)) ≡ (a ++ (b ++ c)) ++ d
 seam a b c d = simp append-assoc
@@ -68,16 +69,19 @@ start-total : (m : Model) (k : ℕ) → start m k ≡ 24 + 12 * length (m .refs)
 unfolding start startOf base
 start-total m k = refl
 
-total-new : (m : Model) (k : ℕ) (c : Chunk) → k < length (m .chunks) → (l n old new : ℕ) → l ≡ 24 + 12 * length (m .refs) + total (m .chunks) → n ≡ length (m .refs) → old ≡ size (chunkAt m k) → new ≡ size c
+total-new : (m : Model) (k : ℕ) (c : Chunk) → k < length (m .chunks) → (l n old new : ℕ) → l ≡ 24 + 12 * length (m .refs) + total (m .chunks)
+    → n ≡ length (m .refs) → old ≡ size (chunkAt m k) → new ≡ size c
     → l - (24 + 12 * n) - old + new ≡ total (replaced m k c .chunks)
 unfolding replaced
 total-new m k c h l n old new el en eo ew = omega (arith, total-put (m .chunks) k c h, size-getD (m .chunks) k noChunk h)
 
-parts-replaced : (m : Model) (k : ℕ) (c : Chunk) → file (replaced m k c) ≡ heading (length (m .refs)) (total (replaced m k c .chunks)) ++ (entriesBytes (entries (replaced m k c)) ++ chunksBytes (replaced m k c .chunks))
+parts-replaced : (m : Model) (k : ℕ) (c : Chunk) → file (replaced m k c) ≡ heading (length (m .refs)) (total (replaced m k c .chunks))
+    ++ (entriesBytes (entries (replaced m k c)) ++ chunksBytes (replaced m k c .chunks))
 unfolding replaced
 parts-replaced m k c = file-parts (record { refs = m .refs; chunks = set (m .chunks) k c })
 
-chunks-replaced : (m : Model) (k : ℕ) (c : Chunk) → k < length (m .chunks) → chunksBytes (replaced m k c .chunks) ≡ chunksBytes (take k (m .chunks)) ++ (chunkBytes c ++ chunksBytes (drop (suc k) (m .chunks)))
+chunks-replaced : (m : Model) (k : ℕ) (c : Chunk) → k < length (m .chunks) → chunksBytes (replaced m k c .chunks) ≡ chunksBytes (take k (m .chunks))
+    ++ (chunkBytes c ++ chunksBytes (drop (suc k) (m .chunks)))
 unfolding replaced
 chunks-replaced m k c h = chunks-set (m .chunks) k c h
 
@@ -113,7 +117,8 @@ replace-written b l k i st old new t d stands rp en room =
     let es0 : st ≡ 24 + 12 * n + total (take kc (m .chunks)) = rp .starts ∙ start-total m kc in
     let p1 : List ℕ = F ++ (E ++ c1) in
     let lp1 : length p1 ≡ st = length-append F (E ++ c1) ∙ ap (λ (z : ℕ). length F + z) (length-append E c1) ∙ omega arith in
-    let cont : take l b ≡ p1 ++ (cx ++ c2) = sym (stands .whole) ∙ file-parts m ∙ ap (λ (z : List ℕ). F ++ (E ++ z)) (chunks-around (m .chunks) kc th) ∙ seam F E c1 (cx ++ c2) in
+    let cont : take l b ≡ p1 ++ (cx ++ c2) = sym (stands .whole) ∙ file-parts m ∙ ap (λ (z : List ℕ). F ++ (E ++ z)) (chunks-around (m .chunks) kc th)
+    ∙ seam F E c1 (cx ++ c2) in
     let w0 : b ≡ written b l (p1 ++ (cx ++ c2)) = written-first b l (stands .inside) ∙ ap (written b l) cont in
     let rz : Resized b l p1 c2 new (resized (written b l (p1 ++ (cx ++ c2))) st l old new)
     = resized-written b l p1 cx c2 st old new l lp1 lcx (ap length (sym cont) ∙ lL) (omega arith) room (stands .inside) in
@@ -121,7 +126,8 @@ replace-written b l k i st old new t d stands rp en room =
     let w1 : resized b st l old new ≡ written b l (F ++ (E ++ (c1 ++ (h ++ c2))))
     = ap (λ (z : List ℕ). resized z st l old new) w0 ∙ rz .stands ∙ ap (written b l) (sym (seam F E c1 (h ++ c2))) in
     let w2 : startsMoved f k 24 (resized b st l old new) ≡ written b l (F ++ (E′ ++ (c1 ++ (h ++ c2))))
-    = (λ z. startsMoved f ((ek ∙ sym ln) z) 24 (w1 z)) ∙ starts-written b l f F es (c1 ++ (h ++ c2)) 24 lF (entries-ok m (stands .sound) small) (lE′ ∙ sym lE) in
+    = (λ z. startsMoved f ((ek ∙ sym ln) z) 24 (w1 z)) ∙ starts-written b l f F es (c1 ++ (h ++ c2)) 24 lF (entries-ok m (stands .sound) small)
+    (lE′ ∙ sym lE) in
     let tt : l - (24 + 12 * k) - old + new ≡ total (replaced m kc c .chunks) = total-new m kc c th l k old new (sym lm ∙ file-length m) ek (rp .sized) en in
     let F′ : List ℕ = heading n (total (replaced m kc c .chunks)) in
     let fr : heading k (l - (24 + 12 * k) - old + new) ≡ F′ = λ z. heading (ek z) (tt z) in
@@ -137,4 +143,5 @@ replace-written b l k i st old new t d stands rp en room =
     let ch : c1 ++ (chunkBytes c ++ c2) ≡ chunksBytes (replaced m kc c .chunks) = sym (chunks-replaced m kc c th) in
     (λ z. noted (noted (w2 z) 0 (fr z)) st (chunkBytes c))
     ∙ ap (λ (z : List ℕ). noted z st (chunkBytes c)) (w3 ∙ ap (written b l) (seam F′ E′ c1 (h ++ c2)))
-    ∙ w4 ∙ ap (written b l) (sym (seam F′ E′ c1 (chunkBytes c ++ c2)) ∙ (λ z. heading n (total (replaced m kc c .chunks)) ++ (ee z ++ ch z)) ∙ sym (parts-replaced m kc c))
+    ∙ w4 ∙ ap (written b l) (sym (seam F′ E′ c1 (chunkBytes c ++ c2)) ∙ (λ z. heading n (total (replaced m kc c .chunks)) ++ (ee z ++ ch z))
+    ∙ sym (parts-replaced m kc c))

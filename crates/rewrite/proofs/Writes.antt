@@ -60,7 +60,8 @@ gap p c r at k e h =
     ap (λ (x : List ℕ). noted x (at + k) c) q ∙ g ∙ ap (λ (x : List ℕ). (p ++ take k s) ++ (c ++ x)) d ∙ append-assoc p (take k s) (c ++ drop k r)
 
 -- the part s goes k to the right
-pub slid-right : (p s r : List ℕ) (at k n : ℕ) → length p ≡ at → length s ≡ n → k ≤ length r → slid (p ++ (s ++ r)) (at + k) at n ≡ p ++ (take k (s ++ r) ++ (s ++ drop k r))
+pub slid-right : (p s r : List ℕ) (at k n : ℕ) → length p ≡ at → length s ≡ n → k ≤ length r → slid (p ++ (s ++ r)) (at + k) at n ≡ p
+    ++ (take k (s ++ r) ++ (s ++ drop k r))
 slid-right p s r at k n ep es h =
     let lw : length (p ++ (s ++ r)) ≡ length p + (length s + length r) = simp length-append in
     let part : take n (drop at (p ++ (s ++ r))) ≡ s = ap (take n) (drop-at p (s ++ r) at ep) ∙ take-at s r n es in
@@ -71,14 +72,16 @@ pub left-behind : (x s : List ℕ) (k n : ℕ) → length x ≡ k → length s �
 left-behind x s k n ex es = length-drop n (x ++ s) ∙ ap (λ (z : ℕ). z - n) (length-append x s) ∙ omega arith
 
 -- the part s goes to the left, over x
-pub slid-left : (p x s t : List ℕ) (at k n : ℕ) → length p ≡ at → length x ≡ k → length s ≡ n → slid (p ++ (x ++ (s ++ t))) at (at + k) n ≡ (p ++ s) ++ (drop n (x ++ s) ++ t)
+pub slid-left : (p x s t : List ℕ) (at k n : ℕ) → length p ≡ at → length x ≡ k → length s ≡ n → slid (p ++ (x ++ (s ++ t))) at (at + k) n ≡ (p ++ s)
+    ++ (drop n (x ++ s) ++ t)
 slid-left p x s t at k n ep ex es =
     let w : List ℕ = p ++ (x ++ (s ++ t)) in
     let lw : length w ≡ length p + (length x + (length s + length t)) = simp length-append in
     let px : length (p ++ x) ≡ at + k = length-append p x ∙ omega arith in
     let ls : length (x ++ s) ≡ length x + length s = length-append x s in
     let part : take n (drop (at + k) w) ≡ s
-    = ap (λ (z : List ℕ). take n (drop (at + k) z)) (sym (append-assoc p x (s ++ t))) ∙ ap (take n) (drop-at (p ++ x) (s ++ t) (at + k) px) ∙ take-at s t n es in
+    = ap (λ (z : List ℕ). take n (drop (at + k) z)) (sym (append-assoc p x (s ++ t))) ∙ ap (take n) (drop-at (p ++ x) (s ++ t) (at + k) px)
+    ∙ take-at s t n es in
     let rest : drop (length s) (x ++ (s ++ t)) ≡ drop n (x ++ s) ++ t
     = (λ i. drop (es i) (sym (append-assoc x s t) i)) ∙ drop-append-le n (x ++ s) t (omega arith) in
     slid-noted w at (at + k) n (omega arith) ∙ ap (noted w at) part ∙ noted-after p (x ++ (s ++ t)) s at ep
@@ -97,7 +100,8 @@ starts-moved f p (x ∷ es) s at e ok =
     let q : List ℕ = p ++ (be32 (x .usage) ++ be32 (x .number)) in
     let lq : length q ≡ at + 8 = simp (length-append, length-be32) (omega arith) in
     let split : p ++ (((be32 (x .usage) ++ (be32 (x .number) ++ be32 (x .start))) ++ entriesBytes es) ++ s) ≡ q ++ (be32 (x .start) ++ r)
-    = ap (λ (l : List ℕ). p ++ l) (append-assoc (be32 (x .usage) ++ (be32 (x .number) ++ be32 (x .start))) (entriesBytes es) s) ∙ entry-seam p (x .usage) (x .number) (x .start) r in
+    = ap (λ (l : List ℕ). p ++ l) (append-assoc (be32 (x .usage) ++ (be32 (x .number) ++ be32 (x .start))) (entriesBytes es) s) ∙ entry-seam p (x .usage)
+    (x .number) (x .start) r in
     let rd : rd32 (drop (at + 8) (q ++ (be32 (x .start) ++ r))) ≡ x .start
     = ap rd32 (drop-at q (be32 (x .start) ++ r) (at + 8) lq) ∙ rd32-be32 (x .start) r (ok .0 .start-fits) in
     let y : List ℕ = be32 (x .usage) ++ (be32 (x .number) ++ be32 (f (x .start))) in
@@ -106,7 +110,8 @@ starts-moved f p (x ∷ es) s at e ok =
     ∙ sym (entry-seam p (x .usage) (x .number) (f (x .start)) r) ∙ sym (append-assoc p y r) in
     let B : List ℕ → List ℕ = λ b. startsMoved f (length es) (at + 12) (noted b (at + 8) (be32 (f (rd32 (drop (at + 8) b))))) in
     let g : B (q ++ (be32 (x .start) ++ r)) ≡ startsMoved f (length es) (at + 12) ((p ++ y) ++ r)
-    = ap (λ (v : ℕ). startsMoved f (length es) (at + 12) (noted (q ++ (be32 (x .start) ++ r)) (at + 8) (be32 (f v)))) rd ∙ ap (startsMoved f (length es) (at + 12)) put in
+    = ap (λ (v : ℕ). startsMoved f (length es) (at + 12) (noted (q ++ (be32 (x .start) ++ r)) (at + 8) (be32 (f v)))) rd
+    ∙ ap (startsMoved f (length es) (at + 12)) put in
     ap B split ∙ g ∙ starts-moved f (p ++ y) es s (at + 12) (simp (length-append, length-be32) (omega arith)) (ok .1)
     ∙ append-assoc p y (entriesBytes (map (moved f) es) ++ s) ∙ ap (λ (l : List ℕ). p ++ l) (sym (append-assoc y (entriesBytes (map (moved f) es)) s))
 

@@ -22,8 +22,10 @@ pub fn add_bytes(
     kind: u32,
     d: &[u8],
 )
-    requires { ⌜ Stands (now buf) len count × ((len + (20 + (length (now d) + length (now d) % 2)) ≤ length (now buf)) × (len + (20 + (length (now d) + length (now d) % 2)) ≤ 16777216)) ⌝ }
-    ensures { λ _. ⌜ now (buf .exit) ≡ written (now (buf .entry)) len (file (added (model (take len (now (buf .entry)))) usage number (chunkOf kind (now (d .entry))))) ⌝ }
+    requires { ⌜ Stands (now buf) len count × ((len + (20 + (length (now d) + length (now d) % 2)) ≤ length (now buf))
+        × (len + (20 + (length (now d) + length (now d) % 2)) ≤ 16777216)) ⌝ }
+    ensures { λ _. ⌜ now (buf .exit) ≡ written (now (buf .entry)) len
+        (file (added (model (take len (now (buf .entry)))) usage number (chunkOf kind (now (d .entry))))) ⌝ }
 {
     insert_bytes(buf, len, count, count, len, usage, number, kind, d);
 }
@@ -112,9 +114,11 @@ pub fn replace_bytes(
     kind: u32,
     d: &[u8],
 )
-    requires { ⌜ Stands (now buf) len count × (Replaceable (now buf) len count i start old × ((len - old + (8 + (length (now d) + length (now d) % 2)) ≤ length (now buf)) ×
+    requires { ⌜ Stands (now buf) len count × (Replaceable (now buf) len count i start old
+        × ((len - old + (8 + (length (now d) + length (now d) % 2)) ≤ length (now buf)) ×
         (len - old + (8 + (length (now d) + length (now d) % 2)) ≤ 16777216))) ⌝ }
-    ensures { λ _. ⌜ now (buf .exit) ≡ written (now (buf .entry)) len (file (replaced (model (take len (now (buf .entry)))) (refAt (model (take len (now (buf .entry)))) i .chunk) (chunkOf kind (now (d .entry))))) ⌝ }
+    ensures { λ _. ⌜ now (buf .exit) ≡ written (now (buf .entry)) len
+        (file (replaced (model (take len (now (buf .entry)))) (refAt (model (take len (now (buf .entry)))) i .chunk) (chunkOf kind (now (d .entry))))) ⌝ }
 {
     let m = d.len();
     let new = 8 + (m + m % 2);
@@ -140,9 +144,12 @@ pub fn insert_bytes(
     kind: u32,
     d: &[u8],
 )
-    requires { ⌜ Stands (now buf) len count × (Insertable (now buf) len count place at × ((len + (20 + (length (now d) + length (now d) % 2)) ≤ length (now buf)) ×
+    requires { ⌜ Stands (now buf) len count × (Insertable (now buf) len count place at
+        × ((len + (20 + (length (now d) + length (now d) % 2)) ≤ length (now buf)) ×
         (len + (20 + (length (now d) + length (now d) % 2)) ≤ 16777216))) ⌝ }
-    ensures { λ _. ⌜ now (buf .exit) ≡ written (now (buf .entry)) len (file (inserted (model (take len (now (buf .entry)))) place (placeAt (model (take len (now (buf .entry)))) at) usage number (chunkOf kind (now (d .entry))))) ⌝ }
+    ensures { λ _. ⌜ now (buf .exit) ≡ written (now (buf .entry)) len
+        (file (inserted (model (take len (now (buf .entry)))) place (placeAt (model (take len (now (buf .entry)))) at) usage number
+        (chunkOf kind (now (d .entry))))) ⌝ }
 {
     let m = d.len();
     let size = 8 + (m + m % 2);
@@ -178,7 +185,8 @@ pub fn insert_entry(
     number: u32,
 )
     requires { ⌜ Stands (now buf) len count × (Insertable (now buf) len count place at × ((len + 12 ≤ length (now buf)) × (len + 12 ≤ 16777216))) ⌝ }
-    ensures { λ _. ⌜ now (buf .exit) ≡ written (now (buf .entry)) len (file (entered (model (take len (now (buf .entry)))) place (placeAt (model (take len (now (buf .entry)))) at) usage number)) ⌝ }
+    ensures { λ _. ⌜ now (buf .exit) ≡ written (now (buf .entry)) len
+        (file (entered (model (take len (now (buf .entry)))) place (placeAt (model (take len (now (buf .entry)))) at) usage number)) ⌝ }
 {
     let entry = 24 + 12 * place;
     moves::move_starts(

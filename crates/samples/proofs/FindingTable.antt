@@ -1,11 +1,12 @@
 -- Samples of the finding table (02, P2 and P10), in one table under a single statement. For the rows on files, on searches and on turning, what the code
--- does follows by its contracts, which are equations with the definitions that these rows compute (buildOf, checkOf, searchOf, turnOf). The rows on entries alone compute the parts
+-- does follows by its contracts, which are equations with the definitions that these rows compute (buildOf, checkOf, searchOf, turnOf). The rows on entries
+-- alone compute the parts
 -- of which those consist (written, compared) for an index that no sample file has.
 use mathlib.Core.Path.{refl}
 use Prim.Native.Nat.{ℕ}
 use mathlib.Core.List.{List, [], _∷_, _++_}
 use mathlib.Core.Bool.{true}
-use lib.ListN.{take, set, replicate}
+use lib.ListN.{take, set, replicate, drop}
 use Rattle.blorb.specs.All.{All}
 use Rattle.blorb.specs.Format.{Entry}
 use Rattle.blorb.specs.Tags.{Pict, Snd, Data, GIF}
@@ -19,6 +20,7 @@ use Rattle.table.specs.declared.Found.the-variants as found
 use Rattle.samples.specs.Files.{blank, A, B, withoutEel, binary, kindOf}
 use Rattle.samples.specs.TableRows.{TableRow, builtFor, checkedFor, builds, checks, searches, toColumns, toRows, columnsFor, columnsSearch, TableRowHolds}
 use Rattle.samples.proofs.Table.{computed}
+use Rattle.samples.proofs.Parts.{parts}
 
 -- the index of a file with two pictures and a text, in chunk order
 abbrev index : List Entry
@@ -115,181 +117,10 @@ tableSamples =
 
 pub table-samples : All TableRowHolds tableSamples
 unfolding computed tableSamples tableOf buildOf turnOf checkOf listed rowsOf columnsOf flat flatColumns insertRow sorted halving agree searchOf
-table-samples = (
-  (refl, refl),
-  (
-    (refl, refl),
-    (
-      (refl, refl),
-      (
-        (refl, refl),
-        (
-          (refl, refl),
-          (
-            refl,
-            (
-              refl,
-              (
-                refl,
-                (
-                  refl,
-                  (
-                    refl,
-                    (
-                      refl,
-                      (
-                        refl,
-                        (
-                          refl,
-                          (
-                            refl,
-                            (
-                              refl,
-                              (
-                                refl,
-                                (
-                                  refl,
-                                  (
-                                    refl,
-                                    (
-                                      refl,
-                                      (
-                                        refl,
-                                        (
-                                          refl,
-                                          (
-                                            refl,
-                                            (
-                                              refl,
-                                              (
-                                                refl,
-                                                (
-                                                  refl,
-                                                  (
-                                                    refl,
-                                                    (
-                                                      refl,
-                                                      (
-                                                        refl,
-                                                        (
-                                                          refl,
-                                                          (
-                                                            refl,
-                                                            (
-                                                              (refl, refl),
-                                                              (
-                                                                (refl, refl),
-                                                                (
-                                                                  (
-                                                                    refl,
-                                                                    refl,
-                                                                  ),
-                                                                  (
-                                                                    refl,
-                                                                    (
-                                                                      refl,
-                                                                      (
-                                                                        refl,
-                                                                        (
-                                                                          refl,
-                                                                          (
-                                                                            (refl, refl),
-                                                                            (
-                                                                              (refl, refl),
-                                                                              (
-                                                                                (refl, refl),
-                                                                                (
-                                                                                  (refl, refl),
-                                                                                  (
-                                                                                    (refl, refl),
-                                                                                    (
-                                                                                      (refl, refl),
-                                                                                      (
-                                                                                        (refl, refl),
-                                                                                        (
-                                                                                          refl,
-                                                                                          (
-                                                                                            refl,
-                                                                                            (
-                                                                                              refl,
-                                                                                              (
-                                                                                                refl,
-                                                                                                (
-                                                                                                  refl,
-                                                                                                  (
-                                                                                                    refl,
-                                                                                                    (
-                                                                                                      refl,
-                                                                                                      (
-                                                                                                        refl,
-                                                                                                        (
-                                                                                                          refl,
-                                                                                                          (
-                                                                                                            refl,
-                                                                                                            (
-                                                                                                              refl,
-                                                                                                              (
-                                                                                                                refl,
-                                                                                                                (
-                                                                                                                  refl,
-                                                                                                                  (
-                                                                                                                    refl,
-                                                                                                                    tt,
-                                                                                                                  ),
-                                                                                                                ),
-                                                                                                              ),
-                                                                                                            ),
-                                                                                                          ),
-                                                                                                        ),
-                                                                                                      ),
-                                                                                                    ),
-                                                                                                  ),
-                                                                                                ),
-                                                                                              ),
-                                                                                            ),
-                                                                                          ),
-                                                                                        ),
-                                                                                      ),
-                                                                                    ),
-                                                                                  ),
-                                                                                ),
-                                                                              ),
-                                                                            ),
-                                                                          ),
-                                                                        ),
-                                                                      ),
-                                                                    ),
-                                                                  ),
-                                                                ),
-                                                              ),
-                                                            ),
-                                                          ),
-                                                        ),
-                                                      ),
-                                                    ),
-                                                  ),
-                                                ),
-                                              ),
-                                            ),
-                                          ),
-                                        ),
-                                      ),
-                                    ),
-                                  ),
-                                ),
-                              ),
-                            ),
-                          ),
-                        ),
-                      ),
-                    ),
-                  ),
-                ),
-              ),
-            ),
-          ),
-        ),
-      ),
-    ),
-  ),
-)
+table-samples =
+    parts TableRowHolds 8 tableSamples ((refl, refl), ((refl, refl), ((refl, refl), ((refl, refl), ((refl, refl), (refl, (refl, (refl, tt))))))))
+    (parts TableRowHolds 13 (drop 8 tableSamples) (refl, (refl, (refl, (refl, (refl, (refl, (refl, (refl, (refl, (refl, (refl, (refl, (refl, tt)))))))))))))
+    (parts TableRowHolds 11 (drop 21 tableSamples) (refl, (refl, (refl, (refl, (refl, (refl, (refl, (refl, (refl, ((refl, refl), ((refl, refl), tt)))))))))))
+    (parts TableRowHolds 8 (drop 32 tableSamples) ((refl, refl), (refl, (refl, (refl, (refl, ((refl, refl), ((refl, refl), ((refl, refl), tt))))))))
+    (parts TableRowHolds 9 (drop 40 tableSamples) ((refl, refl), ((refl, refl), ((refl, refl), ((refl, refl), (refl, (refl, (refl, (refl, (refl, tt)))))))))
+    (refl, (refl, (refl, (refl, (refl, (refl, (refl, (refl, (refl, tt)))))))))))))

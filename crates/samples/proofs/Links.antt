@@ -16,6 +16,7 @@ use Rattle.reader.specs.declared.Looked.the-variants.{Found}
 use Rattle.samples.specs.Files.{A, B, eel, sides, entry, text, kindOf, fronted}
 use Rattle.samples.specs.Rows.{Row, reads, asks, looks, edits, refuses, undoes, runs, RowHolds}
 use Rattle.samples.proofs.Table.{computed}
+use Rattle.samples.proofs.Parts.{parts}
 
 -- B with Pict 2 on its picture: 88 bytes, starts 60, 72 and 72
 abbrev twoPictures : List ℕ
@@ -113,4 +114,8 @@ table =
 pub samples : All RowHolds table
 unfolding computed table
 samples =
-    ((refl, refl, refl), (refl, (refl, ((refl, refl), ((refl, refl), ((refl, refl), ((refl, refl), (refl, (refl, ((refl, refl, refl), ((refl, refl), ((refl, refl, refl), ((refl, refl), (refl, (refl, (refl, (refl, (refl, (refl, (refl, (refl, (refl, (refl, (refl, (refl, (refl, (refl, ((refl, refl, refl), ((refl, refl), ((refl, refl), ((refl, refl), ((refl, refl), ((refl, refl), ((refl, refl), ((refl, refl), ((refl, refl), ((refl, refl), tt)))))))))))))))))))))))))))))))))))))
+    parts RowHolds 8 table ((refl, refl, refl), (refl, (refl, ((refl, refl), ((refl, refl), ((refl, refl), ((refl, refl), (refl, tt))))))))
+    (parts RowHolds 8 (drop 8 table) (refl, ((refl, refl, refl), ((refl, refl), ((refl, refl, refl), ((refl, refl), (refl, (refl, (refl, tt))))))))
+    (parts RowHolds 11 (drop 16 table) (refl, (refl, (refl, (refl, (refl, (refl, (refl, (refl, (refl, (refl, (refl, tt)))))))))))
+    (parts RowHolds 6 (drop 27 table) ((refl, refl, refl), ((refl, refl), ((refl, refl), ((refl, refl), ((refl, refl), ((refl, refl), tt))))))
+    ((refl, refl), ((refl, refl), ((refl, refl), ((refl, refl), tt)))))))

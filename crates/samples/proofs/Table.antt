@@ -12,27 +12,130 @@ use Rattle.edits.specs.Edit.{add, replace, remove, with-at, lower, raise, added
 use Rattle.edits.specs.Edit.{held, isWhole}
 use Rattle.edits.specs.Edit.{anyUpTo, linkPlace, linked}
 use Rattle.edits.specs.Blank.{blanked, blankFile}
-use Rattle.blorb.specs.Verdict.{accept, refuse, _then_, check, headFault, chunkFault, walkFault, secondIndex, indexFault, pairIn, lastPlace, refFault, entriesFault, restFault, layoutFault, verdict, reading}
+use Rattle.blorb.specs.Verdict.{
+  accept,
+  refuse,
+  _then_,
+  check,
+  headFault,
+  chunkFault,
+  walkFault,
+  secondIndex,
+  indexFault,
+  pairIn,
+  lastPlace,
+  refFault,
+  entriesFault,
+  restFault,
+  layoutFault,
+  verdict,
+  reading,
+}
 use Rattle.edits.specs.Run.{wholeFault}
-use Rattle.edits.specs.Run.{edit, undo, targetFault, editedFile, editRecord, undoneFile, editFault, undoFault, written, noted, afterEdit, afterUndo, after, fault, step, run, answers}
+use Rattle.edits.specs.Run.{
+  edit,
+  undo,
+  targetFault,
+  editedFile,
+  editRecord,
+  undoneFile,
+  editFault,
+  undoFault,
+  written,
+  noted,
+  afterEdit,
+  afterUndo,
+  after,
+  fault,
+  step,
+  run,
+  answers,
+}
 use Rattle.reader.specs.declared.Reading.the-variants.{Accepted, Refused}
 use Rattle.reader.specs.declared.Asked.the-variants.{Given, Refused as NotGiven}
 use Rattle.reader.specs.declared.Looked.the-variants.{Found, Refused as NotFound}
-use Rattle.samples.specs.Files.{blank, A, B, withoutEel, binary, eel, sides, addedEel, addedRect, removedEel, replacedEel, turned, twoNames, sameTwice, lowThenUnknown, kindOf, fronted}
+use Rattle.samples.specs.Files.{
+  blank,
+  A,
+  B,
+  withoutEel,
+  binary,
+  eel,
+  sides,
+  addedEel,
+  addedRect,
+  removedEel,
+  replacedEel,
+  turned,
+  twoNames,
+  sameTwice,
+  lowThenUnknown,
+  kindOf,
+  fronted,
+}
 use Rattle.samples.specs.Rows.{Row, reads, asks, looks, edits, undoes, blanks, runs, RowHolds}
-use Rattle.blorb.specs.Format.{sized, size, chunkBytes, chunksBytes, total, fileBytes, chunkIn, chunksIn, chunksOf, entryIn, entriesIn, entryBytes, entriesBytes, indexChunk, entriesOf, isStart, placeOf, refOf}
+use Rattle.blorb.specs.Format.{
+  sized,
+  size,
+  chunkBytes,
+  chunksBytes,
+  total,
+  fileBytes,
+  chunkIn,
+  chunksIn,
+  chunksOf,
+  entryIn,
+  entriesIn,
+  entryBytes,
+  entriesBytes,
+  indexChunk,
+  entriesOf,
+  isStart,
+  placeOf,
+  refOf,
+}
 use Rattle.blorb.specs.Rules.{oneOf, plainAllows, adriftAllows, allows, picture, typeIn, single, chunkRule, chunkRules, optional, profileVerdict}
 use Rattle.blorb.specs.Model.{base, startOf, entryOf, file, modelOf, model}
 use Rattle.blorb.specs.Queries.{without, find, uses, shared, start, frontPlace}
 use Rattle.blorb.specs.Usages.{usageOf}
 use Rattle.blorb.specs.Lookup.{leftOut}
-use Rattle.edits.specs.Journal.{recBody, recBytes, removal, recOf, trailer, recIn, lastBody, lastRec, zeros, wellFormed, fits1, fits2, fits3, fits4, fits5, fits, undo1, undo2, undo3, undo4, undo5, undone}
+use Rattle.edits.specs.Journal.{
+  recBody,
+  recBytes,
+  removal,
+  recOf,
+  trailer,
+  recIn,
+  lastBody,
+  lastRec,
+  zeros,
+  wellFormed,
+  fits1,
+  fits2,
+  fits3,
+  fits4,
+  fits5,
+  fits,
+  undo1,
+  undo2,
+  undo3,
+  undo4,
+  undo5,
+  undone,
+}
 use Rattle.reader.specs.Reading.{indexOf, readOf, askedOf, lookupOf}
 use Rattle.index.specs.Hits.{hitIn}
+use Rattle.samples.proofs.Parts.{parts}
 
 -- opens every definition that a row computes with: a definition opens what its own line names
 unfoldable pub computed : ℕ
-unfolding be32 rd32 sized size chunkBytes chunksBytes total fileBytes chunkIn chunksIn chunksOf entryIn entriesIn entryBytes entriesBytes indexChunk entriesOf isStart placeOf refOf _then_ check headFault chunkFault walkFault secondIndex indexFault pairIn lastPlace refFault entriesFault restFault layoutFault verdict reading oneOf plainAllows adriftAllows allows picture typeIn single chunkRule chunkRules optional profileVerdict base startOf entryOf file modelOf model without find uses shared start frontPlace usageOf with-at lower raise entered inserted anyUpTo linkPlace linked added replaced removedBoth removedEntry removed held edited recBody recBytes removal recOf trailer recIn lastBody lastRec zeros wellFormed fits1 fits2 fits3 fits4 fits5 fits undo1 undo2 undo3 undo4 undo5 undone leftOut isWhole wholeFault targetFault editedFile editRecord undoneFile editFault undoFault indexOf readOf askedOf hitIn lookupOf written noted afterEdit afterUndo after fault step run answers blanked blankFile
+unfolding be32 rd32 sized size chunkBytes chunksBytes total fileBytes chunkIn chunksIn chunksOf entryIn entriesIn entryBytes entriesBytes indexChunk
+    entriesOf isStart placeOf refOf _then_ check headFault chunkFault walkFault secondIndex indexFault pairIn lastPlace refFault entriesFault restFault
+    layoutFault verdict reading oneOf plainAllows adriftAllows allows picture typeIn single chunkRule chunkRules optional profileVerdict base startOf entryOf
+    file modelOf model without find uses shared start frontPlace usageOf with-at lower raise entered inserted anyUpTo linkPlace linked added replaced
+    removedBoth removedEntry removed held edited recBody recBytes removal recOf trailer recIn lastBody lastRec zeros wellFormed fits1 fits2 fits3 fits4 fits5
+    fits undo1 undo2 undo3 undo4 undo5 undone leftOut isWhole wholeFault targetFault editedFile editRecord undoneFile editFault undoFault indexOf readOf
+    askedOf hitIn lookupOf written noted afterEdit afterUndo after fault step run answers blanked blankFile
 computed = 0
 
 -- the record of the replacement of Snd 7, whose type was t and whose data "eel", in kindOf Snd t
@@ -109,7 +212,8 @@ table =
     -- the bytes behind both ends
     runs 0 (record { buffer = blank ++ replicate 26 9; L = 24; journal = replicate 60 7; U = 0 })
     (edit (add Data 7 TEXT eel) ∷ (edit (add Pict 1 Rect sides) ∷ (undo ∷ (undo ∷ []))))
-    (record { result = accept; L = 48; U = 29 } ∷ (record { result = refuse 24 0; L = 48; U = 29 } ∷ (record { result = accept; L = 24; U = 0 } ∷ (record { result = refuse 26 0; L = 24; U = 0 } ∷ []))))
+    (record { result = accept; L = 48; U = 29 } ∷ (record { result = refuse 24 0; L = 48; U = 29 } ∷ (record { result = accept; L = 24; U = 0 } ∷
+    (record { result = refuse 26 0; L = 24; U = 0 } ∷ []))))
     (record { buffer = blank ++ (replicate 24 0 ++ (9 ∷ (9 ∷ []))); L = 24; journal = addedEel ++ replicate 31 7; U = 0 }) ∷ (
     -- 02, P5: B with its two entries turned; two entries on one start; 16 and 27 in one entry; entry 1 with 27 and entry 2 with 12
     reads 0 turned (Refused 27 44) ∷ (
@@ -165,9 +269,18 @@ table =
     -- an 'OGGV' in the place of a 'WAV ': the undo would bring the 'WAV ' back
     undoes 1 (kindOf Snd OGGV) (recordOf WAV) (kindOf Snd WAV) ∷ (
     runs 0 (record { buffer = kindOf Snd OGGV; L = 48; journal = recordOf WAV; U = 32 }) (undo ∷ []) (record { result = refuse 21 0; L = 48; U = 32 } ∷ [])
-    (record { buffer = kindOf Snd OGGV; L = 48; journal = recordOf WAV; U = 32 }) ∷ [])))))))))))))))))))))))))))))))))))))))))))))))))))))))))))))))))))))))))))))
+    (record { buffer = kindOf Snd OGGV; L = 48; journal = recordOf WAV; U = 32 }) ∷
+    [])))))))))))))))))))))))))))))))))))))))))))))))))))))))))))))))))))))))))))))
 
 pub samples : All RowHolds table
 unfolding computed table
 samples =
-    ((refl, refl, refl), (refl, ((refl, refl, refl), (refl, (refl, (refl, ((refl, refl), ((refl, refl, refl), (refl, (refl, ((refl, refl), ((refl, refl, refl), (refl, (refl, ((refl, refl), (refl, (refl, (refl, (refl, (refl, (refl, ((refl, refl), ((refl, refl), (refl, (refl, (refl, (refl, (refl, (refl, (refl, (refl, (refl, (refl, (refl, (refl, ((refl, refl), ((refl, refl), ((refl, refl), (refl, (refl, ((refl, refl), (refl, (refl, (refl, (refl, ((refl, refl), (refl, (refl, (refl, ((refl, refl), ((refl, refl), (refl, (refl, (refl, (refl, (refl, (refl, (refl, (refl, (refl, (refl, ((refl, refl), (refl, (refl, (refl, (refl, (refl, (refl, ((refl, refl), ((refl, refl), ((refl, refl), ((refl, refl, refl), ((refl, refl), ((refl, refl, refl), ((refl, refl), ((refl, refl), ((refl, refl), ((refl, refl), tt))))))))))))))))))))))))))))))))))))))))))))))))))))))))))))))))))))))))))))))
+    parts RowHolds 7 table ((refl, refl, refl), (refl, ((refl, refl, refl), (refl, (refl, (refl, ((refl, refl), tt)))))))
+    (parts RowHolds 8 (drop 7 table) ((refl, refl, refl), (refl, (refl, ((refl, refl), ((refl, refl, refl), (refl, (refl, ((refl, refl), tt))))))))
+    (parts RowHolds 11 (drop 15 table) (refl, (refl, (refl, (refl, (refl, (refl, ((refl, refl), ((refl, refl), (refl, (refl, (refl, tt)))))))))))
+    (parts RowHolds 11 (drop 26 table) (refl, (refl, (refl, (refl, (refl, (refl, (refl, (refl, (refl, ((refl, refl), ((refl, refl), tt)))))))))))
+    (parts RowHolds 10 (drop 37 table) ((refl, refl), (refl, (refl, ((refl, refl), (refl, (refl, (refl, (refl, ((refl, refl), (refl, tt))))))))))
+    (parts RowHolds 11 (drop 47 table) (refl, (refl, ((refl, refl), ((refl, refl), (refl, (refl, (refl, (refl, (refl, (refl, (refl, tt)))))))))))
+    (parts RowHolds 11 (drop 58 table) (refl, (refl, (refl, ((refl, refl), (refl, (refl, (refl, (refl, (refl, (refl, ((refl, refl), tt)))))))))))
+    (parts RowHolds 6 (drop 69 table) ((refl, refl), ((refl, refl), ((refl, refl, refl), ((refl, refl), ((refl, refl, refl), ((refl, refl), tt))))))
+    ((refl, refl), ((refl, refl), ((refl, refl), tt))))))))))

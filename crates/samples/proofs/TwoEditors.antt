@@ -11,7 +11,7 @@ use Rattle.blorb.specs.Verdict.{accept, refuse}
 use Rattle.edits.specs.Edit.{add, replace, remove, link}
 use Rattle.edits.specs.Run.{State, Call, edit, undo, ledgerFile, ledgerUsed, ledgerFault, ledgerAfter, ledgerStep, ledgerRun}
 use Rattle.blorb.specs.Rules.{rulesOf}
-use Rattle.edits.specs.TwoEditors.{BothOrders, padded, grows, falls, grown, fallen}
+use Rattle.edits.specs.TwoEditors.{BothOrders, padded, grows, falls, grown, shrunk}
 use Rattle.samples.specs.Files.{blank, A, B, withoutEel, binary, eel, sides, addedEel, addedRect, removedEel, replacedEel, twoNames, entry, text, aiff}
 use Rattle.samples.specs.Rows.{Row, runs, measures, RowHolds}
 use Rattle.samples.proofs.Table.{computed}
@@ -128,7 +128,7 @@ table =
     ∷ [])))))))))))))
 
 pub samples : All RowHolds table
-unfolding computed table padded grows falls grown fallen ledgerFile ledgerUsed ledgerFault ledgerAfter ledgerStep ledgerRun
+unfolding computed table padded grows falls grown shrunk ledgerFile ledgerUsed ledgerFault ledgerAfter ledgerStep ledgerRun
 samples = (
   (refl, refl),
   (

@@ -1,15 +1,15 @@
 -- What a row of the sample table says. Each row but that of a blank file names the profile first (02, P12).
 use mathlib.Core.Path.{_≡_}
-use Prim.Native.Nat.{ℕ}
-use mathlib.Core.List.{List}
-use lib.ListN.{length}
+use Prim.Native.Nat.{ℕ, _-_}
+use mathlib.Core.List.{List, [], _++_}
+use lib.ListN.{length, replicate}
 use Rattle.blorb.specs.Verdict.{accept, refuse}
 use Rattle.blorb.specs.Rules.{rulesOf}
 use Rattle.edits.specs.Edit.{Edit}
 use Rattle.edits.specs.Blank.{blanked}
-use Rattle.edits.specs.Run.{State, Call, Answer, editFault, undoFault, editedFile, editRecord, undoneFile, answers, run}
+use Rattle.edits.specs.Run.{State, state, fileIn, Call, edit, undo, Answer, fault, editedFile, editRecord, undoneFile, answers, run}
 use Rattle.edits.specs.Demand3.{listAfter}
-use Rattle.edits.specs.TwoEditors.{fileIn, grown, fallen}
+use Rattle.edits.specs.TwoEditors.{grown, shrunk}
 use Rattle.reader.specs.declared.Reading.{Reading}
 use Rattle.reader.specs.declared.Asked.{Asked}
 use Rattle.reader.specs.declared.Looked.{Looked}
@@ -35,14 +35,18 @@ pub data Row : Type 0 where
   -- a state, the calls of a run, the edits not taken back (the last one first), what these added to the file's length and took from it, and L after it
   measures : (profile : ℕ) → State → List Call → List Edit → (more less : ℕ) → ℕ → Row
 
+-- a file and a journal's used bytes, each at the front of a buffer of 100 bytes
+abbrev pub lent : List ℕ → List ℕ → State
+lent f j = state (f ++ replicate (100 - length f) 0) (length f) (j ++ replicate (100 - length j) 0) (length j)
+
 abbrev pub RowHolds : Row → Type 0
 RowHolds (reads p f r) = readOf p f ≡ r
 RowHolds (asks p f i a) = askedOf p f i ≡ a
 RowHolds (looks p f u n a d) = (lookupOf p f u n ≡ a) × (partOf a f ≡ d)
-RowHolds (edits p f e g r) = (editFault (rulesOf p) 100 100 f (length f) 0 e ≡ accept) × (editedFile f e ≡ g) × (editRecord f e ≡ r)
-RowHolds (refuses p f e k q) = editFault (rulesOf p) 100 100 f (length f) 0 e ≡ refuse k q
-RowHolds (undoes p f j g) = (undoFault (rulesOf p) 100 100 f (length f) (length j) j ≡ accept) × (undoneFile f j ≡ g)
+RowHolds (edits p f e g r) = (fault (rulesOf p) (lent f []) (edit e) ≡ accept) × (editedFile f e ≡ g) × (editRecord f e ≡ r)
+RowHolds (refuses p f e k q) = fault (rulesOf p) (lent f []) (edit e) ≡ refuse k q
+RowHolds (undoes p f j g) = (fault (rulesOf p) (lent f j) undo ≡ accept) × (undoneFile f j ≡ g)
 RowHolds (blanks b c) = blanked b ≡ c
 RowHolds (runs p s cs ans t) = (answers (rulesOf p) s cs ≡ ans) × (run (rulesOf p) s cs ≡ t)
 RowHolds (measures p s cs es more less l) =
-    (listAfter (rulesOf p) s cs ≡ es) × (grown (fileIn s) es ≡ more) × (fallen (fileIn s) es ≡ less) × (run (rulesOf p) s cs .L ≡ l)
+    (listAfter (rulesOf p) s cs ≡ es) × (grown (fileIn s) es ≡ more) × (shrunk (fileIn s) es ≡ less) × (run (rulesOf p) s cs .L ≡ l)

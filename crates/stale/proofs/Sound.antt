@@ -34,7 +34,8 @@ module _ (profile : ℕ) (r : Rec) (m : Model) (s : Sound m) (ok : modelFault (r
   pub sound3 : r .usage < W → r .number < W → r .type < W → Sound (undo3 r m)
   unfolding undo3
   sound3 hu hn ht =
-      inserted-sound profile m (r .place) (oldPlace r m) (r .usage) (r .number) (oldChunk r) s ok (place-inside (r .start - 12) (base (length (m .refs))) (m .chunks))
+      inserted-sound profile m (r .place) (oldPlace r m) (r .usage) (r .number) (oldChunk r) s ok
+      (place-inside (r .start - 12) (base (length (m .refs))) (m .chunks))
       hu hn ht
 
   pub sound4 : r .usage < W → r .number < W → fits4 r m ≡ true → Sound (undo4 r m)

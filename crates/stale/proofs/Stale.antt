@@ -11,7 +11,7 @@ use borrow.Author.Tests.{eqb-true}
 use Rattle.blorb.specs.Bytes.{Byte}
 use Rattle.blorb.specs.All.{All}
 use Rattle.blorb.specs.Format.{Entry, Ref, Chunk, size}
-use Rattle.blorb.specs.Verdict.{Verdict, accept, refuse, verdict}
+use Rattle.blorb.specs.Verdict.{Verdict, accept, refuse, verdict, accepted}
 use Rattle.blorb.specs.Rules.{rulesOf, profileVerdict}
 use Rattle.blorb.specs.Model.{Model, file, model}
 use Rattle.blorb.specs.Queries.{find, refAt, chunkAt, shared, start, noRef}
@@ -28,9 +28,45 @@ use Rattle.table.specs.Answers.{tableOf, agree, checkOf}
 use Rattle.table.specs.TableOf.{SameEntries}
 use Rattle.table.specs.declared.Checked.the-variants as checked
 use Rattle.table.proofs.Promises.{pairs-once, same-accepted, accepted-same, stale-refused}
-use Rattle.edits.specs.Edit.{Edit, add, replace, remove, link, givenChunk, added, replaced, removed, removedEntry, removedBoth, edited, raise, entered, inserted, linkPlace, linked}
-use Rattle.edits.specs.Journal.{Rec, lastRec, oldChunk, oldPlace, fits, undone, undo1, undo2, undo3, undo4, undo5, fits1, fits2, fits3, fits4, fits5, wellFormed}
-use Rattle.edits.specs.Run.{State, Call, edit, undo, ArgsOk, CallOk, accepted, editedFile, undoneFile, editFault, undoFault, fault, step}
+use Rattle.edits.specs.Edit.{
+  Edit,
+  add,
+  replace,
+  remove,
+  link,
+  givenChunk,
+  added,
+  replaced,
+  removed,
+  removedEntry,
+  removedBoth,
+  edited,
+  raise,
+  entered,
+  inserted,
+  linkPlace,
+  linked,
+}
+use Rattle.edits.specs.Journal.{
+  Rec,
+  lastRec,
+  oldChunk,
+  oldPlace,
+  fits,
+  undone,
+  undo1,
+  undo2,
+  undo3,
+  undo4,
+  undo5,
+  fits1,
+  fits2,
+  fits3,
+  fits4,
+  fits5,
+  wellFormed,
+}
+use Rattle.edits.specs.Run.{State, fileIn, Call, edit, undo, ArgsOk, CallOk, editedFile, undoneFile, editFault, undoFault, fault, step}
 use Rattle.edits.specs.Run.{after, afterEdit, afterUndo}
 use Rattle.edits.specs.Starts.{moved, behind}
 use Rattle.edits.proofs.Starts.{starts-replaced}
@@ -41,7 +77,7 @@ use Rattle.edits.proofs.RunLaws.{Good, made, take-written, target-applies}
 use Rattle.edits.proofs.Applies.{Applies}
 use Rattle.edits.proofs.UndoJudged.{AcceptedFile, accepted-facts, fits1-facts, fits2-facts, fits5-facts}
 use Rattle.edits.proofs.UndoTold.{last-small}
-use Rattle.stale.specs.Leaves.{MovesNone, EditLeaves, UndoLeaves, fileIn, Leaves, Caught}
+use Rattle.stale.specs.Leaves.{MovesNone, EditLeaves, UndoLeaves, Leaves, Caught}
 use Rattle.stale.proofs.Entries.{same-count, unmoved-same, same-unmoved}
 use Rattle.stale.proofs.Sound.{sound1, sound2, sound3, sound4, sound5}
 
@@ -52,9 +88,11 @@ pub record Exactly (P : Type 0) (f g : List ℕ) : Type 0 where
 
 -- ---- an accepted file f, and an accepted file made of a sound model
 
-module _ (profile : ℕ) (f : List ℕ) (fine : profileVerdict profile f ≡ accept) (new : Model) (s : Sound new) (fine2 : profileVerdict profile (file new) ≡ accept) where
+module _ (profile : ℕ) (f : List ℕ) (fine : profileVerdict profile f ≡ accept) (new : Model) (s : Sound new)
+    (fine2 : profileVerdict profile (file new) ≡ accept) where
   index-new : indexOf (file new) ≡ entries new
-  index-new = index-is profile (file new) fine2 ∙ ap entries (model-file new s (omega (arith, accept-short (rulesOf profile) (file new) (profile-accept profile (file new) fine2 .1))))
+  index-new = index-is profile (file new) fine2
+      ∙ ap entries (model-file new s (omega (arith, accept-short (rulesOf profile) (file new) (profile-accept profile (file new) fine2 .1))))
 
   -- another number of entries
   pub other-count : (length (new .refs) ≡ length (model f .refs) → ⊥) → Exactly ⊥ f (file new)
@@ -69,7 +107,8 @@ module _ (profile : ℕ) (f : List ℕ) (fine : profileVerdict profile f ≡ acc
       }
 
 -- chunk k replaced
-module _ (profile : ℕ) (f : List ℕ) (fine : profileVerdict profile f ≡ accept) (k : ℕ) (c : Chunk) (l : k < length (model f .chunks)) (s : Sound (replaced (model f) k c))
+module _ (profile : ℕ) (f : List ℕ) (fine : profileVerdict profile f ≡ accept) (k : ℕ) (c : Chunk) (l : k < length (model f .chunks))
+    (s : Sound (replaced (model f) k c))
     (fine2 : profileVerdict profile (file (replaced (model f) k c)) ≡ accept) where
   index-moved : indexOf (file (replaced (model f) k c)) ≡ map (moved (behind (start (model f) k) (size (chunkAt (model f) k)) (size c))) (indexOf f)
   index-moved = index-new profile f fine (replaced (model f) k c) s fine2 ∙ starts-replaced (model f) k c l ∙ rw (index-is profile f fine)
@@ -78,7 +117,8 @@ module _ (profile : ℕ) (f : List ℕ) (fine : profileVerdict profile f ≡ acc
   replaced-exactly =
       record {
         same-if = λ h. rw index-moved (unmoved-same (indexOf f) (start (model f) k) (size (chunkAt (model f) k)) (size c) h);
-        only-if = λ same. same-unmoved (indexOf f) (start (model f) k) (size (chunkAt (model f) k)) (size c) (pairs-once profile f fine) (rw index-moved at same);
+        only-if = λ same. same-unmoved (indexOf f) (start (model f) k) (size (chunkAt (model f) k)) (size c) (pairs-once profile f fine)
+            (rw index-moved at same);
       }
 
 -- ---- an edit
@@ -102,7 +142,8 @@ module _ (profile : ℕ) (f : List ℕ) (bytes : All Byte f) (fine : profileVerd
   unfolding linked entered
   linked-more k u n e = omega (arith, length-with (linkPlace k (model f .refs)) (record { usage = u; number = n; chunk = k }) (model f .refs))
 
-  pub edit-exactly : (e : Edit) → ArgsOk e → Applies (model f) e → profileVerdict profile (editedFile f e) ≡ accept → Exactly (EditLeaves f e) f (editedFile f e)
+  pub edit-exactly : (e : Edit) → ArgsOk e → Applies (model f) e → profileVerdict profile (editedFile f e) ≡ accept → Exactly (EditLeaves f e) f
+      (editedFile f e)
   unfolding editedFile edited added
   edit-exactly (add u n t d) a p fine2 =
       other-count profile f fine (edited (model f) (add u n t d)) (edit-sound (model f) (add u n t d) (facts .sound) a p) fine2
@@ -128,7 +169,8 @@ module _ (profile : ℕ) (f : List ℕ) (bytes : All Byte f) (fine : profileVerd
         let w : length (take (length (model f .refs) - 1) (model f .refs)) ≡ length (model f .refs) - 1 = simp length-take (omega arith) in
         omega arith
 
-    pub undo-exactly : fits r (model f) ≡ true → profileVerdict profile (file (undone r (model f))) ≡ accept → Exactly (UndoLeaves f r) f (file (undone r (model f)))
+    pub undo-exactly : fits r (model f) ≡ true → profileVerdict profile (file (undone r (model f))) ≡ accept → Exactly (UndoLeaves f r) f
+        (file (undone r (model f)))
     unfolding fits undone undo1 undo2 undo3 undo4 undo5 inserted entered removedEntry
     undo-exactly = go (eqb (r .kind) 1) (eqb (r .kind) 2) (eqb (r .kind) 3) (eqb (r .kind) 4)
       where
@@ -145,7 +187,8 @@ module _ (profile : ℕ) (f : List ℕ) (bytes : All Byte f) (fine : profileVerd
         go true b c d fit fine2 = other-count profile f fine (undo1 m) (sound1 profile r m (facts .sound) (facts .judged) fit) fine2 (λ e. take-less e fit)
         go false true c d fit fine2 =
             let p = fits2-facts r m fit in
-            replaced-exactly profile f fine (refAt m (r .place) .chunk) (oldChunk r) (chunk-in (r .place) (p .inside)) (sound2 profile r m (facts .sound) (facts .judged)
+            replaced-exactly profile f fine (refAt m (r .place) .chunk) (oldChunk r) (chunk-in (r .place) (p .inside)) (sound2 profile r m (facts .sound)
+            (facts .judged)
             ht) fine2
         go false false true d fit fine2 =
             other-count profile f fine (undo3 r m) (sound3 profile r m (facts .sound) (facts .judged) hu hn ht) fine2
@@ -159,7 +202,8 @@ module _ (profile : ℕ) (f : List ℕ) (bytes : All Byte f) (fine : profileVerd
 
 -- ---- a call on the lent buffers
 
-caught : (profile : ℕ) (P : Type 0) (f g t : List ℕ) → profileVerdict profile g ≡ accept → checkOf profile f (rowsOf t) (length t) ≡ checked.Accepted → Exactly P f g → Caught profile P f g t
+caught : (profile : ℕ) (P : Type 0) (f g t : List ℕ) → profileVerdict profile g ≡ accept → checkOf profile f (rowsOf t) (length t) ≡ checked.Accepted
+    → Exactly P f g → Caught profile P f g t
 caught profile P f g t fine good x =
     record {
       stays-good = λ p. same-accepted profile f g t fine good (x .same-if p);
@@ -172,18 +216,21 @@ accepted-is accept h = refl
 accepted-is (refuse k p) h = cc
 
 -- a successful call under a profile: an add, a replacement, a removal, a link or an undo, in any state of the buffers
-pub call-caught : (profile : ℕ) (s : State) (c : Call) (t : List ℕ) → All Byte (s .buffer) → All Byte (s .journal) → CallOk c → fault (rulesOf profile) s c ≡ accept
+pub call-caught : (profile : ℕ) (s : State) (c : Call) (t : List ℕ) → All Byte (s .buffer) → All Byte (s .journal) → CallOk c
+    → fault (rulesOf profile) s c ≡ accept
     → checkOf profile (fileIn s) (rowsOf t) (length t) ≡ checked.Accepted → Caught profile (Leaves s c) (fileIn s) (fileIn (step (rulesOf profile) s c)) t
 unfolding step after afterEdit afterUndo fault editFault undoFault undoneFile
 call-caught profile s (edit e) t bytes bytesj args h good =
     let f : List ℕ = fileIn s in
     let h0 = then-accept _ _ h in
-    let read : (g : List ℕ) → verdict (rulesOf profile) g ≡ accept → profileVerdict profile g ≡ accept = λ g v. profile-known profile g (check-accept _ _ _ (h0 .0)) ∙ v in
+    let read : (g : List ℕ) → verdict (rulesOf profile) g ≡ accept → profileVerdict profile g ≡ accept = λ g v. profile-known profile g
+    (check-accept _ _ _ (h0 .0)) ∙ v in
     let h2 = then-accept _ _ (then-accept _ _ (h0 .1) .1) in
     let h3 = then-accept _ _ (h2 .1) in
     let x = accepted-facts profile f (all-take Byte (s .L) (s .buffer) bytes) (h2 .0) in
     let old : Good (rulesOf profile) f = record { fine = h2 .0; whole = x .whole; sound = x .sound; short = accept-short (rulesOf profile) f (h2 .0) } in
-    let fine2 : verdict (rulesOf profile) (editedFile f e) ≡ accept = made (rulesOf profile) (length (s .buffer)) (length (s .journal)) f (s .L) (s .U) e old args
+    let fine2 : verdict (rulesOf profile) (editedFile f e) ≡ accept = made (rulesOf profile) (length (s .buffer)) (length (s .journal)) f (s .L)
+    (s .U) e old args
     (h0 .1) .good .fine in
     let q : fileIn (step (rulesOf profile) s (edit e)) ≡ editedFile f e = rw h (take-written (s .buffer) (s .L) (editedFile f e)) in
     rw q (caught profile (EditLeaves f e) f (editedFile f e) t (read _ fine2) good
@@ -192,7 +239,8 @@ call-caught profile s undo t bytes bytesj args h good =
     let f : List ℕ = fileIn s in
     let j : List ℕ = take (s .U) (s .journal) in
     let h0 = then-accept _ _ h in
-    let read : (g : List ℕ) → verdict (rulesOf profile) g ≡ accept → profileVerdict profile g ≡ accept = λ g v. profile-known profile g (check-accept _ _ _ (h0 .0)) ∙ v in
+    let read : (g : List ℕ) → verdict (rulesOf profile) g ≡ accept → profileVerdict profile g ≡ accept = λ g v. profile-known profile g
+    (check-accept _ _ _ (h0 .0)) ∙ v in
     let h2 = then-accept _ _ (then-accept _ _ (h0 .1) .1) in
     let h4 = then-accept _ _ (then-accept _ _ (h2 .1) .1) in
     let p = and-both (wellFormed j && fits (lastRec j) (model f)) (accepted (verdict (rulesOf profile) (undoneFile f j))) (check-accept _ _ _ (h4 .0)) in
@@ -206,7 +254,8 @@ call-caught profile s undo t bytes bytesj args h good =
 -- ---- the calls by themselves
 
 -- t is a good table of the file in the state, and the call succeeds
-module _ (profile : ℕ) (s : State) (t : List ℕ) (bytes : All Byte (s .buffer)) (bytesj : All Byte (s .journal)) (good : checkOf profile (fileIn s) (rowsOf t) (length t) ≡
+module _ (profile : ℕ) (s : State) (t : List ℕ) (bytes : All Byte (s .buffer)) (bytesj : All Byte (s .journal)) (good : checkOf profile (fileIn s)
+    (rowsOf t) (length t) ≡
     checked.Accepted) where
   -- every add makes it stale
   pub add-stale : (u n k : ℕ) (d : List ℕ) → ArgsOk (add u n k d) → fault (rulesOf profile) s (edit (add u n k d)) ≡ accept
@@ -227,6 +276,7 @@ module _ (profile : ℕ) (s : State) (t : List ℕ) (bytes : All Byte (s .buffer
   link-stale v o u n a h = call-caught profile s (edit (link v o u n)) t bytes bytesj a h good .else-35 (λ x. x)
 
   -- a refused call leaves it good: "A refused call changes nothing."
-  pub refused-good : (c : Call) (k p : ℕ) → fault (rulesOf profile) s c ≡ refuse k p → checkOf profile (fileIn (step (rulesOf profile) s c)) (rowsOf t) (length t) ≡ checked.Accepted
+  pub refused-good : (c : Call) (k p : ℕ) → fault (rulesOf profile) s c ≡ refuse k p → checkOf profile (fileIn (step (rulesOf profile) s c)) (rowsOf t)
+      (length t) ≡ checked.Accepted
   unfolding step
   refused-good c k p h = rw h good

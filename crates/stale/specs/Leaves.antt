@@ -14,7 +14,7 @@ use Rattle.table.specs.Answers.{tableOf, agree, checkOf}
 use Rattle.table.specs.declared.Checked.the-variants as checked
 use Rattle.edits.specs.Edit.{Edit, add, replace, remove, link, givenChunk}
 use Rattle.edits.specs.Journal.{Rec, lastRec, oldChunk, byKind}
-use Rattle.edits.specs.Run.{State, Call, edit, undo}
+use Rattle.edits.specs.Run.{State, fileIn, Call, edit, undo}
 
 -- with c in the place of chunk k no start moves: c is as large, if an entry starts behind it
 abbrev pub MovesNone : List ℕ → ℕ → Chunk → Type 0
@@ -31,16 +31,13 @@ EditLeaves f (link v o u n) = ⊥
 abbrev pub UndoLeaves : List ℕ → Rec → Type 0
 UndoLeaves f r = byKind (r .kind) ⊥ (MovesNone f (refAt (model f) (r .place) .chunk) (oldChunk r)) ⊥ ⊥ ⊥
 
--- the file in a state's buffer
-abbrev pub fileIn : State → List ℕ
-fileIn s = take (s .L) (s .buffer)
-
 -- a call in a state, if it succeeds
 abbrev pub Leaves : State → Call → Type 0
 Leaves s (edit e) = EditLeaves (fileIn s) e
 Leaves s undo = UndoLeaves (fileIn s) (lastRec (take (s .U) (s .journal)))
 
--- what becomes under a profile of the table t of the file f when f becomes g: it is good exactly if P, else refused with 35 at the first row in which the two files'
+-- what becomes under a profile of the table t of the file f when f becomes g: it is good exactly if P, else refused with 35 at the first row in which the two
+-- files'
 -- tables differ, or the smaller row count where one is the other's beginning
 pub record Caught (profile : ℕ) (P : Type 0) (f g t : List ℕ) : Type 0 where
   pub stays-good : P → checkOf profile g (rowsOf t) (length t) ≡ checked.Accepted

@@ -81,7 +81,8 @@ module _ (f t : List ℕ) (count rows step gap i : ℕ) (once : NoTwice (entries
       = rw (length-listed (rowIn t step gap) rows, length-sorted f count) (q ∙ m) in
       sym q ∙ agree-all (rowsBy t rows step gap) (sorted (entriesIn count (drop 24 f))) i p a
 
-pub check-refused : (profile : ℕ) (f : List ℕ) (k p : ℕ) (rows : List Entry) (size : ℕ) → readOf profile f ≡ Refused k p → checked.Refused k p ≡ checkOf profile f rows size
+pub check-refused : (profile : ℕ) (f : List ℕ) (k p : ℕ) (rows : List Entry) (size : ℕ) → readOf profile f ≡ Refused k p → checked.Refused k p ≡ checkOf
+    profile f rows size
 unfolding checkOf
 check-refused profile f k p rows size e = rw e
 
@@ -106,7 +107,8 @@ module _ (profile : ℕ) (f : List ℕ) (l count : ℕ) (e : readOf profile f �
       → checked.Refused 35 p ≡ checkOf profile f rows size
   check-no rows size p w y = rw y at (check-last rows size p w)
 
-  pub check-quick : (rows : List Entry) (size : ℕ) → size ≡ 3 * count → rows ≡ sorted (entriesIn count (drop 24 f)) → checked.Accepted ≡ checkOf profile f rows size
+  pub check-quick : (rows : List Entry) (size : ℕ) → size ≡ 3 * count → rows ≡ sorted (entriesIn count (drop 24 f)) → checked.Accepted ≡ checkOf
+      profile f rows size
   check-quick rows size s w =
       let a : agree rows (sorted (entriesIn count (drop 24 f))) ≡ count = rw w (agree-self (sorted (entriesIn count (drop 24 f))) ∙ length-sorted f count) in
       check-yes rows size (agree rows (sorted (entriesIn count (drop 24 f)))) refl (rw (a, eq-eqb size (3 * count) s, eq-eqb count count refl))

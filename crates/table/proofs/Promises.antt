@@ -63,7 +63,8 @@ yes : (b : Bool) (p : ℕ) → acceptIf b p ≡ checked.Accepted → b ≡ true
 yes true p h = refl
 yes false p h = let z : _≡_ {A = ℕ} 0 1 = cc in absurd (omega arith)
 
-accepted-by : (profile : ℕ) (r : Reading) (f : List ℕ) (rows : List Entry) (size : ℕ) → readOf profile f ≡ r → checkBy r rows size (tableOf f) ≡ checked.Accepted
+accepted-by : (profile : ℕ) (r : Reading) (f : List ℕ) (rows : List Entry) (size : ℕ) → readOf profile f ≡ r
+    → checkBy r rows size (tableOf f) ≡ checked.Accepted
     → (l : ℕ) × (n : ℕ) × (readOf profile f ≡ Accepted l n) × (eqb size (3 * length (tableOf f)) && eqb (agree rows (tableOf f)) (length (tableOf f)) ≡ true)
 accepted-by profile (Accepted l n) f rows size e h = (l, n, e, yes _ _ h)
 accepted-by profile (Refused k p) f rows size e h = let z : _≡_ {A = ℕ} 0 1 = cc in absurd (omega arith)
@@ -106,10 +107,12 @@ module _ (profile : ℕ) (f : List ℕ) (rows : List Entry) (size : ℕ) (hl : l
 
 -- in P2's form: every number of it is the built table's
 pub accepted-numbers : (profile : ℕ) (f t : List ℕ) → checkOf profile f (rowsOf t) (length t) ≡ checked.Accepted → t ≡ flat (tableOf f)
-accepted-numbers profile f t h = let a = accepted-rows profile f (rowsOf t) (length t) (length-rowsOf t) h in sym (flat-rowsOf t (length (rowsOf t)) (a .2)) ∙ ap flat (a .1)
+accepted-numbers profile f t h = let a = accepted-rows profile f (rowsOf t) (length t) (length-rowsOf t) h in sym (flat-rowsOf t (length (rowsOf t)) (a .2))
+    ∙ ap flat (a .1)
 
 -- what is built is accepted: the part of the slice that the rows take
-built-by : (profile : ℕ) (r : Reading) (f : List ℕ) (size n : ℕ) → readOf profile f ≡ r → buildBy r size ≡ built.Rows n → (l : ℕ) × (readOf profile f ≡ Accepted l n)
+built-by : (profile : ℕ) (r : Reading) (f : List ℕ) (size n : ℕ) → readOf profile f ≡ r → buildBy r size ≡ built.Rows n
+    → (l : ℕ) × (readOf profile f ≡ Accepted l n)
 built-by profile (Accepted l m) f size n e h = go (leb (3 * m) size) h
   where
     go : (b : Bool) → roomFor b m ≡ built.Rows n → (k : ℕ) × (readOf profile f ≡ Accepted k n)
@@ -224,7 +227,8 @@ pub accepted-search : (profile : ℕ) (f : List ℕ) (rows : List Entry) (size u
     → searchOf rows u n .found ≡ startFrom (lookupOf profile f u n)
 accepted-search profile f rows size u n hl h = let a = accepted-rows profile f rows size hl h in rw (a .1) (search-table profile f u n (a .0))
 
-pub table-search : (profile : ℕ) (f t : List ℕ) (u n : ℕ) → checkOf profile f (rowsOf t) (length t) ≡ checked.Accepted → searchOf (rowsOf t) u n .found ≡ startFrom (lookupOf profile f u n)
+pub table-search : (profile : ℕ) (f t : List ℕ) (u n : ℕ) → checkOf profile f (rowsOf t) (length t) ≡ checked.Accepted → searchOf (rowsOf t) u
+    n .found ≡ startFrom (lookupOf profile f u n)
 table-search profile f t u n h = accepted-search profile f (rowsOf t) (length t) u n (length-rowsOf t) h
 
 -- ---- under another profile

@@ -81,7 +81,8 @@ pub fn columns_search(columns: &[u32], usage: [u8; 4], number: u32) -> Searched
 // The pair of the entry at `p`.
 fn entry_key(file: &[u8], p: usize) -> u64
     requires { ⌜ p + 8 ≤ length (now file) ⌝ }
-    ensures { λ r. ⌜ (r ≡ rd32 (drop p (now (file .entry))) * 4294967296 + rd32 (drop (p + 4) (now (file .entry)))) × (rd32 (drop (p + 4) (now (file .entry))) < 4294967296) ⌝ }
+    ensures { λ r. ⌜ (r ≡ rd32 (drop p (now (file .entry))) * 4294967296 + rd32 (drop (p + 4) (now (file .entry))))
+        × (rd32 (drop (p + 4) (now (file .entry))) < 4294967296) ⌝ }
 {
     blorb::be32_at(file, p) * 4294967296 + blorb::be32_at(file, p + 4)
 }
@@ -150,8 +151,10 @@ fn lists(file: &[u8], count: usize, t: &[u32], rows: usize, step: usize, gap: us
 
 // Whether the slice is just the table of the file's `count` entries: told in few steps, and only where it is true.
 fn quick(file: &[u8], count: usize, t: &[u32], rows: usize, step: usize, gap: usize) -> bool
-    requires { ⌜ (count ≤ 4096) × (place count ≤ length (now file)) × Fits (length (now t)) rows step gap × (rows ≡ length (now t) / 3) × NoTwice (firstEntries count (now file)) ⌝ }
-    ensures { λ r. ⌜ (r ≡ true → (length (now (t .entry)) ≡ 3 * count) × (rowsBy (now (t .entry)) rows step gap ≡ sorted (firstEntries count (now (file .entry))))) ⌝ }
+    requires { ⌜ (count ≤ 4096) × (place count ≤ length (now file)) × Fits (length (now t)) rows step gap × (rows ≡ length (now t) / 3) × NoTwice
+        (firstEntries count (now file)) ⌝ }
+    ensures { λ r. ⌜ (r ≡ true → (length (now (t .entry)) ≡ 3 * count) × (rowsBy (now (t .entry)) rows step gap ≡ sorted
+        (firstEntries count (now (file .entry))))) ⌝ }
 {
     if t.len() != 3 * count {
         return false;
@@ -165,7 +168,8 @@ fn quick(file: &[u8], count: usize, t: &[u32], rows: usize, step: usize, gap: us
 // Whether (usage, number, start) is one of the file's entries, and `at` of them are before it.
 fn ranked(file: &[u8], count: usize, usage: u32, number: u32, start: u32, at: usize) -> bool
     requires { ⌜ (count ≤ 4096) × (place count ≤ length (now file)) ⌝ }
-    ensures { λ r. ⌜ r ≡ (eqb (rank usage number (firstEntries count (now (file .entry)))) at && held usage number start (firstEntries count (now (file .entry)))) ⌝ }
+    ensures { λ r. ⌜ r ≡ (eqb (rank usage number (firstEntries count (now (file .entry)))) at && held usage number start
+        (firstEntries count (now (file .entry)))) ⌝ }
 {
     let sought = rows::key(usage, number);
     let x = start as u64;
@@ -200,7 +204,8 @@ fn front(
     gap: usize,
     i: usize,
 ) -> bool
-    requires { ⌜ (count ≤ 4096) × (place count ≤ length (now file)) × Fits (length (now t)) rows step gap × NoTwice (firstEntries count (now file)) × (i ≤ rows) × (i ≤ count) ⌝ }
+    requires { ⌜ (count ≤ 4096) × (place count ≤ length (now file)) × Fits (length (now t)) rows step gap × NoTwice (firstEntries count (now file))
+        × (i ≤ rows) × (i ≤ count) ⌝ }
     ensures { λ r. ⌜ (r ≡ true → Alike (rowsBy (now (t .entry)) rows step gap) (sorted (firstEntries count (now (file .entry)))) i) ⌝ }
 {
     if i == 0 {
@@ -242,7 +247,8 @@ fn aligned(
     gap: usize,
     most: usize,
 ) -> usize
-    requires { ⌜ (count ≤ 4096) × (place count ≤ length (now file)) × Fits (length (now t)) rows step gap × NoTwice (firstEntries count (now file)) × (most ≤ rows) × (most ≤ count) ⌝ }
+    requires { ⌜ (count ≤ 4096) × (place count ≤ length (now file)) × Fits (length (now t)) rows step gap × NoTwice (firstEntries count (now file))
+        × (most ≤ rows) × (most ≤ count) ⌝ }
     ensures { λ r. ⌜ (r ≤ most) × Alike (rowsBy (now (t .entry)) rows step gap) (sorted (firstEntries count (now (file .entry)))) r ⌝ }
 {
     let mut low: usize = 0;
@@ -339,7 +345,8 @@ fn fill(file: &[u8], count: usize, t: &mut [u32])
 
 // The table of a file of this profile at the front of the slice: the number of its rows.
 pub fn build(file: &[u8], profile: u32, table: &mut [u32]) -> Built
-    ensures { λ r. ⌜ (r ≡ buildOf profile (now (file .entry)) (length (now (table .entry)))) × (now (table .exit) ≡ written r (flat (tableOf (now (file .entry)))) (now (table .entry))) ⌝ }
+    ensures { λ r. ⌜ (r ≡ buildOf profile (now (file .entry)) (length (now (table .entry))))
+        × (now (table .exit) ≡ written r (flat (tableOf (now (file .entry)))) (now (table .entry))) ⌝ }
 {
     match reader::read(file, profile) {
         Reading::Refused { number, place } => Built::Refused { number, place },
@@ -358,7 +365,8 @@ pub fn build(file: &[u8], profile: u32, table: &mut [u32]) -> Built
 
 // The rows of a table as three columns at the front of a second slice: how many rows they are.
 pub fn to_columns(table: &[u32], columns: &mut [u32]) -> Built
-    ensures { λ r. ⌜ (r ≡ turnOf (rowsOf (now (table .entry))) (length (now (columns .entry)))) × (now (columns .exit) ≡ written r (flatColumns (rowsOf (now (table .entry)))) (now (columns .entry))) ⌝ }
+    ensures { λ r. ⌜ (r ≡ turnOf (rowsOf (now (table .entry))) (length (now (columns .entry)))) × (now (columns .exit) ≡ written r
+        (flatColumns (rowsOf (now (table .entry)))) (now (columns .entry))) ⌝ }
 {
     let rows = table.len() / 3;
     if columns.len() < 3 * rows {
@@ -373,7 +381,8 @@ pub fn to_columns(table: &[u32], columns: &mut [u32]) -> Built
 
 // The rows of a table of three columns, one after another at the front of a second slice: how many rows they are.
 pub fn to_rows(columns: &[u32], table: &mut [u32]) -> Built
-    ensures { λ r. ⌜ (r ≡ turnOf (columnsOf (now (columns .entry))) (length (now (table .entry)))) × (now (table .exit) ≡ written r (flat (columnsOf (now (columns .entry)))) (now (table .entry))) ⌝ }
+    ensures { λ r. ⌜ (r ≡ turnOf (columnsOf (now (columns .entry))) (length (now (table .entry))))
+        × (now (table .exit) ≡ written r (flat (columnsOf (now (columns .entry)))) (now (table .entry))) ⌝ }
 {
     let rows = columns.len() / 3;
     if table.len() < 3 * rows {

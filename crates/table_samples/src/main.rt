@@ -5,7 +5,9 @@
 // number of the slice, four bytes of usage and four of number for each pair. The next sample follows at once;
 // tests/make_table_samples.py writes them.
 use libc::STDIN_FILENO;
-use libc::STDOUT_FILENO;
+use sampling::labelled;
+use sampling::refused;
+use sampling::text;
 use table::Built;
 use table::Checked;
 use table::Found;
@@ -26,21 +28,6 @@ fn slice_room() -> [u32; 16384]
     [7; 16384]
 }
 
-fn text(s: &[u8]) {
-    io::write_all(STDOUT_FILENO, s);
-}
-
-fn number(n: u64) {
-    io::print_decimal(STDOUT_FILENO, n);
-}
-
-fn refused(k: u64, place: usize) {
-    text(b"refused ");
-    number(k);
-    text(b" at ");
-    number(place as u64);
-}
-
 fn say_checked(answer: Checked) {
     match answer {
         Checked::Accepted => text(b"accepted"),
@@ -52,20 +39,16 @@ fn say_searched(answer: Searched) {
     let found = answer.found;
     match found {
         Found::At(start) => {
-            text(b"at ");
-            number(start as u64);
+            labelled(b"at ", start as u64);
         }
         Found::Refused { number, place } => refused(number, place),
     }
-    text(b" probes ");
-    number(answer.probes as u64);
+    labelled(b" probes ", answer.probes as u64);
 }
 
 fn say_search(t: &[u32], usage: [u8; 4], n: u32) {
-    text(b" ");
-    number(blorb::be32_at(&usage, 0));
-    text(b" ");
-    number(n as u64);
+    labelled(b" ", blorb::be32_at(&usage, 0));
+    labelled(b" ", n as u64);
     text(b": ");
     say_searched(table::search(t, usage, n));
     text(b"; in columns ");
@@ -92,13 +75,11 @@ fn checksum(t: &[u32]) -> u64 {
 fn say_built(answer: Built, t: &[u32]) {
     match answer {
         Built::Rows(rows) => {
-            text(b"rows ");
-            number(rows as u64);
+            labelled(b"rows ", rows as u64);
         }
         Built::Refused { number, place } => refused(number, place),
     }
-    text(b" sum ");
-    number(checksum(t));
+    labelled(b" sum ", checksum(t));
 }
 
 // The numbers of `bytes`, four bytes each, at the front of `t`.

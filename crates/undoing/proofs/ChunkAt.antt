@@ -38,10 +38,12 @@ module _ (m : Model) (k : ℕ) (s : Sound m) (there : k < length (m .chunks)) (s
       let lE : length E ≡ 12 * length (m .refs) = length-entriesBytes (entries m) ∙ ap (λ (z : ℕ). 12 * z) (length-map (m .refs) _) in
       let lF : length F ≡ 24 = length-heading (length (m .refs)) (total (m .chunks)) in
       let l1 : length c1 ≡ total (take k (m .chunks)) = length-chunksBytes (take k (m .chunks)) in
-      let lp : length (F ++ (E ++ c1)) ≡ 24 + 12 * length (m .refs) + total (take k (m .chunks)) = length-append F (E ++ c1) ∙ ap (λ (z : ℕ). length F + z) (length-append E c1) ∙ omega arith in
+      let lp : length (F ++ (E ++ c1)) ≡ 24 + 12 * length (m .refs) + total (take k (m .chunks)) = length-append F (E ++ c1) ∙ ap (λ (z : ℕ). length F + z)
+      (length-append E c1) ∙ omega arith in
       let e : file m ≡ (F ++ (E ++ c1)) ++ (chunkBytes c ++ rest)
       = file-parts m ∙ ap (λ (z : List ℕ). F ++ (E ++ z)) (chunks-around (m .chunks) k there) ∙ simp append-assoc in
-      ap (drop (24 + 12 * length (m .refs) + total (take k (m .chunks)))) e ∙ drop-at (F ++ (E ++ c1)) (chunkBytes c ++ rest) (24 + 12 * length (m .refs) + total (take k (m .chunks))) lp
+      ap (drop (24 + 12 * length (m .refs) + total (take k (m .chunks)))) e ∙ drop-at (F ++ (E ++ c1)) (chunkBytes c ++ rest)
+      (24 + 12 * length (m .refs) + total (take k (m .chunks))) lp
 
   body-small : length (c .body) < W
   body-small = omega (arith, body-size c, size-getD (m .chunks) k noChunk there, file-length m)
@@ -66,5 +68,6 @@ module _ (m : Model) (k : ℕ) (s : Sound m) (there : k < length (m .chunks)) (s
   pub chunk-inside : start m k + (8 + rd32 (drop (start m k + 4) (file m))) ≤ length (file m)
   chunk-inside =
       let e : length (file m) - start m k ≡ size c + length rest
-      = sym (length-drop (start m k) (file m)) ∙ ap length drop-start ∙ length-append (chunkBytes c) rest ∙ ap (λ (z : ℕ). z + length rest) (length-chunkBytes c) in
+      = sym (length-drop (start m k) (file m)) ∙ ap length drop-start ∙ length-append (chunkBytes c) rest ∙ ap (λ (z : ℕ). z + length rest)
+      (length-chunkBytes c) in
       omega (arith, e, size-pos c, size-is c, length-at)

@@ -8,7 +8,7 @@ use lib.ListN.{length, take, drop}
 use lib.Seq.{length-take-le}
 use lib.Dec.{eqb, leb}
 use borrow.Author.Tests.{le-leb, lt-leb, eq-eqb, ne-eqb}
-use Rattle.blorb.specs.Verdict.{Verdict, accept, refuse, _then_, check, verdict}
+use Rattle.blorb.specs.Verdict.{Verdict, accept, refuse, _then_, check, verdict, accepted}
 use Rattle.blorb.specs.Rules.{rulesOf, profileVerdict}
 use Rattle.blorb.specs.Model.{Model, base, model}
 use Rattle.blorb.specs.All.{All}
@@ -20,7 +20,7 @@ use Rattle.blorb.proofs.Profiles.{profile-known}
 use Rattle.blorb.proofs.ModelLaws.{length-file}
 use Rattle.edits.proofs.JudgedLaws.{model-parts}
 use Rattle.edits.specs.Journal.{Rec, lastRec, wellFormed, fits}
-use Rattle.edits.specs.Run.{undo, state, accepted, undoneFile, undoFault, fault}
+use Rattle.edits.specs.Run.{undo, state, undoneFile, undoFault, fault}
 use Rattle.edits.proofs.UndoJudged.{AcceptedFile, accepted-facts}
 use Rattle.undoing.specs.declared.journal.Record.{Record}
 use Rattle.undoing.specs.declared.journal.Last.{Last}
@@ -31,7 +31,24 @@ use Rattle.undoing.specs.declared.Undoing.{Undoing}
 use Rattle.undoing.specs.declared.Undoing.the-variants.{Not}
 use Rattle.undoing.specs.LastRecord.{numbersOf, lastOf}
 use Rattle.reader.specs.Inspecting.{factsOf, inspectionOf}
-use Rattle.undoing.specs.UndoPlan.{goOf, undoingOf, undoPlan, fitting, fittingPlan, roomyBy, roomy, numbersIn, askedAt, UndoReady, ChunkInside, addedPlan, replacedPlan, removedPlan, unlistedPlan, linkedPlan}
+use Rattle.undoing.specs.UndoPlan.{
+  goOf,
+  undoingOf,
+  undoPlan,
+  fitting,
+  fittingPlan,
+  roomyBy,
+  roomy,
+  numbersIn,
+  askedAt,
+  UndoReady,
+  ChunkInside,
+  addedPlan,
+  replacedPlan,
+  removedPlan,
+  unlistedPlan,
+  linkedPlan,
+}
 use Rattle.undoing.proofs.LastRead.{Ends, good-ends, last-bad}
 use Rattle.undoing.proofs.UndoFits.{fits-added, fits-replaced, fits-removed, fits-unlisted, fits-linked, begins-there}
 
@@ -64,7 +81,8 @@ module _ (profile : ℕ) (b : List ℕ) (l : ℕ) (j : List ℕ) (u : ℕ) (r : 
   facts-are = a .facts-are ∙ (λ i. factsOf (model (take l b)) (numbers i .usage) (numbers i .number) (askedAt (numbers i)))
 
   -- kinds 3 and 4: asked about the record's start less 12
-  start-facts : (eqb (r .kind) 3 || eqb (r .kind) 4) ≡ true → t ≡ factsOf (model (take l b)) (lastRec (take u j) .usage) (lastRec (take u j) .number) (lastRec (take u j) .start - 12)
+  start-facts : (eqb (r .kind) 3 || eqb (r .kind) 4) ≡ true → t ≡ factsOf (model (take l b)) (lastRec (take u j) .usage) (lastRec (take u j) .number)
+      (lastRec (take u j) .start - 12)
   start-facts h =
       a .facts-are ∙ ap (λ (z : ℕ). factsOf (model (take l b)) (r .usage) (r .number) z) (sym (asked-start r h))
       ∙ (λ i. factsOf (model (take l b)) (numbers i .usage) (numbers i .number) (numbers i .start - 12))
@@ -85,9 +103,11 @@ module _ (profile : ℕ) (b : List ℕ) (l : ℕ) (j : List ℕ) (u : ℕ) (r : 
   asked-added x h e =
       e ∙ (λ i. addedPlan (facts-are i) (file-is i) (numbers i)) ∙ fits-added profile (take l b) (take u j) file-facts (a .bytes) (kind-is 1 h)
 
-  pub asked-replaced : (x : Undoing) → r .kind ≡ 2 → x ≡ replacedPlan profile t l r (take (u - 4 - (u - 4 - r .length)) (drop (u - 4 - r .length) j)) → x ≡ fittingPlan profile (take l b) (take u j)
+  pub asked-replaced : (x : Undoing) → r .kind ≡ 2 → x ≡ replacedPlan profile t l r (take (u - 4 - (u - 4 - r .length)) (drop (u - 4 - r .length) j))
+      → x ≡ fittingPlan profile (take l b) (take u j)
   asked-replaced x h e =
-      e ∙ (λ i. replacedPlan profile (facts-are i) (file-is i) (numbers i) (body-is i)) ∙ fits-replaced profile (take l b) (take u j) file-facts (a .bytes) (kind-is 2 h)
+      e ∙ (λ i. replacedPlan profile (facts-are i) (file-is i) (numbers i) (body-is i)) ∙ fits-replaced profile (take l b) (take u j) file-facts
+      (a .bytes) (kind-is 2 h)
 
   pub asked-removed : (x : Undoing) → (r .kind ≡ 1 → ⊥) → (r .kind ≡ 4 → ⊥) → (r .kind ≡ 5 → ⊥) → (r .kind ≡ 2 → ⊥)
       → x ≡ removedPlan profile t (take l b) r (take (u - 4 - (u - 4 - r .length)) (drop (u - 4 - r .length) j)) → x ≡ fittingPlan profile (take l b) (take u j)
@@ -98,7 +118,8 @@ module _ (profile : ℕ) (b : List ℕ) (l : ℕ) (j : List ℕ) (u : ℕ) (r : 
 
   pub asked-unlisted : (x : Undoing) → r .kind ≡ 4 → x ≡ unlistedPlan profile t (take l b) r → x ≡ fittingPlan profile (take l b) (take u j)
   asked-unlisted x h e =
-      e ∙ (λ i. unlistedPlan profile (start-facts (rw h) i) (take l b) (numbers i)) ∙ fits-unlisted profile (take l b) (take u j) file-facts (a .bytes) (kind-is 4 h)
+      e ∙ (λ i. unlistedPlan profile (start-facts (rw h) i) (take l b) (numbers i)) ∙ fits-unlisted profile (take l b) (take u j) file-facts
+      (a .bytes) (kind-is 4 h)
 
   pub asked-linked : (x : Undoing) → r .kind ≡ 5 → x ≡ linkedPlan t l r → x ≡ fittingPlan profile (take l b) (take u j)
   asked-linked x h e =
@@ -131,7 +152,8 @@ good-numbers : (w : Last) (r : Record) → r ≡ numbersIn w → (r .kind ≡ 0 
 good-numbers (Good s) r e h = ap Good (sym e)
 good-numbers Bad r e h = absurd (h (ap (λ (z : Record). z .kind) e))
 
-bad-numbers : (j : List ℕ) (u : ℕ) (w : Last) (r : Record) → u ≤ length j → lastOf (take u j) ≡ w → r ≡ numbersIn w → r .kind ≡ 0 → wellFormed (take u j) ≡ false
+bad-numbers : (j : List ℕ) (u : ℕ) (w : Last) (r : Record) → u ≤ length j → lastOf (take u j) ≡ w → r ≡ numbersIn w → r .kind ≡ 0
+    → wellFormed (take u j) ≡ false
 bad-numbers j u (Good s) r hu q e h =
     let k : s .kind ≡ 0 = ap (λ (z : Record). z .kind) (sym e) ∙ h in
     absurd (omega (arith, good-ends j u s hu q .kind-low))
@@ -161,7 +183,8 @@ module _ (profile : ℕ) (b : List ℕ) (l : ℕ) (j : List ℕ) (u : ℕ) where
   abbrev behind : Verdict
   behind =
       check (not (eqb u 0)) 26 0
-      then check (wellFormed (take u j) && fits (lastRec (take u j)) (model (take l b)) && accepted (verdict (rulesOf profile) (undoneFile (take l b) (take u j)))) 21 0
+      then check (wellFormed (take u j) && fits (lastRec (take u j)) (model (take l b)) && accepted
+      (verdict (rulesOf profile) (undoneFile (take l b) (take u j)))) 21 0
       then check (leb (length (undoneFile (take l b) (take u j))) (length b)) 24 0
 
   behind-26 : u ≡ 0 → behind ≡ refuse 26 0
@@ -175,10 +198,12 @@ module _ (profile : ℕ) (b : List ℕ) (l : ℕ) (j : List ℕ) (u : ℕ) where
   behind-fit : (u ≡ 0 → ⊥) → wellFormed (take u j) ≡ true → behind ≡ check fit 21 0 then check (leb (length (undoneFile (take l b) (take u j))) (length b)) 24 0
   behind-fit n h =
       pass (not (eqb u 0)) 26 0 _ (rw (ne-eqb u 0 n))
-      ∙ ap (λ (w : Bool). check (w && fits (lastRec (take u j)) (model (take l b)) && accepted (verdict (rulesOf profile) (undoneFile (take l b) (take u j)))) 21 0
+      ∙ ap (λ (w : Bool). check (w && fits (lastRec (take u j)) (model (take l b)) && accepted
+      (verdict (rulesOf profile) (undoneFile (take l b) (take u j)))) 21 0
       then check (leb (length (undoneFile (take l b) (take u j))) (length b)) 24 0) h
 
-  fit-plan : (p : Bool) → undoingOf (check p 21 0 then check (leb (length (undoneFile (take l b) (take u j))) (length b)) 24 0) (take l b) (take u j) ≡ roomy (length b) (fitting p (goOf (take l b) (take u j)))
+  fit-plan : (p : Bool) → undoingOf (check p 21 0 then check (leb (length (undoneFile (take l b) (take u j))) (length b)) 24 0) (take l b) (take u j) ≡ roomy
+      (length b) (fitting p (goOf (take l b) (take u j)))
   unfolding _then_ check goOf
   fit-plan false = refl
   fit-plan true = go (leb (length (undoneFile (take l b) (take u j))) (length b))

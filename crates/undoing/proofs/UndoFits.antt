@@ -12,7 +12,7 @@ use Rattle.blorb.specs.Bytes.{rd32, Byte}
 use Rattle.blorb.specs.Tags.{RIdx, Pict, Rect, Fspc}
 use Rattle.blorb.specs.Format.{Chunk, size, chunkIn, chunkBytes, chunksBytes, isStart}
 use Rattle.blorb.specs.Layout.{sizeOf}
-use Rattle.blorb.specs.Verdict.{verdict}
+use Rattle.blorb.specs.Verdict.{verdict, accepted}
 use Rattle.blorb.specs.Rules.{allows, typeIn, rulesOf}
 use Rattle.blorb.specs.Model.{Model, base, model, file}
 use Rattle.blorb.specs.Queries.{find, refAt, chunkAt, start, frontNumber}
@@ -21,7 +21,7 @@ use Rattle.blorb.specs.Sound.{W, Sound}
 use Rattle.blorb.proofs.Places.{size-pos, startOf-placeOf}
 use Rattle.blorb.proofs.Codec.{length-chunkBytes}
 use Rattle.edits.specs.Journal.{Rec, lastRec, fits, fits1, fits2, fits5, oldChunk, oldPlace}
-use Rattle.edits.specs.Run.{accepted, undoneFile}
+use Rattle.edits.specs.Run.{undoneFile}
 use Rattle.edits.proofs.BoolLaws.{and-parts, and-where}
 use Rattle.edits.proofs.JudgedLaws.{isFront}
 use Rattle.edits.proofs.InsertJudged.{entryTests, entry-new, entry-twice}
@@ -37,7 +37,27 @@ use Rattle.undoing.specs.declared.Undoing.{Undoing}
 use Rattle.undoing.specs.declared.Undoing.the-variants.{Go}
 use Rattle.undoing.specs.LastRecord.{numbersOf}
 use Rattle.reader.specs.Inspecting.{pieceOf, targetBy, targetOf, frontBy, frontOf, factsOf}
-use Rattle.undoing.specs.UndoPlan.{chunkStart, chunkSize, goOf, fitting, fittingPlan, frontIs, entryFine, ChunkInside, onPiece, fitsAdded, addedPlan, fitsReplaced, oldFine, replacedPlan, startIn, removedPlan, unlistedPlan, fitsLinked, linkedPlan}
+use Rattle.undoing.specs.UndoPlan.{
+  chunkStart,
+  chunkSize,
+  goOf,
+  fitting,
+  fittingPlan,
+  frontIs,
+  entryFine,
+  ChunkInside,
+  onPiece,
+  fitsAdded,
+  addedPlan,
+  fitsReplaced,
+  oldFine,
+  replacedPlan,
+  startIn,
+  removedPlan,
+  unlistedPlan,
+  fitsLinked,
+  linkedPlan,
+}
 use Rattle.undoing.proofs.ChunkAt.{drop-start, length-at, chunk-in-place}
 
 -- what the reader's answers mean
@@ -53,7 +73,8 @@ entry-told : (profile : ℕ) (m : Model) (u n : ℕ) (c : Chunk) → entryFine u
 unfolding targetOf
 entry-told profile m u n c = go (ltb (find u n (m .refs)) (length (m .refs))) refl
   where
-    go : (b : Bool) → ltb (find u n (m .refs)) (length (m .refs)) ≡ b → entryFine u n (allows profile u c) (targetBy b m (find u n (m .refs))) ≡ entryTests profile u n c (m .refs)
+    go : (b : Bool) → ltb (find u n (m .refs)) (length (m .refs)) ≡ b → entryFine u n (allows profile u c) (targetBy b m (find u n (m .refs))) ≡ entryTests
+        profile u n c (m .refs)
     go true e = sym (entry-twice profile u n c (m .refs) (ltb-true (find u n (m .refs)) (length (m .refs)) e))
     go false e = sym (entry-new profile u n c (m .refs) (ltb-false (find u n (m .refs)) (length (m .refs)) e))
 
@@ -74,10 +95,12 @@ fitting-where true x y h = h refl
 fitting-where false x y h = refl
 
 -- the chunk of an undo, by kind
-pub at-1 : (r : Rec) (m : Model) → r .kind ≡ 1 → (chunkStart r m ≡ start m (refAt m (r .place) .chunk)) × (chunkSize r m ≡ size (chunkAt m (refAt m (r .place) .chunk)))
+pub at-1 : (r : Rec) (m : Model) → r .kind ≡ 1 → (chunkStart r m ≡ start m (refAt m (r .place) .chunk))
+    × (chunkSize r m ≡ size (chunkAt m (refAt m (r .place) .chunk)))
 at-1 r m h = (rw h, rw h)
 
-pub at-2 : (r : Rec) (m : Model) → r .kind ≡ 2 → (chunkStart r m ≡ start m (refAt m (r .place) .chunk)) × (chunkSize r m ≡ size (chunkAt m (refAt m (r .place) .chunk)))
+pub at-2 : (r : Rec) (m : Model) → r .kind ≡ 2 → (chunkStart r m ≡ start m (refAt m (r .place) .chunk))
+    × (chunkSize r m ≡ size (chunkAt m (refAt m (r .place) .chunk)))
 at-2 r m h = (rw h, rw h)
 
 pub at-3 : (r : Rec) (m : Model) → r .kind ≡ 3 → (chunkStart r m ≡ r .start - 12) × (chunkSize r m ≡ 0)
@@ -138,16 +161,20 @@ module _ (profile : ℕ) (f j : List ℕ) (st : AcceptedFile profile f) (bytes :
       let t : Bool = fitsAdded p (length (m .refs)) (length f) (r .place) in
       on-found b m at (λ (z : Piece). fitsAdded z (length (m .refs)) (length f) (r .place) && not (frontIs (frontOf m) (r .usage) (r .number)))
       (λ (z : Piece). Go (length (m .refs)) (z .start) (sizeOf (z .length)) (length f - (12 + sizeOf (z .length))) (numbersOf r))
-      ∙ same-plan (b && (t && not (frontIs (frontOf m) (r .usage) (r .number)))) (Go (length (m .refs)) (p .start) (sizeOf (p .length)) (length f - (12 + sizeOf (p .length))) (numbersOf r))
-      ((λ i. b && (t && not (front-told m (r .usage) (r .number) i))) ∙ sym (and-assoc b t (not (isFront (m .chunks) (r .usage) (r .number)))) ∙ sym (test-1 profile f j st bytes h))
+      ∙ same-plan (b && (t && not (frontIs (frontOf m) (r .usage) (r .number)))) (Go (length (m .refs)) (p .start) (sizeOf (p .length))
+      (length f - (12 + sizeOf (p .length))) (numbersOf r))
+      ((λ i. b && (t && not (front-told m (r .usage) (r .number) i))) ∙ sym (and-assoc b t (not (isFront (m .chunks) (r .usage) (r .number))))
+      ∙ sym (test-1 profile f j st bytes h))
       (λ ok. rest (sym (kind-1 r m h .0) ∙ the-fit ok))
     where
       rest : fits1 (lastRec j) (model f) ≡ true
-          → Go (length (model f .refs)) (pieceOf (model f) at .start) (sizeOf (pieceOf (model f) at .length)) (length f - (12 + sizeOf (pieceOf (model f) at .length))) (numbersOf (lastRec j)) ≡ goOf f j
+          → Go (length (model f .refs)) (pieceOf (model f) at .start) (sizeOf (pieceOf (model f) at .length))
+          (length f - (12 + sizeOf (pieceOf (model f) at .length))) (numbersOf (lastRec j)) ≡ goOf f j
       rest fit =
           let q = fits1-facts r m fit in
           let i : at ≡ r .place = found-at profile r m (st .judged) (omega (arith, q .count)) (q .usage-is) (q .number-is) in
-          let s : sizeOf (pieceOf m at .length) ≡ sizeOf (length (chunkAt m (refAt m (r .place) .chunk) .body)) = ap (λ (z : ℕ). sizeOf (length (chunkAt m (refAt m z .chunk) .body))) i in
+          let s : sizeOf (pieceOf m at .length) ≡ sizeOf (length (chunkAt m (refAt m (r .place) .chunk) .body)) =
+          ap (λ (z : ℕ). sizeOf (length (chunkAt m (refAt m z .chunk) .body))) i in
           go-is _ _ _ (ap (λ (z : ℕ). start m (refAt m z .chunk)) i ∙ sym (at-1 r m h .0))
           (s ∙ sym (size-is (chunkAt m (refAt m (r .place) .chunk))) ∙ sym (at-1 r m h .1))
           (ap (λ (z : ℕ). length f - (12 + z)) s ∙ omega (arith, after-1 profile f j st bytes h fit))
@@ -158,9 +185,11 @@ module _ (profile : ℕ) (f j : List ℕ) (st : AcceptedFile profile f) (bytes :
       let b : Bool = ltb at (length (m .refs)) in
       let p : Piece = pieceOf m at in
       let t : Bool = fitsReplaced p (numbersOf r) in
-      on-found b m at (λ (z : Piece). fitsReplaced z (numbersOf r) && (leb (length f - sizeOf (z .length) + sizeOf (length (r .body))) 16777216 && oldFine profile (numbersOf r) (r .body) (frontOf m)))
+      on-found b m at (λ (z : Piece). fitsReplaced z (numbersOf r) && (leb (length f - sizeOf (z .length) + sizeOf (length (r .body))) 16777216 && oldFine
+      profile (numbersOf r) (r .body) (frontOf m)))
       (λ (z : Piece). Go (length (m .refs)) (z .start) (sizeOf (z .length)) (length f - sizeOf (z .length) + sizeOf (length (r .body))) (numbersOf r))
-      ∙ same-plan (b && (t && (leb (length f - sizeOf (p .length) + sizeOf (length (r .body))) 16777216 && oldFine profile (numbersOf r) (r .body) (frontOf m))))
+      ∙ same-plan (b && (t && (leb (length f - sizeOf (p .length) + sizeOf (length (r .body))) 16777216 && oldFine profile (numbersOf r) (r .body)
+      (frontOf m))))
       (Go (length (m .refs)) (p .start) (sizeOf (p .length)) (length f - sizeOf (p .length) + sizeOf (length (r .body))) (numbersOf r))
       ((λ i. b && (t && (leb (length f - sizeOf (p .length) + sizeOf (length (r .body))) 16777216 && (not (eqb (r .type) RIdx)
       && (allows profile (r .usage) (oldChunk r) && not (front-told m (r .usage) (r .number) i && eqb (r .type) Rect))))))
@@ -168,11 +197,13 @@ module _ (profile : ℕ) (f j : List ℕ) (st : AcceptedFile profile f) (bytes :
       (λ ok. rest (sym (kind-2 r m h .0) ∙ the-fit ok))
     where
       rest : fits2 (lastRec j) (model f) ≡ true
-          → Go (length (model f .refs)) (pieceOf (model f) at .start) (sizeOf (pieceOf (model f) at .length)) (length f - sizeOf (pieceOf (model f) at .length) + sizeOf (length (lastRec j .body))) (numbersOf (lastRec j)) ≡ goOf f j
+          → Go (length (model f .refs)) (pieceOf (model f) at .start) (sizeOf (pieceOf (model f) at .length))
+          (length f - sizeOf (pieceOf (model f) at .length) + sizeOf (length (lastRec j .body))) (numbersOf (lastRec j)) ≡ goOf f j
       rest fit =
           let q = fits2-facts r m fit in
           let i : at ≡ r .place = found-at profile r m (st .judged) (q .inside) (q .usage-is) (q .number-is) in
-          let s : sizeOf (pieceOf m at .length) ≡ sizeOf (length (chunkAt m (refAt m (r .place) .chunk) .body)) = ap (λ (z : ℕ). sizeOf (length (chunkAt m (refAt m z .chunk) .body))) i in
+          let s : sizeOf (pieceOf m at .length) ≡ sizeOf (length (chunkAt m (refAt m (r .place) .chunk) .body)) =
+          ap (λ (z : ℕ). sizeOf (length (chunkAt m (refAt m z .chunk) .body))) i in
           go-is _ _ _ (ap (λ (z : ℕ). start m (refAt m z .chunk)) i ∙ sym (at-2 r m h .0))
           (s ∙ sym (size-is (chunkAt m (refAt m (r .place) .chunk))) ∙ sym (at-2 r m h .1))
           (ap (λ (z : ℕ). length f - z + sizeOf (length (r .body))) s ∙ sym (after-2 profile f j st bytes h fit))
@@ -186,7 +217,8 @@ module _ (profile : ℕ) (f j : List ℕ) (st : AcceptedFile profile f) (bytes :
       on-found b m at (λ (z : Piece). fitsLinked z (numbersOf r) && not (frontIs (frontOf m) (r .usage) (r .number)))
       (λ (z : Piece). Go (length (m .refs)) (z .start) 0 (length f - 12) (numbersOf r))
       ∙ same-plan (b && (t && not (frontIs (frontOf m) (r .usage) (r .number)))) (Go (length (m .refs)) (p .start) 0 (length f - 12) (numbersOf r))
-      ((λ i. b && (t && not (front-told m (r .usage) (r .number) i))) ∙ sym (and-assoc b t (not (isFront (m .chunks) (r .usage) (r .number)))) ∙ sym (test-5 profile f j st bytes h))
+      ((λ i. b && (t && not (front-told m (r .usage) (r .number) i))) ∙ sym (and-assoc b t (not (isFront (m .chunks) (r .usage) (r .number))))
+      ∙ sym (test-5 profile f j st bytes h))
       (λ ok. rest (sym (kind-5 r m h .0) ∙ the-fit ok))
     where
       rest : fits5 (lastRec j) (model f) ≡ true

@@ -21,7 +21,26 @@ use Rattle.reader.specs.declared.Target.{Target}
 use Rattle.reader.specs.declared.Target.the-variants as target
 use Rattle.undoing.specs.declared.Undoing.{Undoing}
 use Rattle.undoing.specs.declared.Undoing.the-variants.{Go, Not}
-use Rattle.undoing.specs.UndoPlan.{fitting, onPiece, frontIs, entryFine, ChunkInside, fitsAdded, addedPlan, fitsReplaced, oldFine, replacedPlan, fitsRemoved, startIn, removedFine, removedPlan, unlistedPlan, fitsLinked, linkedPlan, roomy}
+use Rattle.undoing.specs.UndoPlan.{
+  fitting,
+  onPiece,
+  frontIs,
+  entryFine,
+  ChunkInside,
+  fitsAdded,
+  addedPlan,
+  fitsReplaced,
+  oldFine,
+  replacedPlan,
+  fitsRemoved,
+  startIn,
+  removedFine,
+  removedPlan,
+  unlistedPlan,
+  fitsLinked,
+  linkedPlan,
+  roomy,
+}
 
 -- a test that the code found to hold or not
 pub not-fitting : (a b : Bool) (x : Undoing) → a ≡ b → not a ≡ true → Not 21 0 ≡ fitting b x
@@ -147,7 +166,8 @@ both-sides s count place limit at a b h ea eb = (λ i. ea i && eb i) ∙ rw (le-
 
 -- kind 4: b is whether rule 5 allows the chunk at x, o the test of the order, e that of the entry
 pub unlisted-none : (profile : ℕ) (t : Facts) (s : List ℕ) (r : Record) → not (t .begins) ≡ true → Not 21 0 ≡ unlistedPlan profile t s r
-unlisted-none profile t s r h = ap (λ (z : Bool). fitting z (Go (t .count) (r .start - 12) 0 (length s + 12) r)) (sym (go (leb (r .place) (t .count)) (t .begins) _ (not-true _ h)))
+unlisted-none profile t s r h = ap (λ (z : Bool). fitting z (Go (t .count) (r .start - 12) 0 (length s + 12) r))
+    (sym (go (leb (r .place) (t .count)) (t .begins) _ (not-true _ h)))
   where
     go : (a b c : Bool) → b ≡ false → (a && b) && c ≡ false
     go true b c h = ap (λ (z : Bool). z && c) h

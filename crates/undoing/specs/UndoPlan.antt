@@ -9,13 +9,13 @@ use Rattle.blorb.specs.Bytes.{rd32, Byte}
 use Rattle.blorb.specs.Tags.{RIdx, Pict, Exec, Rect}
 use Rattle.blorb.specs.Format.{size, chunkIn, chunkOf}
 use Rattle.blorb.specs.Layout.{sizeOf}
-use Rattle.blorb.specs.Verdict.{Verdict, accept, refuse, verdict, knownUsage}
+use Rattle.blorb.specs.Verdict.{Verdict, accept, refuse, verdict, knownUsage, accepted}
 use Rattle.blorb.specs.Rules.{allows, rulesOf}
 use Rattle.blorb.specs.Model.{Model, model}
 use Rattle.blorb.specs.Queries.{refAt, chunkAt, start}
 use Rattle.blorb.specs.All.{All}
 use Rattle.edits.specs.Journal.{Rec, byKind, lastRec, fits}
-use Rattle.edits.specs.Run.{undo, state, accepted, undoneFile, fault}
+use Rattle.edits.specs.Run.{undo, state, undoneFile, fault}
 use Rattle.edits.specs.Order.{between}
 use Rattle.undoing.specs.declared.journal.Record.{Record}
 use Rattle.undoing.specs.declared.journal.Last.{Last}

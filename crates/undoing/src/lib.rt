@@ -21,7 +21,28 @@ ghost use Rattle.blorb.specs.Rules.{allows};
 ghost use Rattle.blorb.specs.Verdict.{knownUsage};
 ghost use Rattle.edits.specs.Order.{between};
 ghost use Rattle.undoing.specs.LastRecord.{lastOf};
-ghost use Rattle.undoing.specs.UndoPlan.{undoPlan, fittingPlan, roomy, numbersIn, askedAt, UndoReady, frontIs, entryFine, ChunkInside, fitsAdded, addedPlan, fitsReplaced, oldFine, replacedPlan, fitsRemoved, startIn, removedPlan, unlistedPlan, fitsLinked, linkedPlan};
+ghost use Rattle.undoing.specs.UndoPlan.{
+  undoPlan,
+  fittingPlan,
+  roomy,
+  numbersIn,
+  askedAt,
+  UndoReady,
+  frontIs,
+  entryFine,
+  ChunkInside,
+  fitsAdded,
+  addedPlan,
+  fitsReplaced,
+  oldFine,
+  replacedPlan,
+  fitsRemoved,
+  startIn,
+  removedPlan,
+  unlistedPlan,
+  fitsLinked,
+  linkedPlan,
+};
 
 pub mod journal;
 
@@ -255,7 +276,8 @@ pub fn chunk_allowed(s: &[u8], profile: u32, at: usize, usage: u32) -> bool
 
 // Kind 4: the entry goes in; its chunk stands in the file `s`.
 fn plan_unlisted(s: &[u8], profile: u32, facts: Facts, r: Record) -> Undoing
-    requires { ⌜ (length (now s) ≤ 16777216) × ChunkInside (facts .begins) (now s) (r .start - 12) × (facts .count ≤ 4096) × (24 + 12 * (facts .count) ≤ length (now s)) ⌝ }
+    requires { ⌜ (length (now s) ≤ 16777216) × ChunkInside (facts .begins) (now s) (r .start - 12) × (facts .count ≤ 4096)
+        × (24 + 12 * (facts .count) ≤ length (now s)) ⌝ }
     ensures { λ x. ⌜ x ≡ unlistedPlan profile facts (now (s .entry)) r ⌝ }
 {
     let count = facts.count;

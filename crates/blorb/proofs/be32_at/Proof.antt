@@ -13,15 +13,12 @@ use Rattle.blorb.proofs.be32_at.Lts as lts
 use Rattle.blorb.proofs.le32_at.Reads as le32-at-reads
 use Rattle.blorb.proofs.swap.Reads as swap-reads
 
--- src/lib.rt:51:10
 le32-at-requires : tie.Need-le32-at-requires
 le32-at-requires c κs = search needs
 
--- src/lib.rt:51:5
 swap-requires : tie.Need-swap-requires
 swap-requires c κs = search needs
 
--- src/lib.rt:47:1
 returns : tie.Need-returns
 returns c =
     let a = c .before .before .before .args in
@@ -31,7 +28,8 @@ returns c =
     let y : ℕ = getD f (a .at + 1) 0 in
     let z : ℕ = getD f (a .at + 2) 0 in
     let w : ℕ = getD f (a .at + 3) 0 in
-    let q : c .swap .result ≡ x * 16777216 + y * 65536 + z * 256 + w = c .swap .ensures ∙ ap swapped (l .0) ∙ swapped-little x y z w (l .1) (l .2) (l .3) (l .4) in
+    let q : c .swap .result ≡ x * 16777216 + y * 65536 + z * 256 + w = c .swap .ensures ∙ ap swapped (l .0) ∙ swapped-little x y z w (l .1) (l .2)
+    (l .3) (l .4) in
     let hx : x < 256 = l .1 in
     let hy : y < 256 = l .2 in
     let hz : z < 256 = l .3 in

@@ -9,7 +9,8 @@ use Rattle.blorb.proofs.pict_type.Tie as tie
 
 returns : tie.Need-returns
 returns c =
-    let tests : (eqb (c .args .t) JPEG || (eqb (c .args .t) PNG || (eqb (c .args .t) Rect && eqb (c .args .m) 8))) ≡ pictType (c .args .t) (c .args .m) = refl in
+    let tests : (eqb (c .args .t) JPEG || (eqb (c .args .t) PNG || (eqb (c .args .t) Rect && eqb (c .args .m) 8))) ≡ pictType (c .args .t) (c .args .m) =
+    refl in
     tests
 
 pub pict-type-spec : {M : Type 1} → statement M

@@ -11,23 +11,18 @@ use Rattle.blorb.proofs.sound_type.Lts as lts
 use Rattle.blorb.proofs.be32_at.Reads as be32-at-reads
 use Rattle.blorb.proofs.snd_type.Reads as snd-type-reads
 
--- src/lib.rt:93:9
 snd-type-requires : tie.Need-snd-type-requires
 snd-type-requires c κs = search needs
 
--- src/lib.rt:93:9
 returns : tie.Need-returns
 returns c = c .snd-type .ensures ∙ snd-other _ _ (c .before .if1 .taken)
 
--- src/lib.rt:96:9
 returns-2 : tie.Need-returns-2
 returns-2 c = snd-short _ _ (c .before .if1 .left) (c .if2 .taken)
 
--- src/lib.rt:98:5
 be32-at-requires : tie.Need-be32-at-requires
 be32-at-requires c κs = search needs
 
--- src/lib.rt:89:1
 returns-3 : tie.Need-returns-3
 returns-3 c = ap (λ (n : ℕ). eqb n AIFF) (c .be32-at .ensures .0) ∙ snd-form _ _ (c .before .before .if1 .left) (c .before .if2 .left)
 

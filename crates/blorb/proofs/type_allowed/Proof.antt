@@ -8,27 +8,21 @@ use Rattle.blorb.proofs.type_allowed.Lts as lts
 use Rattle.blorb.proofs.Usage.allows.Reads as allows-reads
 use Rattle.blorb.proofs.Usage.of_code.Reads as of-code-reads
 
--- src/lib.rt:158:28
 of-code-requires : tie.Need-of-code-requires
 of-code-requires c κs = search needs
 
--- src/lib.rt:158:19
 enum-known-usage : tie.Need-enum-known-usage
 enum-known-usage c = search needs
 
--- src/lib.rt:159:9
 enum-told : tie.Need-enum-told
 enum-told c = search needs
 
--- src/lib.rt:159:9
 returns : tie.Need-returns
 returns c = sym (allows-unknown _ _ _ (sym (c .before .before .of-code .ensures) ∙ c .enum-told .given .1))
 
--- src/lib.rt:161:5
 allows-requires : tie.Need-allows-requires
 allows-requires c κs = search needs
 
--- src/lib.rt:155:1
 returns-2 : tie.Need-returns-2
 returns-2 c = c .allows .ensures ∙ allows-known _ _ _ _ (sym (c .before .before .before .before .of-code .ensures) ∙ c .before .before .usage .given .1)
 

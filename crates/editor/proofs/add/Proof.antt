@@ -6,31 +6,27 @@ use borrow.Author.Needs.{needs}
 use Rattle.editor.proofs.add.Statement.{statement}
 use Rattle.editor.proofs.add.Tie as tie
 
--- src/lib.rt:295:9
 code-of-requires : tie.Need-code-of-requires
 code-of-requires c κs = search needs
 
--- src/lib.rt:296:9
 code-of-requires-2 : tie.Need-code-of-requires-2
 code-of-requires-2 c κs = search needs
 
--- src/lib.rt:297:5
 add-entry-requires : tie.Need-add-entry-requires
 add-entry-requires c κs = search needs
 
--- src/lib.rt:292:1
 same-length : tie.Need-same-length
 same-length c = search needs
 
--- src/lib.rt:292:1
 same-length-2 : tie.Need-same-length-2
 same-length-2 c = search needs
 
--- src/lib.rt:292:1
 returns : tie.Need-returns
 returns c =
     let a = c .before .before .before .before .before .before .before .before .before .before .before .before .args in
-    called-as _ _ _ _ _ _ _ (λ i. edit (add (c .before .before .before .before .before .before .before .before .code-of .ensures i) (a .number) (c .before .before .before .before .before .before .before .code-of2 .ensures i) (now (a .d)))) (c .before .before .before .before .add-entry .ensures)
+    called-as _ _ _ _ _ _ _ (λ i. edit (add (c .before .before .before .before .before .before .before .before .code-of .ensures i) (a .number)
+    (c .before .before .before .before .before .before .before .code-of2 .ensures i) (now (a .d))))
+    (c .before .before .before .before .add-entry .ensures)
 
 pub add-spec : {M : Type 1} → statement M
 add-spec =

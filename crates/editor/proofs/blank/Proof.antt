@@ -7,38 +7,35 @@ use borrow.Author.Needs.{needs}
 use Rattle.editor.proofs.blank.Statement.{statement}
 use Rattle.editor.proofs.blank.Tie as tie
 
--- src/lib.rt:333:9
 refused-requires : tie.Need-refused-requires
 refused-requires c κs = search needs
 
--- src/lib.rt:333:9
 returns : tie.Need-returns
 returns c = (c .refused .ensures ∙ blank-refused _ (c .before .if1 .taken), blank-kept _ (c .before .if1 .taken))
 
--- src/lib.rt:336:28
 slice-aggregate-copy-in : tie.Need-slice-aggregate-copy-in
 slice-aggregate-copy-in c = search needs
 
--- src/lib.rt:336:5
 copy-in-requires : tie.Need-copy-in-requires
 copy-in-requires c κs = search needs
 
--- src/lib.rt:337:9
 fresh-requires : tie.Need-fresh-requires
 fresh-requires c κs = search needs
 
--- src/lib.rt:338:5
 done-requires : tie.Need-done-requires
 done-requires c κs = search needs
 
--- src/lib.rt:329:1
 same-length : tie.Need-same-length
 same-length c = search needs
 
--- src/lib.rt:329:1
 returns-2 : tie.Need-returns-2
 unfolding blankFile be32
-returns-2 c = (c .done .ensures ∙ blank-done _ _ _ (c .before .before .before .before .before .before .before .if1 .left) (c .before .fresh .ensures .0) (c .before .fresh .ensures .1), c .before .before .before .before .copy-in .ensures ∙ blank-written _ (c .before .before .before .before .before .before .before .if1 .left))
+returns-2 c = (
+  c .done .ensures ∙ blank-done _ _ _ (c .before .before .before .before .before .before .before .if1 .left) (c .before .fresh .ensures .0)
+      (c .before .fresh .ensures .1),
+  c .before .before .before .before .copy-in .ensures
+      ∙ blank-written _ (c .before .before .before .before .before .before .before .if1 .left),
+)
 
 pub blank-spec : {M : Type 1} → statement M
 blank-spec =

@@ -9,31 +9,27 @@ use Rattle.editor.proofs.link.Lts as lts
 use Rattle.editor.proofs.code_of.Reads as code-of-reads
 use Rattle.editor.proofs.link_entry.Reads as link-entry-reads
 
--- src/lib.rt:613:9
 code-of-requires : tie.Need-code-of-requires
 code-of-requires c κs = search needs
 
--- src/lib.rt:614:9
 code-of-requires-2 : tie.Need-code-of-requires-2
 code-of-requires-2 c κs = search needs
 
--- src/lib.rt:615:5
 link-entry-requires : tie.Need-link-entry-requires
 link-entry-requires c κs = search needs
 
--- src/lib.rt:600:1
 same-length : tie.Need-same-length
 same-length c = search needs
 
--- src/lib.rt:600:1
 same-length-2 : tie.Need-same-length-2
 same-length-2 c = search needs
 
--- src/lib.rt:600:1
 returns : tie.Need-returns
 returns c =
     let a = c .before .before .before .before .before .before .before .before .before .before .before .args in
-    called-as _ _ _ _ _ _ _ (λ i. edit (link (c .before .before .before .before .before .before .before .before .code-of .ensures i) (a .number) (c .before .before .before .before .before .before .before .code-of2 .ensures i) (a .chosen))) (c .before .before .before .before .link-entry .ensures)
+    called-as _ _ _ _ _ _ _ (λ i. edit (link (c .before .before .before .before .before .before .before .before .code-of .ensures i) (a .number)
+    (c .before .before .before .before .before .before .before .code-of2 .ensures i) (a .chosen)))
+    (c .before .before .before .before .link-entry .ensures)
 
 pub link-spec : {M : Type 1} → statement M
 link-spec =

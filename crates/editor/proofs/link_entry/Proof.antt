@@ -21,111 +21,160 @@ use Rattle.editor.proofs.link_plan.Reads as link-plan-reads
 use Rattle.moves.proofs.put_record.Reads as put-record-reads
 use Rattle.rewrite.proofs.insert_entry.Reads as insert-entry-reads
 
--- src/lib.rt:506:11
 link-plan-requires : tie.Need-link-plan-requires
 link-plan-requires c κs = search needs
 
--- src/lib.rt:517:23
 enum-known-k : tie.Need-enum-known-k
 enum-known-k c = search needs
 
--- src/lib.rt:517:36
 refused-requires : tie.Need-refused-requires
 refused-requires c κs = search needs
 
--- src/lib.rt:518:25
 enum-known-count : tie.Need-enum-known-count
 enum-known-count c = search needs
 
--- src/lib.rt:526:28
 add-t23 : tie.Need-add-t23
 add-t23 c =
     let a = c .before .before .before .before .before .before .before .before .args in
     let b = now (a .buf) in
-    let bytes : All Byte (take (a .len) b) = all-take Byte (a .len) b (bytes-all b (λ i. omega (arith, c .before .before .before .before .before .before .before .slice-known .given i))) in
-    omega (arith, start-small (a .profile) b (a .len) (length (now (a .jrn))) (a .used) (a .usage) (a .number) (a .alias) (a .chosen) bytes (c .before .before .count .given .0 .0) (c .before .before .count .given .0 .1 .0) (c .before .before .count .given .0 .1 .1 .0) (ready (a .profile) b (a .len) (length (now (a .jrn))) (a .used) (a .usage) (a .number) (a .alias) (a .chosen) bytes (c .before .before .count .given .0 .0) (c .before .before .count .given .0 .1 .0) (c .before .before .count .given .0 .1 .1 .0) (sym (c .before .before .before .before .link-plan .ensures) ∙ c .before .before .count .given .1)))
+    let bytes : All Byte (take (a .len) b) = all-take Byte (a .len) b
+    (bytes-all b (λ i. omega (arith, c .before .before .before .before .before .before .before .slice-known .given i))) in
+    omega (
+      arith,
+      start-small (a .profile) b (a .len) (length (now (a .jrn))) (a .used) (a .usage) (a .number) (a .alias) (a .chosen) bytes
+          (c .before .before .count .given .0 .0) (c .before .before .count .given .0 .1 .0) (c .before .before .count .given .0 .1 .1 .0)
+          (ready (a .profile) b (a .len) (length (now (a .jrn))) (a .used) (a .usage) (a .number) (a .alias) (a .chosen) bytes
+          (c .before .before .count .given .0 .0) (c .before .before .count .given .0 .1 .0) (c .before .before .count .given .0 .1 .1 .0)
+          (sym (c .before .before .before .before .link-plan .ensures) ∙ c .before .before .count .given .1)),
+    )
 
--- src/lib.rt:530:17
 sub-put-record : tie.Need-sub-put-record
 sub-put-record c = search needs
 
--- src/lib.rt:530:17
 part-put-record-start : tie.Need-part-put-record-start
 part-put-record-start c = search needs
 
--- src/lib.rt:530:17
 part-put-record-end : tie.Need-part-put-record-end
 part-put-record-end c = search needs
 
--- src/lib.rt:519:13
 put-record-requires : tie.Need-put-record-requires
 put-record-requires c κs =
     let a = c .before .before .before .before .before .before .before .before .before .before .args in
     let b = now (a .buf) in
-    let bytes : All Byte (take (a .len) b) = all-take Byte (a .len) b (bytes-all b (λ i. omega (arith, c .before .before .before .before .before .before .before .before .before .slice-known .given i))) in
-    ready (a .profile) b (a .len) (length (now (a .jrn))) (a .used) (a .usage) (a .number) (a .alias) (a .chosen) bytes (c .before .before .before .before .count .given .0 .0) (c .before .before .before .before .count .given .0 .1 .0) (c .before .before .before .before .count .given .0 .1 .1 .0) (sym (c .before .before .before .before .before .before .link-plan .ensures) ∙ c .before .before .before .before .count .given .1) .journal-room
+    let bytes : All Byte (take (a .len) b) = all-take Byte (a .len) b
+    (bytes-all b (λ i. omega (arith, c .before .before .before .before .before .before .before .before .before .slice-known .given i))) in
+    ready (a .profile) b (a .len) (length (now (a .jrn))) (a .used) (a .usage) (a .number) (a .alias) (a .chosen) bytes
+    (c .before .before .before .before .count .given .0 .0) (c .before .before .before .before .count .given .0 .1 .0)
+    (c .before .before .before .before .count .given .0 .1 .1 .0) (sym (c .before .before .before .before .before .before .link-plan .ensures)
+    ∙ c .before .before .before .before .count .given .1) .journal-room
 
--- src/lib.rt:532:59
 cast-insert-entry : tie.Need-cast-insert-entry
 cast-insert-entry c = search needs
 
--- src/lib.rt:532:13
 insert-entry-requires : tie.Need-insert-entry-requires
 insert-entry-requires c κs =
     let a = c .before .before .before .before .before .before .before .before .before .before .before .before .before .before .args in
     let b = now (a .buf) in
-    let bytes : All Byte (take (a .len) b) = all-take Byte (a .len) b (bytes-all b (λ i. omega (arith, c .before .before .before .before .before .before .before .before .before .before .before .before .before .slice-known .given i))) in
-    insertable (a .profile) b (a .len) (length (now (a .jrn))) (a .used) (a .usage) (a .number) (a .alias) (a .chosen) bytes (c .before .before .before .before .before .before .before .before .count .given .0 .0) (c .before .before .before .before .before .before .before .before .count .given .0 .1 .0) (c .before .before .before .before .before .before .before .before .count .given .0 .1 .1 .0) (ready (a .profile) b (a .len) (length (now (a .jrn))) (a .used) (a .usage) (a .number) (a .alias) (a .chosen) bytes (c .before .before .before .before .before .before .before .before .count .given .0 .0) (c .before .before .before .before .before .before .before .before .count .given .0 .1 .0) (c .before .before .before .before .before .before .before .before .count .given .0 .1 .1 .0) (sym (c .before .before .before .before .before .before .before .before .before .before .link-plan .ensures) ∙ c .before .before .before .before .before .before .before .before .count .given .1))
+    let bytes : All Byte (take (a .len) b) = all-take Byte (a .len) b
+    (bytes-all b (λ i. omega (
+      arith,
+      c .before .before .before .before .before .before .before .before .before .before .before .before .before .slice-known .given i,
+    ))) in
+    insertable (a .profile) b (a .len) (length (now (a .jrn))) (a .used) (a .usage) (a .number) (a .alias) (a .chosen) bytes
+    (c .before .before .before .before .before .before .before .before .count .given .0 .0)
+    (c .before .before .before .before .before .before .before .before .count .given .0 .1 .0)
+    (c .before .before .before .before .before .before .before .before .count .given .0 .1 .1 .0) (ready (a .profile) b (a .len) (length (now (a .jrn)))
+    (a .used) (a .usage) (a .number) (a .alias) (a .chosen) bytes (c .before .before .before .before .before .before .before .before .count .given .0 .0)
+    (c .before .before .before .before .before .before .before .before .count .given .0 .1 .0)
+    (c .before .before .before .before .before .before .before .before .count .given .0 .1 .1 .0)
+    (sym (c .before .before .before .before .before .before .before .before .before .before .link-plan .ensures)
+    ∙ c .before .before .before .before .before .before .before .before .count .given .1))
 
--- src/lib.rt:533:26
 add-done : tie.Need-add-done
 add-done c =
     let a = c .before .before .before .before .before .before .before .before .before .before .before .before .before .before .before .before .before .args in
     let b = now (a .buf) in
-    let bytes : All Byte (take (a .len) b) = all-take Byte (a .len) b (bytes-all b (λ i. omega (arith, c .before .before .before .before .before .before .before .before .before .before .before .before .before .before .before .before .slice-known .given i))) in
-    omega (arith, ready (a .profile) b (a .len) (length (now (a .jrn))) (a .used) (a .usage) (a .number) (a .alias) (a .chosen) bytes (c .before .before .before .before .before .before .before .before .before .before .before .count .given .0 .0) (c .before .before .before .before .before .before .before .before .before .before .before .count .given .0 .1 .0) (c .before .before .before .before .before .before .before .before .before .before .before .count .given .0 .1 .1 .0) (sym (c .before .before .before .before .before .before .before .before .before .before .before .before .before .link-plan .ensures) ∙ c .before .before .before .before .before .before .before .before .before .before .before .count .given .1) .short)
+    let bytes : All Byte (take (a .len) b) = all-take Byte (a .len) b
+    (bytes-all b (λ i. omega (
+      arith,
+      c .before .before .before .before .before .before .before .before .before .before .before .before .before .before .before .before .slice-known .given
+          i,
+    ))) in
+    omega (
+      arith,
+      ready (a .profile) b (a .len) (length (now (a .jrn))) (a .used) (a .usage) (a .number) (a .alias) (a .chosen) bytes
+          (c .before .before .before .before .before .before .before .before .before .before .before .count .given .0 .0)
+          (c .before .before .before .before .before .before .before .before .before .before .before .count .given .0 .1 .0)
+          (c .before .before .before .before .before .before .before .before .before .before .before .count .given .0 .1 .1 .0)
+          (sym (c .before .before .before .before .before .before .before .before .before .before .before .before .before .link-plan .ensures)
+          ∙ c .before .before .before .before .before .before .before .before .before .before .before .count .given .1) .short,
+    )
 
--- src/lib.rt:533:36
 add-done-2 : tie.Need-add-done-2
 add-done-2 c =
     let a = c .before .before .before .before .before .before .before .before .before .before .before .before .before .before .before .before .before .args in
     let b = now (a .buf) in
-    let bytes : All Byte (take (a .len) b) = all-take Byte (a .len) b (bytes-all b (λ i. omega (arith, c .before .before .before .before .before .before .before .before .before .before .before .before .before .before .before .before .slice-known .given i))) in
-    omega (arith, ready (a .profile) b (a .len) (length (now (a .jrn))) (a .used) (a .usage) (a .number) (a .alias) (a .chosen) bytes (c .before .before .before .before .before .before .before .before .before .before .before .count .given .0 .0) (c .before .before .before .before .before .before .before .before .before .before .before .count .given .0 .1 .0) (c .before .before .before .before .before .before .before .before .before .before .before .count .given .0 .1 .1 .0) (sym (c .before .before .before .before .before .before .before .before .before .before .before .before .before .link-plan .ensures) ∙ c .before .before .before .before .before .before .before .before .before .before .before .count .given .1) .journal-room, c .before .before .before .before .before .before .before .before .before .before .before .before .before .before .before .before .before .good, c .before .before .before .before .before .before .before .before .before .before .before .before .before .before .before .before .before .fits)
+    let bytes : All Byte (take (a .len) b) = all-take Byte (a .len) b
+    (bytes-all b (λ i. omega (
+      arith,
+      c .before .before .before .before .before .before .before .before .before .before .before .before .before .before .before .before .slice-known .given
+          i,
+    ))) in
+    omega (
+      arith,
+      ready (a .profile) b (a .len) (length (now (a .jrn))) (a .used) (a .usage) (a .number) (a .alias) (a .chosen) bytes
+          (c .before .before .before .before .before .before .before .before .before .before .before .count .given .0 .0)
+          (c .before .before .before .before .before .before .before .before .before .before .before .count .given .0 .1 .0)
+          (c .before .before .before .before .before .before .before .before .before .before .before .count .given .0 .1 .1 .0)
+          (sym (c .before .before .before .before .before .before .before .before .before .before .before .before .before .link-plan .ensures)
+          ∙ c .before .before .before .before .before .before .before .before .before .before .before .count .given .1) .journal-room,
+      c .before .before .before .before .before .before .before .before .before .before .before .before .before .before .before .before .before .good,
+      c .before .before .before .before .before .before .before .before .before .before .before .before .before .before .before .before .before .fits,
+    )
 
--- src/lib.rt:533:13
 done-requires : tie.Need-done-requires
 done-requires c κs = search needs
 
--- src/lib.rt:493:1
 same-length : tie.Need-same-length
 same-length c = search needs
 
--- src/lib.rt:493:1
 returns : tie.Need-returns
 unfolding fault
 returns c =
     let a = c .before .before .before .before .before .before .before .before .args in
-    gave-refused (a .profile) (state (now (a .buf)) (a .len) (now (a .jrn)) (a .used)) (edit (link (a .usage) (a .number) (a .alias) (a .chosen))) (c .refused .result)
+    gave-refused (a .profile) (state (now (a .buf)) (a .len) (now (a .jrn)) (a .used)) (edit (link (a .usage) (a .number) (a .alias) (a .chosen)))
+    (c .refused .result)
     (c .before .before .k .given .0 .0) (c .before .before .k .given .0 .1 .0) (c .refused .ensures)
     (linking-no _ _ _ _ _ _ (sym (c .before .before .before .before .link-plan .ensures) ∙ c .before .before .k .given .1))
 
--- src/lib.rt:493:1
 same-length-2 : tie.Need-same-length-2
 same-length-2 c = search needs
 
--- src/lib.rt:493:1
 same-length-3 : tie.Need-same-length-3
 same-length-3 c = search needs
 
--- src/lib.rt:493:1
 returns-2 : tie.Need-returns-2
 returns-2 c =
-    let a = c .before .before .before .before .before .before .before .before .before .before .before .before .before .before .before .before .before .before .args in
+    let a = c .before .before .before .before .before .before .before .before .before .before .before .before .before .before .before .before .before
+    .before .args in
     let b = now (a .buf) in
-    let bytes : All Byte (take (a .len) b) = all-take Byte (a .len) b (bytes-all b (λ i. omega (arith, c .before .before .before .before .before .before .before .before .before .before .before .before .before .before .before .before .before .slice-known .given i))) in
-    made (a .profile) b (now (a .jrn)) (a .len) (a .used) (a .usage) (a .number) (a .alias) (a .chosen) bytes (c .before .before .before .before .before .before .before .before .before .before .before .before .count .given .0 .0) (c .before .before .before .before .before .before .before .before .before .before .before .before .count .given .0 .1 .0) (c .before .before .before .before .before .before .before .before .before .before .before .before .count .given .0 .1 .1 .0)
-    (ready (a .profile) b (a .len) (length (now (a .jrn))) (a .used) (a .usage) (a .number) (a .alias) (a .chosen) bytes (c .before .before .before .before .before .before .before .before .before .before .before .before .count .given .0 .0) (c .before .before .before .before .before .before .before .before .before .before .before .before .count .given .0 .1 .0) (c .before .before .before .before .before .before .before .before .before .before .before .before .count .given .0 .1 .1 .0) (sym (c .before .before .before .before .before .before .before .before .before .before .before .before .before .before .link-plan .ensures) ∙ c .before .before .before .before .before .before .before .before .before .before .before .before .count .given .1)) (c .done .result) _ _ (c .done .ensures) (c .before .before .before .insert-entry .ensures) (c .before .before .before .before .before .before .before .put-record .ensures)
+    let bytes : All Byte (take (a .len) b) = all-take Byte (a .len) b
+    (bytes-all b (λ i. omega (
+      arith,
+      c .before .before .before .before .before .before .before .before .before .before .before .before .before .before .before .before .before
+          .slice-known .given i,
+    ))) in
+    made (a .profile) b (now (a .jrn)) (a .len) (a .used) (a .usage) (a .number) (a .alias) (a .chosen) bytes
+    (c .before .before .before .before .before .before .before .before .before .before .before .before .count .given .0 .0)
+    (c .before .before .before .before .before .before .before .before .before .before .before .before .count .given .0 .1 .0)
+    (c .before .before .before .before .before .before .before .before .before .before .before .before .count .given .0 .1 .1 .0)
+    (ready (a .profile) b (a .len) (length (now (a .jrn))) (a .used) (a .usage) (a .number) (a .alias) (a .chosen) bytes
+    (c .before .before .before .before .before .before .before .before .before .before .before .before .count .given .0 .0)
+    (c .before .before .before .before .before .before .before .before .before .before .before .before .count .given .0 .1 .0)
+    (c .before .before .before .before .before .before .before .before .before .before .before .before .count .given .0 .1 .1 .0)
+    (sym (c .before .before .before .before .before .before .before .before .before .before .before .before .before .before .link-plan .ensures)
+    ∙ c .before .before .before .before .before .before .before .before .before .before .before .before .count .given .1)) (c .done .result) _ _
+    (c .done .ensures) (c .before .before .before .insert-entry .ensures) (c .before .before .before .before .before .before .before .put-record .ensures)
 
 pub link-entry-spec : {M : Type 1} → statement M
 link-entry-spec =

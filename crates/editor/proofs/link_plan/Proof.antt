@@ -18,119 +18,166 @@ use Rattle.editor.proofs.with_room.Reads as with-room-reads
 use Rattle.linking.proofs.link_fault.Reads as link-fault-reads
 use Rattle.linking.proofs.link_place.Reads as link-place-reads
 
--- src/lib.rt:459:11
 opened-requires : tie.Need-opened-requires
 opened-requires c κs = search needs
 
--- src/lib.rt:460:39
 enum-known-k : tie.Need-enum-known-k
 enum-known-k c = search needs
 
--- src/lib.rt:461:27
 enum-known-facts : tie.Need-enum-known-facts
 enum-known-facts c = search needs
 
--- src/lib.rt:463:28
 enum-known-target : tie.Need-enum-known-target
 enum-known-target c = search needs
 
--- src/lib.rt:464:17
 enum-told : tie.Need-enum-told
 enum-told c = search needs
 
--- src/lib.rt:464:17
 returns : tie.Need-returns
 returns c =
     let a = c .before .before .before .before .before .before .before .args in
     let b = now (a .buf) in
-    let bytes : All Byte (take (a .len) b) = all-take Byte (a .len) b (bytes-all b (λ i. omega (arith, c .before .before .before .before .before .before .shared-slice-known .given i))) in
-    plan-22 (a .profile) b (a .len) (a .room) (a .used) (a .usage) (a .number) (a .alias) (a .chosen) bytes 0 (c .before .before .before .facts .given .0 .0) (sym (c .before .before .before .before .before .opened .ensures) ∙ c .before .before .before .facts .given .1) (c .enum-told .given .1)
+    let bytes : All Byte (take (a .len) b) = all-take Byte (a .len) b
+    (bytes-all b (λ i. omega (arith, c .before .before .before .before .before .before .shared-slice-known .given i))) in
+    plan-22 (a .profile) b (a .len) (a .room) (a .used) (a .usage) (a .number) (a .alias) (a .chosen) bytes 0 (c .before .before .before .facts .given .0 .0)
+    (sym (c .before .before .before .before .before .opened .ensures) ∙ c .before .before .before .facts .given .1) (c .enum-told .given .1)
 
--- src/lib.rt:467:45
 slice-aggregate-link-place : tie.Need-slice-aggregate-link-place
 slice-aggregate-link-place c =
     let a = c .before .before .before .before .before .before .before .before .before .args in
     let b = now (a .buf) in
-    let bytes : All Byte (take (a .len) b) = all-take Byte (a .len) b (bytes-all b (λ i. omega (arith, c .before .before .before .before .before .before .before .before .shared-slice-known .given i))) in
-    sym (length-take-le (a .len) b (told (a .profile) b (a .len) (a .room) (a .used) (a .usage) (a .number) (a .alias) (a .chosen) bytes 0 (c .before .before .before .before .before .facts .given .0 .0) (sym (c .before .before .before .before .before .before .before .opened .ensures) ∙ c .before .before .before .before .before .facts .given .1) (c .before .before .target .given .0 .0) (c .before .before .target .given .1) .found .stands .inside))
+    let bytes : All Byte (take (a .len) b) = all-take Byte (a .len) b
+    (bytes-all b (λ i. omega (arith, c .before .before .before .before .before .before .before .before .shared-slice-known .given i))) in
+    sym (length-take-le (a .len) b (told (a .profile) b (a .len) (a .room) (a .used) (a .usage) (a .number) (a .alias) (a .chosen) bytes 0
+    (c .before .before .before .before .before .facts .given .0 .0) (sym (c .before .before .before .before .before .before .before .opened .ensures)
+    ∙ c .before .before .before .before .before .facts .given .1) (c .before .before .target .given .0 .0)
+    (c .before .before .target .given .1) .found .stands .inside))
 
--- src/lib.rt:467:17
 link-place-requires : tie.Need-link-place-requires
 link-place-requires c κs =
     let a = c .before .before .before .before .before .before .before .before .before .args in
     let b = now (a .buf) in
-    let bytes : All Byte (take (a .len) b) = all-take Byte (a .len) b (bytes-all b (λ i. omega (arith, c .before .before .before .before .before .before .before .before .shared-slice-known .given i))) in
-    told-original (a .profile) b (a .len) (a .room) (a .used) (a .usage) (a .number) (a .alias) (a .chosen) bytes 0 (c .before .before .before .before .before .facts .given .0 .0) (sym (c .before .before .before .before .before .before .before .opened .ensures) ∙ c .before .before .before .before .before .facts .given .1) (c .before .before .target .given .0 .0) (c .before .before .target .given .1)
+    let bytes : All Byte (take (a .len) b) = all-take Byte (a .len) b
+    (bytes-all b (λ i. omega (arith, c .before .before .before .before .before .before .before .before .shared-slice-known .given i))) in
+    told-original (a .profile) b (a .len) (a .room) (a .used) (a .usage) (a .number) (a .alias) (a .chosen) bytes 0
+    (c .before .before .before .before .before .facts .given .0 .0) (sym (c .before .before .before .before .before .before .before .opened .ensures)
+    ∙ c .before .before .before .before .before .facts .given .1) (c .before .before .target .given .0 .0) (c .before .before .target .given .1)
 
--- src/lib.rt:469:17
 slice-aggregate-link-fault : tie.Need-slice-aggregate-link-fault
 slice-aggregate-link-fault c =
     let a = c .before .before .before .before .before .before .before .before .before .before .before .args in
     let b = now (a .buf) in
-    let bytes : All Byte (take (a .len) b) = all-take Byte (a .len) b (bytes-all b (λ i. omega (arith, c .before .before .before .before .before .before .before .before .before .before .shared-slice-known .given i))) in
-    sym (length-take-le (a .len) b (told (a .profile) b (a .len) (a .room) (a .used) (a .usage) (a .number) (a .alias) (a .chosen) bytes 0 (c .before .before .before .before .before .before .before .facts .given .0 .0) (sym (c .before .before .before .before .before .before .before .before .before .opened .ensures) ∙ c .before .before .before .before .before .before .before .facts .given .1) (c .before .before .before .before .target .given .0 .0) (c .before .before .before .before .target .given .1) .found .stands .inside))
+    let bytes : All Byte (take (a .len) b) = all-take Byte (a .len) b
+    (bytes-all b (λ i. omega (arith, c .before .before .before .before .before .before .before .before .before .before .shared-slice-known .given i))) in
+    sym (length-take-le (a .len) b (told (a .profile) b (a .len) (a .room) (a .used) (a .usage) (a .number) (a .alias) (a .chosen) bytes 0
+    (c .before .before .before .before .before .before .before .facts .given .0 .0)
+    (sym (c .before .before .before .before .before .before .before .before .before .opened .ensures)
+    ∙ c .before .before .before .before .before .before .before .facts .given .1) (c .before .before .before .before .target .given .0 .0)
+    (c .before .before .before .before .target .given .1) .found .stands .inside))
 
--- src/lib.rt:468:17
 link-fault-requires : tie.Need-link-fault-requires
 link-fault-requires c κs =
     let a = c .before .before .before .before .before .before .before .before .before .before .before .args in
     let b = now (a .buf) in
-    let bytes : All Byte (take (a .len) b) = all-take Byte (a .len) b (bytes-all b (λ i. omega (arith, c .before .before .before .before .before .before .before .before .before .before .shared-slice-known .given i))) in
-    told-place (a .profile) b (a .len) (a .room) (a .used) (a .usage) (a .number) (a .alias) (a .chosen) bytes 0 (c .before .before .before .before .before .before .before .facts .given .0 .0) (sym (c .before .before .before .before .before .before .before .before .before .opened .ensures) ∙ c .before .before .before .before .before .before .before .facts .given .1) (c .before .before .before .before .target .given .0 .0) (c .before .before .before .before .target .given .1) _ (c .before .link-place .ensures)
+    let bytes : All Byte (take (a .len) b) = all-take Byte (a .len) b
+    (bytes-all b (λ i. omega (arith, c .before .before .before .before .before .before .before .before .before .before .shared-slice-known .given i))) in
+    told-place (a .profile) b (a .len) (a .room) (a .used) (a .usage) (a .number) (a .alias) (a .chosen) bytes 0
+    (c .before .before .before .before .before .before .before .facts .given .0 .0)
+    (sym (c .before .before .before .before .before .before .before .before .before .opened .ensures)
+    ∙ c .before .before .before .before .before .before .before .facts .given .1) (c .before .before .before .before .target .given .0 .0)
+    (c .before .before .before .before .target .given .1) _ (c .before .link-place .ensures)
 
--- src/lib.rt:477:37
 add-with-room : tie.Need-add-with-room
 add-with-room c =
     let a = c .before .before .before .before .before .before .before .before .before .before .before .before .args in
     let b = now (a .buf) in
-    let bytes : All Byte (take (a .len) b) = all-take Byte (a .len) b (bytes-all b (λ i. omega (arith, c .before .before .before .before .before .before .before .before .before .before .before .shared-slice-known .given i))) in
-    omega (arith, told (a .profile) b (a .len) (a .room) (a .used) (a .usage) (a .number) (a .alias) (a .chosen) bytes 0 (c .before .before .before .before .before .before .before .before .facts .given .0 .0) (sym (c .before .before .before .before .before .before .before .before .before .before .opened .ensures) ∙ c .before .before .before .before .before .before .before .before .facts .given .1) (c .before .before .before .before .before .target .given .0 .0) (c .before .before .before .before .before .target .given .1) .found .stands .short)
+    let bytes : All Byte (take (a .len) b) = all-take Byte (a .len) b
+    (bytes-all b (λ i. omega (
+      arith,
+      c .before .before .before .before .before .before .before .before .before .before .before .shared-slice-known .given
+          i,
+    ))) in
+    omega (
+      arith,
+      told (a .profile) b (a .len) (a .room) (a .used) (a .usage) (a .number) (a .alias) (a .chosen) bytes 0
+          (c .before .before .before .before .before .before .before .before .facts .given .0 .0)
+          (sym (c .before .before .before .before .before .before .before .before .before .before .opened .ensures)
+          ∙ c .before .before .before .before .before .before .before .before .facts .given .1)
+          (c .before .before .before .before .before .target .given .0 .0) (c .before .before .before .before .before .target .given .1) .found .stands .short,
+    )
 
--- src/lib.rt:477:62
 sub-with-room : tie.Need-sub-with-room
 sub-with-room c =
     let a = c .before .before .before .before .before .before .before .before .before .before .before .before .args in
     let b = now (a .buf) in
-    let bytes : All Byte (take (a .len) b) = all-take Byte (a .len) b (bytes-all b (λ i. omega (arith, c .before .before .before .before .before .before .before .before .before .before .before .shared-slice-known .given i))) in
-    told (a .profile) b (a .len) (a .room) (a .used) (a .usage) (a .number) (a .alias) (a .chosen) bytes 0 (c .before .before .before .before .before .before .before .before .facts .given .0 .0) (sym (c .before .before .before .before .before .before .before .before .before .before .opened .ensures) ∙ c .before .before .before .before .before .before .before .before .facts .given .1) (c .before .before .before .before .before .target .given .0 .0) (c .before .before .before .before .before .target .given .1) .found .used-in
+    let bytes : All Byte (take (a .len) b) = all-take Byte (a .len) b
+    (bytes-all b (λ i. omega (
+      arith,
+      c .before .before .before .before .before .before .before .before .before .before .before .shared-slice-known .given
+          i,
+    ))) in
+    told (a .profile) b (a .len) (a .room) (a .used) (a .usage) (a .number) (a .alias) (a .chosen) bytes 0
+    (c .before .before .before .before .before .before .before .before .facts .given .0 .0)
+    (sym (c .before .before .before .before .before .before .before .before .before .before .opened .ensures)
+    ∙ c .before .before .before .before .before .before .before .before .facts .given .1)
+    (c .before .before .before .before .before .target .given .0 .0) (c .before .before .before .before .before .target .given .1) .found .used-in
 
--- src/lib.rt:477:19
 with-room-requires : tie.Need-with-room-requires
 with-room-requires c κs = search needs
 
--- src/lib.rt:479:29
 enum-known-k-2 : tie.Need-enum-known-k-2
 enum-known-k-2 c = search needs
 
--- src/lib.rt:482:43
 enum-told-2 : tie.Need-enum-told-2
 enum-told-2 c = search needs
 
--- src/lib.rt:446:1
 returns-2 : tie.Need-returns-2
 returns-2 c =
     let a = c .before .before .before .before .before .args in
     let b = now (a .buf) in
-    let bytes : All Byte (take (a .len) b) = all-take Byte (a .len) b (bytes-all b (λ i. omega (arith, c .before .before .before .before .shared-slice-known .given i))) in
-    plan-unopened (a .profile) b (a .len) (a .room) (a .used) (a .usage) (a .number) (a .alias) (a .chosen) bytes 0 (c .before .k .given .0 .0) (c .before .k .given .0 .1 .0) (sym (c .before .before .before .opened .ensures) ∙ c .before .k .given .1)
+    let bytes : All Byte (take (a .len) b) = all-take Byte (a .len) b
+    (bytes-all b (λ i. omega (arith, c .before .before .before .before .shared-slice-known .given i))) in
+    plan-unopened (a .profile) b (a .len) (a .room) (a .used) (a .usage) (a .number) (a .alias) (a .chosen) bytes 0 (c .before .k .given .0 .0)
+    (c .before .k .given .0 .1 .0) (sym (c .before .before .before .opened .ensures) ∙ c .before .k .given .1)
 
--- src/lib.rt:446:1
 returns-3 : tie.Need-returns-3
 returns-3 c =
     let a = c .before .before .before .before .before .before .before .before .before .before .before .before .before .before .before .before .args in
     let b = now (a .buf) in
-    let bytes : All Byte (take (a .len) b) = all-take Byte (a .len) b (bytes-all b (λ i. omega (arith, c .before .before .before .before .before .before .before .before .before .before .before .before .before .before .before .shared-slice-known .given i))) in
-    plan-refused (a .profile) b (a .len) (a .room) (a .used) (a .usage) (a .number) (a .alias) (a .chosen) bytes 0 (c .before .before .before .before .before .before .before .before .before .before .before .before .facts .given .0 .0) (sym (c .before .before .before .before .before .before .before .before .before .before .before .before .before .before .opened .ensures) ∙ c .before .before .before .before .before .before .before .before .before .before .before .before .facts .given .1) (c .before .before .before .before .before .before .before .before .before .target .given .0 .0) (c .before .before .before .before .before .before .before .before .before .target .given .1) (c .before .before .before .before .before .before .link-place .result) (c .before .before .before .before .before .before .link-place .ensures .0) (c .before .before .before .before .link-fault .result) (c .before .before .before .with-room .result)
+    let bytes : All Byte (take (a .len) b) = all-take Byte (a .len) b
+    (bytes-all b (λ i. omega (
+      arith,
+      c .before .before .before .before .before .before .before .before .before .before .before .before .before .before .before .shared-slice-known .given
+          i,
+    ))) in
+    plan-refused (a .profile) b (a .len) (a .room) (a .used) (a .usage) (a .number) (a .alias) (a .chosen) bytes 0
+    (c .before .before .before .before .before .before .before .before .before .before .before .before .facts .given .0 .0)
+    (sym (c .before .before .before .before .before .before .before .before .before .before .before .before .before .before .opened .ensures)
+    ∙ c .before .before .before .before .before .before .before .before .before .before .before .before .facts .given .1)
+    (c .before .before .before .before .before .before .before .before .before .target .given .0 .0)
+    (c .before .before .before .before .before .before .before .before .before .target .given .1)
+    (c .before .before .before .before .before .before .link-place .result) (c .before .before .before .before .before .before .link-place .ensures .0)
+    (c .before .before .before .before .link-fault .result) (c .before .before .before .with-room .result)
     (c .before .before .before .before .link-fault .ensures) (c .before .before .before .with-room .ensures)
     (c .before .k2 .given .0 .0) (c .before .k2 .given .0 .1 .0) (c .before .k2 .given .1)
 
--- src/lib.rt:446:1
 returns-4 : tie.Need-returns-4
 returns-4 c =
     let a = c .before .before .before .before .before .before .before .before .before .before .before .before .before .before .before .args in
     let b = now (a .buf) in
-    let bytes : All Byte (take (a .len) b) = all-take Byte (a .len) b (bytes-all b (λ i. omega (arith, c .before .before .before .before .before .before .before .before .before .before .before .before .before .before .shared-slice-known .given i))) in
-    plan-fine (a .profile) b (a .len) (a .room) (a .used) (a .usage) (a .number) (a .alias) (a .chosen) bytes 0 (c .before .before .before .before .before .before .before .before .before .before .before .facts .given .0 .0) (sym (c .before .before .before .before .before .before .before .before .before .before .before .before .before .opened .ensures) ∙ c .before .before .before .before .before .before .before .before .before .before .before .facts .given .1) (c .before .before .before .before .before .before .before .before .target .given .0 .0) (c .before .before .before .before .before .before .before .before .target .given .1) (c .before .before .before .before .before .link-place .result) (c .before .before .before .before .before .link-place .ensures .0) (c .before .before .before .link-fault .result) (c .before .before .with-room .result)
+    let bytes : All Byte (take (a .len) b) = all-take Byte (a .len) b
+    (bytes-all b (λ i. omega (
+      arith,
+      c .before .before .before .before .before .before .before .before .before .before .before .before .before .before .shared-slice-known .given i,
+    ))) in
+    plan-fine (a .profile) b (a .len) (a .room) (a .used) (a .usage) (a .number) (a .alias) (a .chosen) bytes 0
+    (c .before .before .before .before .before .before .before .before .before .before .before .facts .given .0 .0)
+    (sym (c .before .before .before .before .before .before .before .before .before .before .before .before .before .opened .ensures)
+    ∙ c .before .before .before .before .before .before .before .before .before .before .before .facts .given .1)
+    (c .before .before .before .before .before .before .before .before .target .given .0 .0)
+    (c .before .before .before .before .before .before .before .before .target .given .1) (c .before .before .before .before .before .link-place .result)
+    (c .before .before .before .before .before .link-place .ensures .0) (c .before .before .before .link-fault .result)
+    (c .before .before .with-room .result)
     (c .before .before .before .link-fault .ensures) (c .before .before .with-room .ensures)
     (c .enum-told2 .given .1)
 

@@ -17,7 +17,8 @@ returns : tie.Need-returns
 returns c =
     let a = c .before .before .args in
     let f = take (a .len) (now (a .buf)) in
-    opened-unknown (a .profile) (a .len) (length (now (a .buf))) (a .used) (a .room) (verdict (rulesOf (a .profile)) f) (model f) (a .usage) (a .number) (a .at) (c .if1 .taken)
+    opened-unknown (a .profile) (a .len) (length (now (a .buf))) (a .used) (a .room) (verdict (rulesOf (a .profile)) f) (model f) (a .usage) (a .number)
+    (a .at) (c .if1 .taken)
 
 returns-2 : tie.Need-returns-2
 returns-2 c =
@@ -44,7 +45,8 @@ returns-4 c =
     let a = c .before .before .before .before .before .before .args in
     let f = take (a .len) (now (a .buf)) in
     c .inspect .ensures
-    ∙ ap (λ (v : Verdict). inspectionOf v (model f) (a .usage) (a .number) (a .at)) (profile-known (a .profile) f (le-leb _ _ (c .before .before .before .before .if1 .left)))
+    ∙ ap (λ (v : Verdict). inspectionOf v (model f) (a .usage) (a .number) (a .at))
+    (profile-known (a .profile) f (le-leb _ _ (c .before .before .before .before .if1 .left)))
     ∙ opened-third (a .profile) (a .len) (length (now (a .buf))) (a .used) (a .room) (verdict (rulesOf (a .profile)) f) (model f) (a .usage) (a .number) (a .at)
     (c .before .before .before .before .if1 .left) (c .before .before .before .if2 .left) (c .before .before .if3 .left)
 

@@ -5,27 +5,23 @@ use borrow.Author.Needs.{needs}
 use Rattle.editor.proofs.remove.Statement.{statement}
 use Rattle.editor.proofs.remove.Tie as tie
 
--- src/lib.rt:313:9
 code-of-requires : tie.Need-code-of-requires
 code-of-requires c κs = search needs
 
--- src/lib.rt:314:5
 remove-entry-requires : tie.Need-remove-entry-requires
 remove-entry-requires c κs = search needs
 
--- src/lib.rt:310:1
 same-length : tie.Need-same-length
 same-length c = search needs
 
--- src/lib.rt:310:1
 same-length-2 : tie.Need-same-length-2
 same-length-2 c = search needs
 
--- src/lib.rt:310:1
 returns : tie.Need-returns
 returns c =
     let a = c .before .before .before .before .before .before .before .before .before .before .args in
-    called-as _ _ _ _ _ _ _ (λ i. edit (remove (c .before .before .before .before .before .before .before .code-of .ensures i) (a .number))) (c .before .before .before .before .remove-entry .ensures)
+    called-as _ _ _ _ _ _ _ (λ i. edit (remove (c .before .before .before .before .before .before .before .code-of .ensures i) (a .number)))
+    (c .before .before .before .before .remove-entry .ensures)
 
 pub remove-spec : {M : Type 1} → statement M
 remove-spec =

@@ -12,136 +12,185 @@ use borrow.Author.Needs.{needs}
 use Rattle.editor.proofs.remove_plan.Statement.{statement}
 use Rattle.editor.proofs.remove_plan.Tie as tie
 
--- src/lib.rt:168:11
 opened-requires : tie.Need-opened-requires
 opened-requires c κs = search needs
 
--- src/lib.rt:169:39
 enum-known-k : tie.Need-enum-known-k
 enum-known-k c = search needs
 
--- src/lib.rt:170:27
 enum-known-facts : tie.Need-enum-known-facts
 enum-known-facts c = search needs
 
--- src/lib.rt:172:28
 enum-known-target : tie.Need-enum-known-target
 enum-known-target c = search needs
 
--- src/lib.rt:173:17
 enum-told : tie.Need-enum-told
 enum-told c = search needs
 
--- src/lib.rt:173:17
 returns : tie.Need-returns
 returns c =
     let a = c .before .before .before .before .before .before .before .args in
     let b = now (a .buf) in
-    let bytes : All Byte (take (a .len) b) = all-take Byte (a .len) b (bytes-all b (λ i. omega (arith, c .before .before .before .before .before .before .shared-slice-known .given i))) in
-    plan-22 (a .profile) b (a .len) (a .room) (a .used) (a .usage) (a .number) bytes 0 (c .before .before .before .facts .given .0 .0) (sym (c .before .before .before .before .before .opened .ensures) ∙ c .before .before .before .facts .given .1) (c .enum-told .given .1)
+    let bytes : All Byte (take (a .len) b) = all-take Byte (a .len) b
+    (bytes-all b (λ i. omega (arith, c .before .before .before .before .before .before .shared-slice-known .given i))) in
+    plan-22 (a .profile) b (a .len) (a .room) (a .used) (a .usage) (a .number) bytes 0 (c .before .before .before .facts .given .0 .0)
+    (sym (c .before .before .before .before .before .opened .ensures) ∙ c .before .before .before .facts .given .1) (c .enum-told .given .1)
 
--- src/lib.rt:175:17
 gone-size-requires : tie.Need-gone-size-requires
 gone-size-requires c κs =
     let a = c .before .before .before .before .before .before .before .before .args in
     let b = now (a .buf) in
-    let bytes : All Byte (take (a .len) b) = all-take Byte (a .len) b (bytes-all b (λ i. omega (arith, c .before .before .before .before .before .before .before .shared-slice-known .given i))) in
-    let w = told (a .profile) b (a .len) (a .room) (a .used) (a .usage) (a .number) bytes 0 (c .before .before .before .before .facts .given .0 .0) (sym (c .before .before .before .before .before .before .opened .ensures) ∙ c .before .before .before .before .facts .given .1) (c .before .target .given .0 .0) (c .before .target .given .1) in
+    let bytes : All Byte (take (a .len) b) = all-take Byte (a .len) b
+    (bytes-all b (λ i. omega (arith, c .before .before .before .before .before .before .before .shared-slice-known .given i))) in
+    let w = told (a .profile) b (a .len) (a .room) (a .used) (a .usage) (a .number) bytes 0 (c .before .before .before .before .facts .given .0 .0)
+    (sym (c .before .before .before .before .before .before .opened .ensures) ∙ c .before .before .before .before .facts .given .1)
+    (c .before .target .given .0 .0) (c .before .target .given .1) in
     body-short (a .profile) b (a .len) (a .room) (a .used) (a .usage) (a .number) bytes (c .before .target .given .0 .0) (w .found) (w .piece-is)
 
--- src/lib.rt:176:24
 kept-number-requires : tie.Need-kept-number-requires
 kept-number-requires c κs = search needs
 
--- src/lib.rt:176:24
 cast-body : tie.Need-cast-body
 cast-body c = search needs
 
--- src/lib.rt:178:46
 slice-aggregate-remove-fault : tie.Need-slice-aggregate-remove-fault
 slice-aggregate-remove-fault c =
     let a = c .before .before .before .before .before .before .before .before .before .before .before .args in
     let b = now (a .buf) in
-    let bytes : All Byte (take (a .len) b) = all-take Byte (a .len) b (bytes-all b (λ i. omega (arith, c .before .before .before .before .before .before .before .before .before .before .shared-slice-known .given i))) in
-    let w = told (a .profile) b (a .len) (a .room) (a .used) (a .usage) (a .number) bytes 0 (c .before .before .before .before .before .before .before .facts .given .0 .0) (sym (c .before .before .before .before .before .before .before .before .before .opened .ensures) ∙ c .before .before .before .before .before .before .before .facts .given .1) (c .before .before .before .before .target .given .0 .0) (c .before .before .before .before .target .given .1) in
+    let bytes : All Byte (take (a .len) b) = all-take Byte (a .len) b
+    (bytes-all b (λ i. omega (arith, c .before .before .before .before .before .before .before .before .before .before .shared-slice-known .given i))) in
+    let w = told (a .profile) b (a .len) (a .room) (a .used) (a .usage) (a .number) bytes 0
+    (c .before .before .before .before .before .before .before .facts .given .0 .0)
+    (sym (c .before .before .before .before .before .before .before .before .before .opened .ensures)
+    ∙ c .before .before .before .before .before .before .before .facts .given .1) (c .before .before .before .before .target .given .0 .0)
+    (c .before .before .before .before .target .given .1) in
     sym (length-take-le (a .len) b (w .found .stands .inside))
 
--- src/lib.rt:178:17
 remove-fault-requires : tie.Need-remove-fault-requires
 remove-fault-requires c κs =
     let a = c .before .before .before .before .before .before .before .before .before .before .before .args in
     let b = now (a .buf) in
-    let bytes : All Byte (take (a .len) b) = all-take Byte (a .len) b (bytes-all b (λ i. omega (arith, c .before .before .before .before .before .before .before .before .before .before .shared-slice-known .given i))) in
-    let w = told (a .profile) b (a .len) (a .room) (a .used) (a .usage) (a .number) bytes 0 (c .before .before .before .before .before .before .before .facts .given .0 .0) (sym (c .before .before .before .before .before .before .before .before .before .opened .ensures) ∙ c .before .before .before .before .before .before .before .facts .given .1) (c .before .before .before .before .target .given .0 .0) (c .before .before .before .before .target .given .1) in
-    listed (a .profile) b (a .len) (a .room) (a .used) (a .usage) (a .number) bytes (c .before .before .before .before .before .before .before .facts .given .0 .0) (c .before .before .before .before .target .given .0 .0) w (c .before .before .gone-size .result) (c .before .before .gone-size .ensures)
+    let bytes : All Byte (take (a .len) b) = all-take Byte (a .len) b
+    (bytes-all b (λ i. omega (arith, c .before .before .before .before .before .before .before .before .before .before .shared-slice-known .given i))) in
+    let w = told (a .profile) b (a .len) (a .room) (a .used) (a .usage) (a .number) bytes 0
+    (c .before .before .before .before .before .before .before .facts .given .0 .0)
+    (sym (c .before .before .before .before .before .before .before .before .before .opened .ensures)
+    ∙ c .before .before .before .before .before .before .before .facts .given .1) (c .before .before .before .before .target .given .0 .0)
+    (c .before .before .before .before .target .given .1) in
+    listed (a .profile) b (a .len) (a .room) (a .used) (a .usage) (a .number) bytes
+    (c .before .before .before .before .before .before .before .facts .given .0 .0) (c .before .before .before .before .target .given .0 .0) w
+    (c .before .before .gone-size .result) (c .before .before .gone-size .ensures)
 
--- src/lib.rt:179:49
 cast-with-room : tie.Need-cast-with-room
 cast-with-room c = search needs
 
--- src/lib.rt:179:44
 add-with-room : tie.Need-add-with-room
 add-with-room c = search needs
 
--- src/lib.rt:179:37
 sub-with-room : tie.Need-sub-with-room
 sub-with-room c =
     let a = c .before .before .before .before .before .before .before .before .before .before .before .before .args in
     let b = now (a .buf) in
-    let bytes : All Byte (take (a .len) b) = all-take Byte (a .len) b (bytes-all b (λ i. omega (arith, c .before .before .before .before .before .before .before .before .before .before .before .shared-slice-known .given i))) in
-    let w = told (a .profile) b (a .len) (a .room) (a .used) (a .usage) (a .number) bytes 0 (c .before .before .before .before .before .before .before .before .facts .given .0 .0) (sym (c .before .before .before .before .before .before .before .before .before .before .opened .ensures) ∙ c .before .before .before .before .before .before .before .before .facts .given .1) (c .before .before .before .before .before .target .given .0 .0) (c .before .before .before .before .before .target .given .1) in
-    shrinks (a .profile) b (a .len) (a .room) (a .used) (a .usage) (a .number) bytes (c .before .before .before .before .before .target .given .0 .0) (w .found) (w .piece-is) (c .before .before .before .gone-size .result) (c .before .before .before .gone-size .ensures)
+    let bytes : All Byte (take (a .len) b) = all-take Byte (a .len) b
+    (bytes-all b (λ i. omega (
+      arith,
+      c .before .before .before .before .before .before .before .before .before .before .before .shared-slice-known .given
+          i,
+    ))) in
+    let w = told (a .profile) b (a .len) (a .room) (a .used) (a .usage) (a .number) bytes 0
+    (c .before .before .before .before .before .before .before .before .facts .given .0 .0)
+    (sym (c .before .before .before .before .before .before .before .before .before .before .opened .ensures)
+    ∙ c .before .before .before .before .before .before .before .before .facts .given .1)
+    (c .before .before .before .before .before .target .given .0 .0) (c .before .before .before .before .before .target .given .1) in
+    shrinks (a .profile) b (a .len) (a .room) (a .used) (a .usage) (a .number) bytes (c .before .before .before .before .before .target .given .0 .0)
+    (w .found) (w .piece-is) (c .before .before .before .gone-size .result) (c .before .before .before .gone-size .ensures)
 
--- src/lib.rt:179:76
 add-with-room-2 : tie.Need-add-with-room-2
 add-with-room-2 c = search needs
 
--- src/lib.rt:179:87
 sub-with-room-2 : tie.Need-sub-with-room-2
 sub-with-room-2 c =
     let a = c .before .before .before .before .before .before .before .before .before .before .before .before .args in
     let b = now (a .buf) in
-    let bytes : All Byte (take (a .len) b) = all-take Byte (a .len) b (bytes-all b (λ i. omega (arith, c .before .before .before .before .before .before .before .before .before .before .before .shared-slice-known .given i))) in
-    let w = told (a .profile) b (a .len) (a .room) (a .used) (a .usage) (a .number) bytes 0 (c .before .before .before .before .before .before .before .before .facts .given .0 .0) (sym (c .before .before .before .before .before .before .before .before .before .before .opened .ensures) ∙ c .before .before .before .before .before .before .before .before .facts .given .1) (c .before .before .before .before .before .target .given .0 .0) (c .before .before .before .before .before .target .given .1) in
+    let bytes : All Byte (take (a .len) b) = all-take Byte (a .len) b
+    (bytes-all b (λ i. omega (
+      arith,
+      c .before .before .before .before .before .before .before .before .before .before .before .shared-slice-known .given
+          i,
+    ))) in
+    let w = told (a .profile) b (a .len) (a .room) (a .used) (a .usage) (a .number) bytes 0
+    (c .before .before .before .before .before .before .before .before .facts .given .0 .0)
+    (sym (c .before .before .before .before .before .before .before .before .before .before .opened .ensures)
+    ∙ c .before .before .before .before .before .before .before .before .facts .given .1)
+    (c .before .before .before .before .before .target .given .0 .0) (c .before .before .before .before .before .target .given .1) in
     w .found .used-in
 
--- src/lib.rt:179:19
 with-room-requires : tie.Need-with-room-requires
 with-room-requires c κs = search needs
 
--- src/lib.rt:180:44
 enum-known-k-2 : tie.Need-enum-known-k-2
 enum-known-k-2 c = search needs
 
--- src/lib.rt:181:34
 enum-told-2 : tie.Need-enum-told-2
 enum-told-2 c = search needs
 
--- src/lib.rt:165:1
 returns-2 : tie.Need-returns-2
 returns-2 c =
     let a = c .before .before .before .before .before .args in
     let b = now (a .buf) in
-    let bytes : All Byte (take (a .len) b) = all-take Byte (a .len) b (bytes-all b (λ i. omega (arith, c .before .before .before .before .shared-slice-known .given i))) in
-    plan-unopened (a .profile) b (a .len) (a .room) (a .used) (a .usage) (a .number) bytes 0 (c .before .k .given .0 .0) (c .before .k .given .0 .1 .0) (sym (c .before .before .before .opened .ensures) ∙ c .before .k .given .1)
+    let bytes : All Byte (take (a .len) b) = all-take Byte (a .len) b
+    (bytes-all b (λ i. omega (arith, c .before .before .before .before .shared-slice-known .given i))) in
+    plan-unopened (a .profile) b (a .len) (a .room) (a .used) (a .usage) (a .number) bytes 0 (c .before .k .given .0 .0) (c .before .k .given .0 .1 .0)
+    (sym (c .before .before .before .opened .ensures) ∙ c .before .k .given .1)
 
--- src/lib.rt:165:1
 returns-3 : tie.Need-returns-3
 returns-3 c =
     let a = c .before .before .before .before .before .before .before .before .before .before .before .before .before .before .before .before .args in
     let b = now (a .buf) in
-    let bytes : All Byte (take (a .len) b) = all-take Byte (a .len) b (bytes-all b (λ i. omega (arith, c .before .before .before .before .before .before .before .before .before .before .before .before .before .before .before .shared-slice-known .given i))) in
-    let w = told (a .profile) b (a .len) (a .room) (a .used) (a .usage) (a .number) bytes 0 (c .before .before .before .before .before .before .before .before .before .before .before .before .facts .given .0 .0) (sym (c .before .before .before .before .before .before .before .before .before .before .before .before .before .before .opened .ensures) ∙ c .before .before .before .before .before .before .before .before .before .before .before .before .facts .given .1) (c .before .before .before .before .before .before .before .before .before .target .given .0 .0) (c .before .before .before .before .before .before .before .before .before .target .given .1) in
-    plan-refused (a .profile) b (a .len) (a .room) (a .used) (a .usage) (a .number) bytes (c .before .before .before .before .before .before .before .before .before .before .before .before .facts .given .0 .0) (c .before .before .before .before .before .before .before .before .before .target .given .0 .0) w (c .before .before .before .before .before .before .before .gone-size .result) (c .before .before .before .before .before .before .before .gone-size .ensures) (c .before .before .before .before .before .before .kept-number .result) (c .before .before .before .before .before .before .kept-number .ensures) (c .before .before .before .before .remove-fault .result) (c .before .before .before .with-room .result) (c .before .before .before .before .remove-fault .ensures) (c .before .before .before .with-room .ensures) (c .before .k2 .given .0 .0) (c .before .k2 .given .0 .1 .0) (c .before .k2 .given .1)
+    let bytes : All Byte (take (a .len) b) = all-take Byte (a .len) b
+    (bytes-all b (λ i. omega (
+      arith,
+      c .before .before .before .before .before .before .before .before .before .before .before .before .before .before .before .shared-slice-known .given
+          i,
+    ))) in
+    let w = told (a .profile) b (a .len) (a .room) (a .used) (a .usage) (a .number) bytes 0
+    (c .before .before .before .before .before .before .before .before .before .before .before .before .facts .given .0 .0)
+    (sym (c .before .before .before .before .before .before .before .before .before .before .before .before .before .before .opened .ensures)
+    ∙ c .before .before .before .before .before .before .before .before .before .before .before .before .facts .given .1)
+    (c .before .before .before .before .before .before .before .before .before .target .given .0 .0)
+    (c .before .before .before .before .before .before .before .before .before .target .given .1) in
+    plan-refused (a .profile) b (a .len) (a .room) (a .used) (a .usage) (a .number) bytes
+    (c .before .before .before .before .before .before .before .before .before .before .before .before .facts .given .0 .0)
+    (c .before .before .before .before .before .before .before .before .before .target .given .0 .0) w
+    (c .before .before .before .before .before .before .before .gone-size .result)
+    (c .before .before .before .before .before .before .before .gone-size .ensures)
+    (c .before .before .before .before .before .before .kept-number .result) (c .before .before .before .before .before .before .kept-number .ensures)
+    (c .before .before .before .before .remove-fault .result) (c .before .before .before .with-room .result)
+    (c .before .before .before .before .remove-fault .ensures) (c .before .before .before .with-room .ensures) (c .before .k2 .given .0 .0)
+    (c .before .k2 .given .0 .1 .0) (c .before .k2 .given .1)
 
--- src/lib.rt:165:1
 returns-4 : tie.Need-returns-4
 returns-4 c =
     let a = c .before .before .before .before .before .before .before .before .before .before .before .before .before .before .before .args in
     let b = now (a .buf) in
-    let bytes : All Byte (take (a .len) b) = all-take Byte (a .len) b (bytes-all b (λ i. omega (arith, c .before .before .before .before .before .before .before .before .before .before .before .before .before .before .shared-slice-known .given i))) in
-    let w = told (a .profile) b (a .len) (a .room) (a .used) (a .usage) (a .number) bytes 0 (c .before .before .before .before .before .before .before .before .before .before .before .facts .given .0 .0) (sym (c .before .before .before .before .before .before .before .before .before .before .before .before .before .opened .ensures) ∙ c .before .before .before .before .before .before .before .before .before .before .before .facts .given .1) (c .before .before .before .before .before .before .before .before .target .given .0 .0) (c .before .before .before .before .before .before .before .before .target .given .1) in
-    plan-fine (a .profile) b (a .len) (a .room) (a .used) (a .usage) (a .number) bytes (c .before .before .before .before .before .before .before .before .before .before .before .facts .given .0 .0) (c .before .before .before .before .before .before .before .before .target .given .0 .0) w (c .before .before .before .before .before .before .gone-size .result) (c .before .before .before .before .before .before .gone-size .ensures) (c .before .before .before .before .before .kept-number .result) (c .before .before .before .before .before .kept-number .ensures) (c .before .before .before .remove-fault .result) (c .before .before .with-room .result) (c .before .before .before .remove-fault .ensures) (c .before .before .with-room .ensures) (c .enum-told2 .given .1)
+    let bytes : All Byte (take (a .len) b) = all-take Byte (a .len) b
+    (bytes-all b (λ i. omega (
+      arith,
+      c .before .before .before .before .before .before .before .before .before .before .before .before .before .before .shared-slice-known .given i,
+    ))) in
+    let w = told (a .profile) b (a .len) (a .room) (a .used) (a .usage) (a .number) bytes 0
+    (c .before .before .before .before .before .before .before .before .before .before .before .facts .given .0 .0)
+    (sym (c .before .before .before .before .before .before .before .before .before .before .before .before .before .opened .ensures)
+    ∙ c .before .before .before .before .before .before .before .before .before .before .before .facts .given .1)
+    (c .before .before .before .before .before .before .before .before .target .given .0 .0)
+    (c .before .before .before .before .before .before .before .before .target .given .1) in
+    plan-fine (a .profile) b (a .len) (a .room) (a .used) (a .usage) (a .number) bytes
+    (c .before .before .before .before .before .before .before .before .before .before .before .facts .given .0 .0)
+    (c .before .before .before .before .before .before .before .before .target .given .0 .0) w
+    (c .before .before .before .before .before .before .gone-size .result) (c .before .before .before .before .before .before .gone-size .ensures)
+    (c .before .before .before .before .before .kept-number .result) (c .before .before .before .before .before .kept-number .ensures)
+    (c .before .before .before .remove-fault .result) (c .before .before .with-room .result) (c .before .before .before .remove-fault .ensures)
+    (c .before .before .with-room .ensures) (c .enum-told2 .given .1)
 
 pub remove-plan-spec : {M : Type 1} → statement M
 remove-plan-spec =

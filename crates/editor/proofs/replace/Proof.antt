@@ -6,31 +6,27 @@ use borrow.Author.Needs.{needs}
 use Rattle.editor.proofs.replace.Statement.{statement}
 use Rattle.editor.proofs.replace.Tie as tie
 
--- src/lib.rt:304:9
 code-of-requires : tie.Need-code-of-requires
 code-of-requires c κs = search needs
 
--- src/lib.rt:305:9
 code-of-requires-2 : tie.Need-code-of-requires-2
 code-of-requires-2 c κs = search needs
 
--- src/lib.rt:306:5
 replace-chunk-requires : tie.Need-replace-chunk-requires
 replace-chunk-requires c κs = search needs
 
--- src/lib.rt:301:1
 same-length : tie.Need-same-length
 same-length c = search needs
 
--- src/lib.rt:301:1
 same-length-2 : tie.Need-same-length-2
 same-length-2 c = search needs
 
--- src/lib.rt:301:1
 returns : tie.Need-returns
 returns c =
     let a = c .before .before .before .before .before .before .before .before .before .before .before .before .args in
-    called-as _ _ _ _ _ _ _ (λ i. edit (replace (c .before .before .before .before .before .before .before .before .code-of .ensures i) (a .number) (c .before .before .before .before .before .before .before .code-of2 .ensures i) (now (a .d)))) (c .before .before .before .before .replace-chunk .ensures)
+    called-as _ _ _ _ _ _ _ (λ i. edit (replace (c .before .before .before .before .before .before .before .before .code-of .ensures i) (a .number)
+    (c .before .before .before .before .before .before .before .code-of2 .ensures i) (now (a .d))))
+    (c .before .before .before .before .replace-chunk .ensures)
 
 pub replace-spec : {M : Type 1} → statement M
 replace-spec =

@@ -41,7 +41,7 @@ returns c =
 
 returns-2 : tie.Need-returns-2
 returns-2 c =
-    let t = c .before .before in
+    let t = c .before .before .before in
     let o = t .before .before .before in
     let a = o .before .before .before .before .before .args in
     plan-23 (a .profile) (now (a .buf)) (a .len) (a .room) (a .used) (a .usage) (a .number) (a .kind) (now (a .d)) (bytes o) (o .facts .given .0 .0)
@@ -53,8 +53,8 @@ returns-3 c =
     let o = t .before .before .before in
     let a = o .before .before .before .before .before .args in
     plan-30 (a .profile) (now (a .buf)) (a .len) (a .room) (a .used) (a .usage) (a .number) (a .kind) (now (a .d)) (bytes o) (o .facts .given .0 .0)
-    (t .target .given .0 .0) (there t) (c .before .before .if1 .left)
-    (sym (c .before .is-whole .ensures) ∙ not-true _ (c .if2 .taken))
+    (t .target .given .0 .0) (there t) (c .before .if1 .left)
+    (sym (c .before .before .is-whole .ensures) ∙ not-true _ (c .if2 .taken))
 
 gone-size-requires : tie.Need-gone-size-requires
 gone-size-requires c κs =
@@ -73,7 +73,7 @@ replace-fault-requires c κs =
     let o = t .before .before .before in
     let a = o .before .before .before .before .before .args in
     own (a .profile) (now (a .buf)) (a .len) (a .room) (a .used) (a .usage) (a .number) (a .kind) (now (a .d)) (bytes o) (o .facts .given .0 .0)
-    (t .target .given .0 .0) (there t) (c .before .before .before .before .before .if1 .left)
+    (t .target .given .0 .0) (there t) (c .before .before .before .before .if1 .left)
 
 sub-size : tie.Need-sub-size
 sub-size c =
@@ -106,8 +106,8 @@ returns-5 c =
     let o = t .before .before .before in
     let a = o .before .before .before .before .before .args in
     plan-refused (a .profile) (now (a .buf)) (a .len) (a .room) (a .used) (a .usage) (a .number) (a .kind) (now (a .d)) (bytes o) (o .facts .given .0 .0)
-    (t .target .given .0 .0) (there t) (c .before .before .before .before .before .before .before .before .before .before .before .if1 .left)
-    (sym (c .before .before .before .before .before .before .before .before .before .before .is-whole .ensures) ∙ not-false _
+    (t .target .given .0 .0) (there t) (c .before .before .before .before .before .before .before .before .before .before .if1 .left)
+    (sym (c .before .before .before .before .before .before .before .before .before .before .before .is-whole .ensures) ∙ not-false _
     (c .before .before .before .before .before .before .before .before .before .if2 .left))
     (now (c .before .before .before .before .before .before .before .before .held .result))
     (c .before .before .before .before .before .before .before .before .held .ensures)
@@ -123,8 +123,8 @@ returns-6 c =
     let o = t .before .before .before in
     let a = o .before .before .before .before .before .args in
     plan-fine (a .profile) (now (a .buf)) (a .len) (a .room) (a .used) (a .usage) (a .number) (a .kind) (now (a .d)) (bytes o) (o .facts .given .0 .0)
-    (t .target .given .0 .0) (there t) (c .before .before .before .before .before .before .before .before .before .before .if1 .left)
-    (sym (c .before .before .before .before .before .before .before .before .before .is-whole .ensures) ∙ not-false _
+    (t .target .given .0 .0) (there t) (c .before .before .before .before .before .before .before .before .before .if1 .left)
+    (sym (c .before .before .before .before .before .before .before .before .before .before .is-whole .ensures) ∙ not-false _
     (c .before .before .before .before .before .before .before .before .if2 .left))
     (now (c .before .before .before .before .before .before .before .held .result)) (c .before .before .before .before .before .before .before .held .ensures)
     (c .before .before .before .before .before .before .gone-size .result) (c .before .before .before .before .before .before .gone-size .ensures)
@@ -142,8 +142,8 @@ replace-plan-spec =
     (λ c. search needs)
     (λ c. search needs)
     returns
-    returns-2
     (λ c κs. search needs)
+    returns-2
     returns-3
     (λ c κs. search needs)
     gone-size-requires

@@ -14,23 +14,18 @@ use Rattle.editor.proofs.undo.Lts as lts
 use Rattle.undoing.proofs.undo_plan.Reads as undo-plan-reads
 use Rattle.editor.proofs.write_back.Reads as write-back-reads
 
--- src/lib.rt:276:11
 undo-plan-requires : tie.Need-undo-plan-requires
 undo-plan-requires c κs = search needs
 
--- src/lib.rt:277:41
 enum-known-k : tie.Need-enum-known-k
 enum-known-k c = search needs
 
--- src/lib.rt:282:32
 enum-known-count : tie.Need-enum-known-count
 enum-known-count c = search needs
 
--- src/lib.rt:283:21
 cast-m : tie.Need-cast-m
 cast-m c = search needs
 
--- src/lib.rt:284:13
 write-back-requires : tie.Need-write-back-requires
 write-back-requires c κs =
     let a = c .before .before .before .before .before .before .before .before .before .args in
@@ -38,11 +33,9 @@ write-back-requires c κs =
     let bytes : All Byte b = bytes-all b (λ i. omega (arith, c .before .before .before .before .before .before .before .before .slice-known .given i)) in
     (a .profile, undo-plan-to (a .profile) b (a .len) (now (a .jrn)) (a .used) _ _ _ _ _ bytes (sym (c .before .before .before .before .before .undo-plan .ensures) ∙ c .before .before .before .count .given .1))
 
--- src/lib.rt:288:31
 add-t23 : tie.Need-add-t23
 add-t23 c = search needs
 
--- src/lib.rt:288:23
 sub-t24 : tie.Need-sub-t24
 sub-t24 c =
     let a = c .before .before .before .before .before .before .before .before .before .before .before .before .args in
@@ -51,21 +44,17 @@ sub-t24 c =
     let w = ready (a .profile) b (a .len) (now (a .jrn)) (a .used) _ _ _ _ _ bytes (sym (c .before .before .before .before .before .before .before .before .undo-plan .ensures) ∙ c .before .before .before .before .before .before .count .given .1) in
     w .ends .room
 
--- src/lib.rt:273:1
 same-length : tie.Need-same-length
 same-length c = search needs
 
--- src/lib.rt:273:1
 returns : tie.Need-returns
 returns c =
     let a = c .before .before .before .before .before .before .before .args in
     undo-refused (a .profile) (now (a .buf)) (a .len) (now (a .jrn)) (a .used) _ _ (sym (c .before .before .before .undo-plan .ensures) ∙ c .before .k .given .1)
 
--- src/lib.rt:273:1
 same-length-2 : tie.Need-same-length-2
 same-length-2 c = search needs
 
--- src/lib.rt:273:1
 returns-2 : tie.Need-returns-2
 returns-2 c =
     let a = c .before .before .before .before .before .before .before .before .before .before .before .before .args in

@@ -5,44 +5,39 @@ use borrow.Author.Needs.{needs}
 use Rattle.editor.proofs.with_room.Statement.{statement}
 use Rattle.editor.proofs.with_room.Tie as tie
 
--- src/lib.rt:83:31
 enum-known-judged : tie.Need-enum-known-judged
 enum-known-judged c = search needs
 
--- src/lib.rt:84:9
 refused-requires : tie.Need-refused-requires
 refused-requires c κs = search needs
 
--- src/lib.rt:84:9
 returns : tie.Need-returns
 returns c =
     let a = c .before .before .before .before .args in
-    ap verdictOf (c .refused .ensures) ∙ room-judged (a .judged) (a .size) (a .room) (a .more) (a .left) (c .before .before .judged .given .0 .0) (c .before .before .judged .given .0 .1 .0) (c .before .before .judged .given .1)
+    ap verdictOf (c .refused .ensures) ∙ room-judged (a .judged) (a .size) (a .room) (a .more) (a .left) (c .before .before .judged .given .0 .0)
+    (c .before .before .judged .given .0 .1 .0) (c .before .before .judged .given .1)
 
 enum-told : tie.Need-enum-told
 enum-told c = search needs
 
--- src/lib.rt:87:9
 refused-requires-2 : tie.Need-refused-requires-2
 refused-requires-2 c κs = search needs
 
--- src/lib.rt:87:9
 returns-2 : tie.Need-returns-2
 returns-2 c =
     let a = c .before .before .before .before .args in
-    ap verdictOf (c .refused2 .ensures) ∙ room-24 (a .judged) (a .size) (a .room) (a .more) (a .left) (c .before .before .enum-told .given .1) (c .before .if1 .taken)
+    ap verdictOf (c .refused2 .ensures) ∙ room-24 (a .judged) (a .size) (a .room) (a .more) (a .left) (c .before .before .enum-told .given .1)
+    (c .before .if1 .taken)
 
--- src/lib.rt:90:9
 refused-requires-3 : tie.Need-refused-requires-3
 refused-requires-3 c κs = search needs
 
--- src/lib.rt:90:9
 returns-3 : tie.Need-returns-3
 returns-3 c =
     let a = c .before .before .before .before .before .args in
-    ap verdictOf (c .refused3 .ensures) ∙ room-25 (a .judged) (a .size) (a .room) (a .more) (a .left) (c .before .before .before .enum-told .given .1) (c .before .before .if1 .left) (c .before .if2 .taken)
+    ap verdictOf (c .refused3 .ensures) ∙ room-25 (a .judged) (a .size) (a .room) (a .more) (a .left) (c .before .before .before .enum-told .given .1)
+    (c .before .before .if1 .left) (c .before .if2 .taken)
 
--- src/lib.rt:80:1
 returns-4 : tie.Need-returns-4
 returns-4 c =
     let a = c .before .before .before .before .args in

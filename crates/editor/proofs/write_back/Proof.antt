@@ -7,7 +7,18 @@ use Rattle.blorb.specs.Bytes.{Byte}
 use Rattle.blorb.proofs.Accept.{bytes-all}
 use Rattle.blorb.specs.All.{All}
 use Rattle.edits.specs.Run.{written}
-use Rattle.editor.proofs.UndoBack.{ready, back-gone, written-gone, back-replaced, written-replaced, back-removed, written-removed, back-unlisted, written-unlisted, kind-3-left}
+use Rattle.editor.proofs.UndoBack.{
+  ready,
+  back-gone,
+  written-gone,
+  back-replaced,
+  written-replaced,
+  back-removed,
+  written-removed,
+  back-unlisted,
+  written-unlisted,
+  kind-3-left,
+}
 use borrow.Author.Needs.{needs}
 use Rattle.editor.proofs.write_back.Statement.{statement}
 use Rattle.editor.proofs.write_back.Tie as tie
@@ -18,11 +29,9 @@ use Rattle.rewrite.proofs.insert_entry.Reads as insert-entry-reads
 use Rattle.rewrite.proofs.remove_bytes.Reads as remove-bytes-reads
 use Rattle.rewrite.proofs.replace_bytes.Reads as replace-bytes-reads
 
--- src/undoing.rt:310:17
 cast-place : tie.Need-cast-place
 cast-place c = search needs
 
--- src/undoing.rt:312:9
 remove-bytes-requires : tie.Need-remove-bytes-requires
 remove-bytes-requires c κs =
     let a = c .before .before .before .before .before .args in
@@ -31,20 +40,19 @@ remove-bytes-requires c κs =
     let w = ready _ b (a .len) (now (a .jrn)) (a .used) (a .count) (a .at) (a .size) _ (a .r) bb (c .before .before .before .before .before .pre .1) in
     back-gone _ b (a .len) (now (a .jrn)) (a .used) (a .count) (a .at) (a .size) _ (a .r) bb w (c .before .if1 .taken)
 
--- src/undoing.rt:313:9
 same-length : tie.Need-same-length
 same-length c = search needs
 
--- src/undoing.rt:313:9
 returns : tie.Need-returns
 returns c =
     let a = c .before .before .before .before .before .before .before .before .args in
     let b = now (a .buf) in
     let bb : All Byte b = bytes-all b (λ i. omega (arith, c .before .before .before .before .before .before .before .slice-known .given i)) in
-    let w = ready _ b (a .len) (now (a .jrn)) (a .used) (a .count) (a .at) (a .size) _ (a .r) bb (c .before .before .before .before .before .before .before .before .pre .1) in
-    c .before .before .remove-bytes .ensures ∙ ap (λ (z : List ℕ). written b (a .len) z) (written-gone _ b (a .len) (now (a .jrn)) (a .used) (a .count) (a .at) (a .size) _ (a .r) bb w (c .before .before .before .before .if1 .taken))
+    let w = ready _ b (a .len) (now (a .jrn)) (a .used) (a .count) (a .at) (a .size) _ (a .r) bb
+    (c .before .before .before .before .before .before .before .before .pre .1) in
+    c .before .before .remove-bytes .ensures ∙ ap (λ (z : List ℕ). written b (a .len) z) (written-gone _ b (a .len) (now (a .jrn)) (a .used) (a .count)
+    (a .at) (a .size) _ (a .r) bb w (c .before .before .before .before .if1 .taken))
 
--- src/undoing.rt:316:9
 insert-entry-requires : tie.Need-insert-entry-requires
 insert-entry-requires c κs =
     let a = c .before .before .before .before .before .before .args in
@@ -54,20 +62,19 @@ insert-entry-requires c κs =
     let w = ready _ b (a .len) (now (a .jrn)) (a .used) (a .count) (a .at) (a .size) _ (a .r) bb (c .before .before .before .before .before .before .pre .1) in
     back-unlisted _ b (a .len) (now (a .jrn)) (a .used) (a .count) (a .at) (a .size) _ (a .r) bb w (c .before .if2 .taken) bj
 
--- src/undoing.rt:317:9
 same-length-2 : tie.Need-same-length-2
 same-length-2 c = search needs
 
--- src/undoing.rt:317:9
 returns-2 : tie.Need-returns-2
 returns-2 c =
     let a = c .before .before .before .before .before .before .before .before .before .args in
     let b = now (a .buf) in
     let bb : All Byte b = bytes-all b (λ i. omega (arith, c .before .before .before .before .before .before .before .before .slice-known .given i)) in
-    let w = ready _ b (a .len) (now (a .jrn)) (a .used) (a .count) (a .at) (a .size) _ (a .r) bb (c .before .before .before .before .before .before .before .before .before .pre .1) in
-    c .before .before .insert-entry .ensures ∙ ap (λ (z : List ℕ). written b (a .len) z) (written-unlisted _ b (a .len) (now (a .jrn)) (a .used) (a .count) (a .at) (a .size) _ (a .r) bb w (c .before .before .before .before .if2 .taken))
+    let w = ready _ b (a .len) (now (a .jrn)) (a .used) (a .count) (a .at) (a .size) _ (a .r) bb
+    (c .before .before .before .before .before .before .before .before .before .pre .1) in
+    c .before .before .insert-entry .ensures ∙ ap (λ (z : List ℕ). written b (a .len) z) (written-unlisted _ b (a .len) (now (a .jrn)) (a .used) (a .count)
+    (a .at) (a .size) _ (a .r) bb w (c .before .before .before .before .if2 .taken))
 
--- src/undoing.rt:319:15
 sub-end : tie.Need-sub-end
 sub-end c =
     let a = c .before .before .before .before .before .args in
@@ -76,11 +83,9 @@ sub-end c =
     let w = ready _ b (a .len) (now (a .jrn)) (a .used) (a .count) (a .at) (a .size) _ (a .r) bb (c .before .before .before .before .before .pre .1) in
     omega (arith, w .ends .room)
 
--- src/undoing.rt:320:22
 cast-from : tie.Need-cast-from
 cast-from c = search needs
 
--- src/undoing.rt:320:16
 sub-from : tie.Need-sub-from
 sub-from c =
     let a = c .before .before .before .before .before .before .args in
@@ -89,15 +94,12 @@ sub-from c =
     let w = ready _ b (a .len) (now (a .jrn)) (a .used) (a .count) (a .at) (a .size) _ (a .r) bb (c .before .before .before .before .before .before .pre .1) in
     omega (arith, w .ends .room)
 
--- src/undoing.rt:321:13
 sub-d : tie.Need-sub-d
 sub-d c = search needs
 
--- src/undoing.rt:321:13
 part-d-start : tie.Need-part-d-start
 part-d-start c = search needs
 
--- src/undoing.rt:321:13
 part-d-end : tie.Need-part-d-end
 part-d-end c =
     let a = c .before .before .before .before .before .before .args in
@@ -106,51 +108,59 @@ part-d-end c =
     let w = ready _ b (a .len) (now (a .jrn)) (a .used) (a .count) (a .at) (a .size) _ (a .r) bb (c .before .before .before .before .before .before .pre .1) in
     omega (arith, w .within)
 
--- src/undoing.rt:323:9
 replace-bytes-requires : tie.Need-replace-bytes-requires
 replace-bytes-requires c κs =
     let a = c .before .before .before .before .before .before .before .before .before .args in
     let b = now (a .buf) in
     let bb : All Byte b = bytes-all b (λ i. omega (arith, c .before .before .before .before .before .before .before .before .slice-known .given i)) in
-    let bj : All Byte (now (a .jrn)) = bytes-all (now (a .jrn)) (λ i. omega (arith, c .before .before .before .before .before .before .before .shared-slice-known .given i)) in
-    let w = ready _ b (a .len) (now (a .jrn)) (a .used) (a .count) (a .at) (a .size) _ (a .r) bb (c .before .before .before .before .before .before .before .before .before .pre .1) in
+    let bj : All Byte (now (a .jrn)) = bytes-all (now (a .jrn))
+    (λ i. omega (arith, c .before .before .before .before .before .before .before .shared-slice-known .given i)) in
+    let w = ready _ b (a .len) (now (a .jrn)) (a .used) (a .count) (a .at) (a .size) _ (a .r) bb
+    (c .before .before .before .before .before .before .before .before .before .pre .1) in
     back-replaced _ b (a .len) (now (a .jrn)) (a .used) (a .count) (a .at) (a .size) _ (a .r) bb w bj (c .before .if3 .taken)
 
--- src/undoing.rt:324:9
 same-length-3 : tie.Need-same-length-3
 same-length-3 c = search needs
 
--- src/undoing.rt:324:9
 returns-3 : tie.Need-returns-3
 returns-3 c =
     let a = c .before .before .before .before .before .before .before .before .before .before .before .before .args in
     let b = now (a .buf) in
-    let bb : All Byte b = bytes-all b (λ i. omega (arith, c .before .before .before .before .before .before .before .before .before .before .before .slice-known .given i)) in
-    let w = ready _ b (a .len) (now (a .jrn)) (a .used) (a .count) (a .at) (a .size) _ (a .r) bb (c .before .before .before .before .before .before .before .before .before .before .before .before .pre .1) in
-    c .before .before .replace-bytes .ensures ∙ ap (λ (z : List ℕ). written b (a .len) z) (written-replaced _ b (a .len) (now (a .jrn)) (a .used) (a .count) (a .at) (a .size) _ (a .r) bb w (c .before .before .before .before .if3 .taken))
+    let bb : All Byte b = bytes-all b
+    (λ i. omega (arith, c .before .before .before .before .before .before .before .before .before .before .before .slice-known .given i)) in
+    let w = ready _ b (a .len) (now (a .jrn)) (a .used) (a .count) (a .at) (a .size) _ (a .r) bb
+    (c .before .before .before .before .before .before .before .before .before .before .before .before .pre .1) in
+    c .before .before .replace-bytes .ensures ∙ ap (λ (z : List ℕ). written b (a .len) z) (written-replaced _ b (a .len) (now (a .jrn)) (a .used) (a .count)
+    (a .at) (a .size) _ (a .r) bb w (c .before .before .before .before .if3 .taken))
 
--- src/undoing.rt:326:5
 insert-bytes-requires : tie.Need-insert-bytes-requires
 insert-bytes-requires c κs =
     let a = c .before .before .before .before .before .before .before .before .before .args in
     let b = now (a .buf) in
     let bb : All Byte b = bytes-all b (λ i. omega (arith, c .before .before .before .before .before .before .before .before .slice-known .given i)) in
-    let bj : All Byte (now (a .jrn)) = bytes-all (now (a .jrn)) (λ i. omega (arith, c .before .before .before .before .before .before .before .shared-slice-known .given i)) in
-    let w = ready _ b (a .len) (now (a .jrn)) (a .used) (a .count) (a .at) (a .size) _ (a .r) bb (c .before .before .before .before .before .before .before .before .before .pre .1) in
-    back-removed _ b (a .len) (now (a .jrn)) (a .used) (a .count) (a .at) (a .size) _ (a .r) bb w (kind-3-left _ b (a .len) (now (a .jrn)) (a .used) (a .count) (a .at) (a .size) _ (a .r) bb w (c .before .before .before .before .before .if1 .left) (c .before .before .before .before .if2 .left) (c .before .if3 .left)) bj
+    let bj : All Byte (now (a .jrn)) = bytes-all (now (a .jrn))
+    (λ i. omega (arith, c .before .before .before .before .before .before .before .shared-slice-known .given i)) in
+    let w = ready _ b (a .len) (now (a .jrn)) (a .used) (a .count) (a .at) (a .size) _ (a .r) bb
+    (c .before .before .before .before .before .before .before .before .before .pre .1) in
+    back-removed _ b (a .len) (now (a .jrn)) (a .used) (a .count) (a .at) (a .size) _ (a .r) bb w (kind-3-left _ b (a .len) (now (a .jrn)) (a .used)
+    (a .count) (a .at) (a .size) _ (a .r) bb w (c .before .before .before .before .before .if1 .left) (c .before .before .before .before .if2 .left)
+    (c .before .if3 .left)) bj
 
--- src/undoing.rt:305:1
 same-length-4 : tie.Need-same-length-4
 same-length-4 c = search needs
 
--- src/undoing.rt:305:1
 returns-4 : tie.Need-returns-4
 returns-4 c =
     let a = c .before .before .before .before .before .before .before .before .before .before .before .before .args in
     let b = now (a .buf) in
-    let bb : All Byte b = bytes-all b (λ i. omega (arith, c .before .before .before .before .before .before .before .before .before .before .before .slice-known .given i)) in
-    let w = ready _ b (a .len) (now (a .jrn)) (a .used) (a .count) (a .at) (a .size) _ (a .r) bb (c .before .before .before .before .before .before .before .before .before .before .before .before .pre .1) in
-    c .before .before .insert-bytes .ensures ∙ ap (λ (z : List ℕ). written b (a .len) z) (written-removed _ b (a .len) (now (a .jrn)) (a .used) (a .count) (a .at) (a .size) _ (a .r) bb w (kind-3-left _ b (a .len) (now (a .jrn)) (a .used) (a .count) (a .at) (a .size) _ (a .r) bb w (c .before .before .before .before .before .before .before .before .if1 .left) (c .before .before .before .before .before .before .before .if2 .left) (c .before .before .before .before .if3 .left)))
+    let bb : All Byte b = bytes-all b
+    (λ i. omega (arith, c .before .before .before .before .before .before .before .before .before .before .before .slice-known .given i)) in
+    let w = ready _ b (a .len) (now (a .jrn)) (a .used) (a .count) (a .at) (a .size) _ (a .r) bb
+    (c .before .before .before .before .before .before .before .before .before .before .before .before .pre .1) in
+    c .before .before .insert-bytes .ensures ∙ ap (λ (z : List ℕ). written b (a .len) z) (written-removed _ b (a .len) (now (a .jrn)) (a .used) (a .count)
+    (a .at) (a .size) _ (a .r) bb w (kind-3-left _ b (a .len) (now (a .jrn)) (a .used) (a .count) (a .at) (a .size) _ (a .r) bb w
+    (c .before .before .before .before .before .before .before .before .if1 .left) (c .before .before .before .before .before .before .before .if2 .left)
+    (c .before .before .before .before .if3 .left)))
 
 pub write-back-spec : {M : Type 1} → statement M
 write-back-spec =

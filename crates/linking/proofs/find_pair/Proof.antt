@@ -44,8 +44,12 @@ returns : tie.Need-returns Inv-loop μ-loop
 returns c =
     let a = c .before .before .before .before .before .before .args in
     let bytes : All Byte (now (a .s)) = bytes-all (now (a .s)) (λ i. omega (arith, c .before .before .before .before .before .shared-slice-known .given i)) in
-    let h : c .before .before .before .before .loop .i < a .count = c .before .before .before .loop-test .taken in
-    (pair-hit (now (a .s)) (a .count) (c .before .before .before .before .before .before .pre) bytes (a .usage) (a .number) (c .before .before .before .before .loop .i) h _ _ (c .before .before .be32-at .ensures .0) (c .before .be32-at2 .ensures .0) (c .before .before .before .before .loop .inv .1) (c .if1 .taken), omega arith)
+    let h : c .before .before .before .before .loop .i < a .count = c .before .before .before .loop-test .taken in (
+      pair-hit (now (a .s)) (a .count) (c .before .before .before .before .before .before .pre) bytes (a .usage) (a .number)
+          (c .before .before .before .before .loop .i) h _ _ (c .before .before .be32-at .ensures .0) (c .before .be32-at2 .ensures .0)
+          (c .before .before .before .before .loop .inv .1) (c .if1 .taken),
+      omega arith,
+    )
 
 add-i : tie.Need-add-i Inv-loop μ-loop
 add-i c = search needs
@@ -57,15 +61,22 @@ loop-again : tie.Need-loop-again Inv-loop μ-loop
 loop-again c =
     let a = c .before .before .before .before .before .before .args in
     let bytes : All Byte (now (a .s)) = bytes-all (now (a .s)) (λ i. omega (arith, c .before .before .before .before .before .shared-slice-known .given i)) in
-    let h : c .before .before .before .before .loop .i < a .count = c .before .before .before .loop-test .taken in
-    (omega arith, pair-next (now (a .s)) (a .count) (c .before .before .before .before .before .before .pre) bytes (a .usage) (a .number) (c .before .before .before .before .loop .i) h _ _ (c .before .before .be32-at .ensures .0) (c .before .be32-at2 .ensures .0) (c .before .before .before .before .loop .inv .1) (c .if1 .left))
+    let h : c .before .before .before .before .loop .i < a .count = c .before .before .before .loop-test .taken in (
+      omega arith,
+      pair-next (now (a .s)) (a .count) (c .before .before .before .before .before .before .pre) bytes (a .usage) (a .number)
+          (c .before .before .before .before .loop .i) h _ _ (c .before .before .be32-at .ensures .0) (c .before .be32-at2 .ensures .0)
+          (c .before .before .before .before .loop .inv .1) (c .if1 .left),
+    )
 
 returns-2 : tie.Need-returns-2 Inv-loop μ-loop
 returns-2 c =
     let a = c .before .before .before .args in
     let bytes : All Byte (now (a .s)) = bytes-all (now (a .s)) (λ i. omega (arith, c .before .before .shared-slice-known .given i)) in
-    let l = c .before .loop in
-    (pair-none (now (a .s)) (a .count) (c .before .before .before .pre) bytes (a .usage) (a .number) (l .i) (c .loop-test .left) (l .inv .0) (l .inv .1), omega arith)
+    let l = c .before .loop in (
+      pair-none (now (a .s)) (a .count) (c .before .before .before .pre) bytes (a .usage) (a .number) (l .i) (c .loop-test .left) (l .inv .0)
+          (l .inv .1),
+      omega arith,
+    )
 
 pub find-pair-spec : {M : Type 1} → statement M
 find-pair-spec =

@@ -29,7 +29,8 @@ returns : tie.Need-returns
 returns c =
     let a = c .before .before .before .args in
     let bytes : All Byte (now (a .s)) = bytes-all (now (a .s)) (λ i. omega (arith, c .before .before .shared-slice-known .given i)) in
-    ap verdictOf (c .refused .ensures) ∙ out-101 (a .profile) (now (a .s)) (a .count) (a .piece) (a .place) (a .usage) (a .number) bytes (c .before .before .before .pre) (omega arith) (omega arith) (c .before .if1 .taken)
+    ap verdictOf (c .refused .ensures) ∙ out-101 (a .profile) (now (a .s)) (a .count) (a .piece) (a .place) (a .usage) (a .number) bytes
+    (c .before .before .before .pre) (omega arith) (omega arith) (c .before .if1 .taken)
 
 add-if2 : tie.Need-add-if2
 add-if2 c = search needs
@@ -41,7 +42,8 @@ returns-2 : tie.Need-returns-2
 returns-2 c =
     let a = c .before .before .before .before .args in
     let bytes : All Byte (now (a .s)) = bytes-all (now (a .s)) (λ i. omega (arith, c .before .before .before .shared-slice-known .given i)) in
-    ap verdictOf (c .refused2 .ensures) ∙ out-111 (a .profile) (now (a .s)) (a .count) (a .piece) (a .place) (a .usage) (a .number) bytes (c .before .before .before .before .pre) (omega arith) (omega arith) (c .before .before .if1 .left) (c .before .if2 .taken)
+    ap verdictOf (c .refused2 .ensures) ∙ out-111 (a .profile) (now (a .s)) (a .count) (a .piece) (a .place) (a .usage) (a .number) bytes
+    (c .before .before .before .before .pre) (omega arith) (omega arith) (c .before .before .if1 .left) (c .before .if2 .taken)
 
 mul-at : tie.Need-mul-at
 mul-at c = search needs
@@ -61,8 +63,11 @@ refused-requires-3 c κs = search needs
 returns-3 : tie.Need-returns-3
 returns-3 c =
     let a = c .before .before .before .before .before .before .before .args in
-    let bytes : All Byte (now (a .s)) = bytes-all (now (a .s)) (λ i. omega (arith, c .before .before .before .before .before .before .shared-slice-known .given i)) in
-    ap verdictOf (c .refused3 .ensures) ∙ out-112 (a .profile) (now (a .s)) (a .count) (a .piece) (a .place) (a .usage) (a .number) bytes (c .before .before .before .before .before .before .before .pre) (omega arith) (omega arith) (c .before .before .before .before .before .if1 .left) (c .before .before .before .before .if2 .left) (known-not _ (sym (c .before .before .before .of-code .ensures) ∙ c .before .enum-told .given .1))
+    let bytes : All Byte (now (a .s)) = bytes-all (now (a .s))
+    (λ i. omega (arith, c .before .before .before .before .before .before .shared-slice-known .given i)) in
+    ap verdictOf (c .refused3 .ensures) ∙ out-112 (a .profile) (now (a .s)) (a .count) (a .piece) (a .place) (a .usage) (a .number) bytes
+    (c .before .before .before .before .before .before .before .pre) (omega arith) (omega arith) (c .before .before .before .before .before .if1 .left)
+    (c .before .before .before .before .if2 .left) (known-not _ (sym (c .before .before .before .of-code .ensures) ∙ c .before .enum-told .given .1))
 
 enum-told-2 : tie.Need-enum-told-2
 enum-told-2 c = search needs
@@ -73,8 +78,10 @@ cast-chunk-allowed c = search needs
 chunk-allowed-requires : tie.Need-chunk-allowed-requires
 chunk-allowed-requires c κs =
     let a = c .before .before .before .before .before .before .before .args in
-    let bytes : All Byte (now (a .s)) = bytes-all (now (a .s)) (λ i. omega (arith, c .before .before .before .before .before .before .shared-slice-known .given i)) in
-    chunk-lies (a .profile) (now (a .s)) (a .count) (a .piece) (a .place) (a .usage) (a .number) bytes (c .before .before .before .before .before .before .before .pre) (omega arith) (omega arith)
+    let bytes : All Byte (now (a .s)) = bytes-all (now (a .s))
+    (λ i. omega (arith, c .before .before .before .before .before .before .shared-slice-known .given i)) in
+    chunk-lies (a .profile) (now (a .s)) (a .count) (a .piece) (a .place) (a .usage) (a .number) bytes
+    (c .before .before .before .before .before .before .before .pre) (omega arith) (omega arith)
 
 refused-requires-4 : tie.Need-refused-requires-4
 refused-requires-4 c κs = search needs
@@ -82,8 +89,13 @@ refused-requires-4 c κs = search needs
 returns-4 : tie.Need-returns-4
 returns-4 c =
     let a = c .before .before .before .before .before .before .before .before .before .before .args in
-    let bytes : All Byte (now (a .s)) = bytes-all (now (a .s)) (λ i. omega (arith, c .before .before .before .before .before .before .before .before .before .shared-slice-known .given i)) in
-    ap verdictOf (c .refused4 .ensures) ∙ out-114 (a .profile) (now (a .s)) (a .count) (a .piece) (a .place) (a .usage) (a .number) bytes (c .before .before .before .before .before .before .before .before .before .before .pre) (omega arith) (omega arith) (c .before .before .before .before .before .before .before .before .if1 .left) (c .before .before .before .before .before .before .before .if2 .left) (known-is _ _ (sym (c .before .before .before .before .before .before .of-code .ensures) ∙ c .before .before .before .before .enum-told2 .given .1) .0)
+    let bytes : All Byte (now (a .s)) = bytes-all (now (a .s))
+    (λ i. omega (arith, c .before .before .before .before .before .before .before .before .before .shared-slice-known .given i)) in
+    ap verdictOf (c .refused4 .ensures) ∙ out-114 (a .profile) (now (a .s)) (a .count) (a .piece) (a .place) (a .usage) (a .number) bytes
+    (c .before .before .before .before .before .before .before .before .before .before .pre) (omega arith) (omega arith)
+    (c .before .before .before .before .before .before .before .before .if1 .left) (c .before .before .before .before .before .before .before .if2 .left)
+    (known-is _ _ (sym (c .before .before .before .before .before .before .of-code .ensures)
+    ∙ c .before .before .before .before .enum-told2 .given .1) .0)
     (sym (c .before .before .chunk-allowed .ensures) ∙ not-true _ (c .before .if3 .taken))
 
 number-fits-requires : tie.Need-number-fits-requires
@@ -98,9 +110,16 @@ refused-requires-5 c κs = search needs
 returns-5 : tie.Need-returns-5
 returns-5 c =
     let a = c .before .before .before .before .before .before .before .before .before .before .before .before .args in
-    let bytes : All Byte (now (a .s)) = bytes-all (now (a .s)) (λ i. omega (arith, c .before .before .before .before .before .before .before .before .before .before .before .shared-slice-known .given i)) in
-    ap verdictOf (c .refused5 .ensures) ∙ out-115 (a .profile) (now (a .s)) (a .count) (a .piece) (a .place) (a .usage) (a .number) bytes (c .before .before .before .before .before .before .before .before .before .before .before .before .pre) (omega arith) (omega arith) (c .before .before .before .before .before .before .before .before .before .before .if1 .left) (c .before .before .before .before .before .before .before .before .before .if2 .left) (known-is _ _ (sym (c .before .before .before .before .before .before .before .before .of-code .ensures) ∙ c .before .before .before .before .before .before .enum-told2 .given .1) .0)
-    (sym (c .before .before .before .before .chunk-allowed .ensures) ∙ not-false _ (c .before .before .before .if3 .left)) (sym (c .before .before .number-fits .ensures) ∙ not-true _ (c .before .if4 .taken))
+    let bytes : All Byte (now (a .s)) = bytes-all (now (a .s))
+    (λ i. omega (arith, c .before .before .before .before .before .before .before .before .before .before .before .shared-slice-known .given i)) in
+    ap verdictOf (c .refused5 .ensures) ∙ out-115 (a .profile) (now (a .s)) (a .count) (a .piece) (a .place) (a .usage) (a .number) bytes
+    (c .before .before .before .before .before .before .before .before .before .before .before .before .pre) (omega arith) (omega arith)
+    (c .before .before .before .before .before .before .before .before .before .before .if1 .left)
+    (c .before .before .before .before .before .before .before .before .before .if2 .left)
+    (known-is _ _ (sym (c .before .before .before .before .before .before .before .before .of-code .ensures)
+    ∙ c .before .before .before .before .before .before .enum-told2 .given .1) .0)
+    (sym (c .before .before .before .before .chunk-allowed .ensures) ∙ not-false _ (c .before .before .before .if3 .left))
+    (sym (c .before .before .number-fits .ensures) ∙ not-true _ (c .before .if4 .taken))
 
 find-pair-requires : tie.Need-find-pair-requires
 find-pair-requires c κs = search needs
@@ -111,9 +130,21 @@ refused-requires-6 c κs = search needs
 returns-6 : tie.Need-returns-6
 returns-6 c =
     let a = c .before .before .before .before .before .before .before .before .before .before .before .before .before .before .args in
-    let bytes : All Byte (now (a .s)) = bytes-all (now (a .s)) (λ i. omega (arith, c .before .before .before .before .before .before .before .before .before .before .before .before .before .shared-slice-known .given i)) in
-    ap verdictOf (c .refused6 .ensures) ∙ out-116 (a .profile) (now (a .s)) (a .count) (a .piece) (a .place) (a .usage) (a .number) bytes (c .before .before .before .before .before .before .before .before .before .before .before .before .before .before .pre) (omega arith) (omega arith) (c .before .before .before .before .before .before .before .before .before .before .before .before .if1 .left) (c .before .before .before .before .before .before .before .before .before .before .before .if2 .left) (known-is _ _ (sym (c .before .before .before .before .before .before .before .before .before .before .of-code .ensures) ∙ c .before .before .before .before .before .before .before .before .enum-told2 .given .1) .0)
-    (sym (c .before .before .before .before .before .before .chunk-allowed .ensures) ∙ not-false _ (c .before .before .before .before .before .if3 .left)) (sym (c .before .before .before .before .number-fits .ensures) ∙ not-false _ (c .before .before .before .if4 .left)) _ (c .before .before .find-pair .ensures .0) (c .before .if5 .taken)
+    let bytes : All Byte (now (a .s)) = bytes-all (now (a .s))
+    (λ i. omega (
+      arith,
+      c .before .before .before .before .before .before .before .before .before .before .before .before .before
+          .shared-slice-known .given i,
+    )) in
+    ap verdictOf (c .refused6 .ensures) ∙ out-116 (a .profile) (now (a .s)) (a .count) (a .piece) (a .place) (a .usage) (a .number) bytes
+    (c .before .before .before .before .before .before .before .before .before .before .before .before .before .before .pre) (omega arith) (omega arith)
+    (c .before .before .before .before .before .before .before .before .before .before .before .before .if1 .left)
+    (c .before .before .before .before .before .before .before .before .before .before .before .if2 .left)
+    (known-is _ _ (sym (c .before .before .before .before .before .before .before .before .before .before .of-code .ensures)
+    ∙ c .before .before .before .before .before .before .before .before .enum-told2 .given .1) .0)
+    (sym (c .before .before .before .before .before .before .chunk-allowed .ensures) ∙ not-false _ (c .before .before .before .before .before .if3 .left))
+    (sym (c .before .before .before .before .number-fits .ensures) ∙ not-false _ (c .before .before .before .if4 .left)) _
+    (c .before .before .find-pair .ensures .0) (c .before .if5 .taken)
 
 add-refused-2 : tie.Need-add-refused-2
 add-refused-2 c = search needs
@@ -130,16 +161,41 @@ refused-requires-7 c κs = search needs
 returns-7 : tie.Need-returns-7
 returns-7 c =
     let a = c .before .before .before .before .before .before .before .before .before .before .before .before .before .before .before .args in
-    let bytes : All Byte (now (a .s)) = bytes-all (now (a .s)) (λ i. omega (arith, c .before .before .before .before .before .before .before .before .before .before .before .before .before .before .shared-slice-known .given i)) in
-    ap verdictOf (c .refused7 .ensures) ∙ out-116-old (a .profile) (now (a .s)) (a .count) (a .piece) (a .place) (a .usage) (a .number) bytes (c .before .before .before .before .before .before .before .before .before .before .before .before .before .before .before .pre) (omega arith) (omega arith) (c .before .before .before .before .before .before .before .before .before .before .before .before .before .if1 .left) (c .before .before .before .before .before .before .before .before .before .before .before .before .if2 .left) (known-is _ _ (sym (c .before .before .before .before .before .before .before .before .before .before .before .of-code .ensures) ∙ c .before .before .before .before .before .before .before .before .before .enum-told2 .given .1) .0)
-    (sym (c .before .before .before .before .before .before .before .chunk-allowed .ensures) ∙ not-false _ (c .before .before .before .before .before .before .if3 .left)) (sym (c .before .before .before .before .before .number-fits .ensures) ∙ not-false _ (c .before .before .before .before .if4 .left)) _ (c .before .before .before .find-pair .ensures .0) (c .before .before .if5 .left) (c .before .if6 .taken)
+    let bytes : All Byte (now (a .s)) = bytes-all (now (a .s))
+    (λ i. omega (
+      arith,
+      c .before .before .before .before .before .before .before .before .before .before .before .before .before .before
+          .shared-slice-known .given i,
+    )) in
+    ap verdictOf (c .refused7 .ensures) ∙ out-116-old (a .profile) (now (a .s)) (a .count) (a .piece) (a .place) (a .usage) (a .number) bytes
+    (c .before .before .before .before .before .before .before .before .before .before .before .before .before .before .before .pre) (omega arith)
+    (omega arith) (c .before .before .before .before .before .before .before .before .before .before .before .before .before .if1 .left)
+    (c .before .before .before .before .before .before .before .before .before .before .before .before .if2 .left)
+    (known-is _ _ (sym (c .before .before .before .before .before .before .before .before .before .before .before .of-code .ensures)
+    ∙ c .before .before .before .before .before .before .before .before .before .enum-told2 .given .1) .0)
+    (sym (c .before .before .before .before .before .before .before .chunk-allowed .ensures)
+    ∙ not-false _ (c .before .before .before .before .before .before .if3 .left)) (sym (c .before .before .before .before .before .number-fits .ensures)
+    ∙ not-false _ (c .before .before .before .before .if4 .left)) _ (c .before .before .before .find-pair .ensures .0) (c .before .before .if5 .left)
+    (c .before .if6 .taken)
 
 returns-8 : tie.Need-returns-8
 returns-8 c =
     let a = c .before .before .before .before .before .before .before .before .before .before .before .before .before .before .args in
-    let bytes : All Byte (now (a .s)) = bytes-all (now (a .s)) (λ i. omega (arith, c .before .before .before .before .before .before .before .before .before .before .before .before .before .shared-slice-known .given i)) in
-    out-done (a .profile) (now (a .s)) (a .count) (a .piece) (a .place) (a .usage) (a .number) bytes (c .before .before .before .before .before .before .before .before .before .before .before .before .before .before .pre) (omega arith) (omega arith) (c .before .before .before .before .before .before .before .before .before .before .before .before .if1 .left) (c .before .before .before .before .before .before .before .before .before .before .before .if2 .left) (known-is _ _ (sym (c .before .before .before .before .before .before .before .before .before .before .of-code .ensures) ∙ c .before .before .before .before .before .before .before .before .enum-told2 .given .1) .0)
-    (sym (c .before .before .before .before .before .before .chunk-allowed .ensures) ∙ not-false _ (c .before .before .before .before .before .if3 .left)) (sym (c .before .before .before .before .number-fits .ensures) ∙ not-false _ (c .before .before .before .if4 .left)) _ (c .before .before .find-pair .ensures .0) (c .if6 .left)
+    let bytes : All Byte (now (a .s)) = bytes-all (now (a .s))
+    (λ i. omega (
+      arith,
+      c .before .before .before .before .before .before .before .before .before .before .before .before .before
+          .shared-slice-known .given i,
+    )) in
+    out-done (a .profile) (now (a .s)) (a .count) (a .piece) (a .place) (a .usage) (a .number) bytes
+    (c .before .before .before .before .before .before .before .before .before .before .before .before .before .before .pre) (omega arith) (omega arith)
+    (c .before .before .before .before .before .before .before .before .before .before .before .before .if1 .left)
+    (c .before .before .before .before .before .before .before .before .before .before .before .if2 .left)
+    (known-is _ _ (sym (c .before .before .before .before .before .before .before .before .before .before .of-code .ensures)
+    ∙ c .before .before .before .before .before .before .before .before .enum-told2 .given .1) .0)
+    (sym (c .before .before .before .before .before .before .chunk-allowed .ensures) ∙ not-false _ (c .before .before .before .before .before .if3 .left))
+    (sym (c .before .before .before .before .number-fits .ensures) ∙ not-false _ (c .before .before .before .if4 .left)) _
+    (c .before .before .find-pair .ensures .0) (c .if6 .left)
 
 pub link-fault-spec : {M : Type 1} → statement M
 link-fault-spec =

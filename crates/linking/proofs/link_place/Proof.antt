@@ -30,8 +30,12 @@ loop-holds : tie.Need-loop-holds Inv-loop μ-loop
 loop-holds c =
     let a = c .before .before .before .args in
     let bytes : All Byte (now (a .s)) = bytes-all (now (a .s)) (λ i. omega (arith, c .before .before .shared-slice-known .given i)) in
-    let e : a .piece .place + 1 - 1 ≡ a .piece .place = omega arith in
-    (omega arith, omega (arith, c .before .before .before .pre .there), rw e (own-start (now (a .s)) (a .count) (a .piece) (c .before .before .before .pre) bytes))
+    let e : a .piece .place + 1 - 1 ≡ a .piece .place = omega arith in (
+      omega arith,
+      omega (arith, c .before .before .before .pre .there),
+      rw e (own-start (now (a .s)) (a .count) (a .piece) (c .before .before .before .pre)
+          bytes),
+    )
 
 mul-be32-at : tie.Need-mul-be32-at Inv-loop μ-loop
 mul-be32-at c = search needs
@@ -45,9 +49,14 @@ be32-at-requires c κs = search needs
 returns : tie.Need-returns Inv-loop μ-loop
 returns c =
     let a = c .before .before .before .before .before .before .before .args in
-    let bytes : All Byte (now (a .s)) = bytes-all (now (a .s)) (λ i. omega (arith, c .before .before .before .before .before .before .shared-slice-known .given i)) in
-    let h : c .before .before .before .loop .i < a .count = c .before .before .loop-test .taken in
-    (place-here (now (a .s)) (a .count) (a .piece) (c .before .before .before .before .before .before .before .pre) bytes _ (c .before .before .before .loop .inv .0) (c .before .before .before .loop .inv .1) (c .before .before .before .loop .inv .2) (λ l. omega (arith, c .if1 .taken, c .before .be32-at .ensures .0)), omega arith)
+    let bytes : All Byte (now (a .s)) = bytes-all (now (a .s))
+    (λ i. omega (arith, c .before .before .before .before .before .before .shared-slice-known .given i)) in
+    let h : c .before .before .before .loop .i < a .count = c .before .before .loop-test .taken in (
+      place-here (now (a .s)) (a .count) (a .piece) (c .before .before .before .before .before .before .before .pre) bytes _
+          (c .before .before .before .loop .inv .0) (c .before .before .before .loop .inv .1) (c .before .before .before .loop .inv .2)
+          (λ l. omega (arith, c .if1 .taken, c .before .be32-at .ensures .0)),
+      omega arith,
+    )
 
 add-i-2 : tie.Need-add-i-2 Inv-loop μ-loop
 add-i-2 c = search needs
@@ -67,8 +76,11 @@ returns-2 c =
     let a = c .before .before .before .before .before .args in
     let bytes : All Byte (now (a .s)) = bytes-all (now (a .s)) (λ i. omega (arith, c .before .before .before .before .shared-slice-known .given i)) in
     let l = c .before .loop in
-    let e : l .i ≡ a .count = omega (arith, l .inv .1, c .loop-test .left) in
-    (sym e ∙ place-here (now (a .s)) (a .count) (a .piece) (c .before .before .before .before .before .pre) bytes (l .i) (l .inv .0) (l .inv .1) (l .inv .2) (λ h. absurd (omega (arith, c .loop-test .left))), omega arith)
+    let e : l .i ≡ a .count = omega (arith, l .inv .1, c .loop-test .left) in (
+      sym e ∙ place-here (now (a .s)) (a .count) (a .piece) (c .before .before .before .before .before .pre) bytes (l .i) (l .inv .0) (l .inv .1) (l .inv .2)
+          (λ h. absurd (omega (arith, c .loop-test .left))),
+      omega arith,
+    )
 
 pub link-place-spec : {M : Type 1} → statement M
 link-place-spec =

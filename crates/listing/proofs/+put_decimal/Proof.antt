@@ -24,21 +24,18 @@ abbrev put-decimal-below : ℕ → In 1 put-decimal-kinds.ps
 put-decimal-below t =
     and 1 put-decimal-kinds.ps (falls 1 put-decimal-kinds.ps _<_ μ-put-decimal t) put-decimal.Pre
 
--- src/lib.rt:40:24
 put-decimal-cast-out : (t : ℕ) → put-decimal-lts.Need-cast-out (
   put-decimal-below t,
   put-decimal.Post,
 ) (put-decimal-at t) put-decimal.Post
 put-decimal-cast-out t c = search needs
 
--- src/lib.rt:40:19
 put-decimal-add-out : (t : ℕ) → put-decimal-lts.Need-add-out (
   put-decimal-below t,
   put-decimal.Post,
 ) (put-decimal-at t) put-decimal.Post
 put-decimal-add-out t c = search needs
 
--- src/lib.rt:40:9
 put-decimal-slice-write-out : (t : ℕ) → put-decimal-lts.Need-slice-write-out (
   put-decimal-below t,
   put-decimal.Post,
@@ -46,21 +43,18 @@ put-decimal-slice-write-out : (t : ℕ) → put-decimal-lts.Need-slice-write-out
 put-decimal-slice-write-out t c =
     let a = c .before .before .args in room-one (a .n) (a .at) (length (now (a .out))) (c .if1 .taken) (c .before .before .pre .1)
 
--- src/lib.rt:41:16
 put-decimal-add-result : (t : ℕ) → put-decimal-lts.Need-add-result (
   put-decimal-below t,
   put-decimal.Post,
 ) (put-decimal-at t) put-decimal.Post
 put-decimal-add-result t c = search needs
 
--- src/lib.rt:41:9
 put-decimal-same-length : (t : ℕ) → put-decimal-lts.Need-same-length (
   put-decimal-below t,
   put-decimal.Post,
 ) (put-decimal-at t) put-decimal.Post
 put-decimal-same-length t c = search needs
 
--- src/lib.rt:41:9
 put-decimal-returns : (t : ℕ) → put-decimal-lts.Need-returns (
   put-decimal-below t,
   put-decimal.Post,
@@ -68,7 +62,6 @@ put-decimal-returns : (t : ℕ) → put-decimal-lts.Need-returns (
 put-decimal-returns t c =
     let a = c .before .before .args in one-digit (now (a .out)) (a .at) (a .n) (c .if1 .taken)
 
--- src/lib.rt:43:9
 put-decimal-put-decimal-requires : (t : ℕ) → put-decimal-lts.Need-put-decimal-requires (
   put-decimal-below t,
   put-decimal.Post,
@@ -79,21 +72,18 @@ put-decimal-put-decimal-requires t c κs =
     let r = room-on (a .n) (a .at) (length (now (a .out))) (c .before .if1 .left) l (c .before .before .before .pre .1) in
     (omega (arith, c .before .if1 .left, c .before .before .before .pre .0), omega (arith, r))
 
--- src/lib.rt:44:20
 put-decimal-cast-out-2 : (t : ℕ) → put-decimal-lts.Need-cast-out-2 (
   put-decimal-below t,
   put-decimal.Post,
 ) (put-decimal-at t) put-decimal.Post
 put-decimal-cast-out-2 t c = search needs
 
--- src/lib.rt:44:15
 put-decimal-add-out-2 : (t : ℕ) → put-decimal-lts.Need-add-out-2 (
   put-decimal-below t,
   put-decimal.Post,
 ) (put-decimal-at t) put-decimal.Post
 put-decimal-add-out-2 t c = search needs
 
--- src/lib.rt:44:5
 put-decimal-slice-write-out-2 : (t : ℕ) → put-decimal-lts.Need-slice-write-out-2 (
   put-decimal-below t,
   put-decimal.Post,
@@ -101,10 +91,10 @@ put-decimal-slice-write-out-2 : (t : ℕ) → put-decimal-lts.Need-slice-write-o
 put-decimal-slice-write-out-2 t c =
     let a = c .before .before .before .before .before .before .args in
     let l : a .n < 2 ^ 64 = omega arith in
-    let r = room-on (a .n) (a .at) (length (now (a .out))) (c .before .before .before .before .if1 .left) l (c .before .before .before .before .before .before .pre .1) in
+    let r = room-on (a .n) (a .at) (length (now (a .out))) (c .before .before .before .before .if1 .left) l
+    (c .before .before .before .before .before .before .pre .1) in
     omega (arith, r, c .before .before .put-decimal .ensures .0)
 
--- src/lib.rt:45:5
 put-decimal-add-result-2 : (t : ℕ) → put-decimal-lts.Need-add-result-2 (
   put-decimal-below t,
   put-decimal.Post,
@@ -112,17 +102,16 @@ put-decimal-add-result-2 : (t : ℕ) → put-decimal-lts.Need-add-result-2 (
 put-decimal-add-result-2 t c =
     let a = c .before .before .before .before .before .before .args in
     let l : a .n < 2 ^ 64 = omega arith in
-    let r = room-on (a .n) (a .at) (length (now (a .out))) (c .before .before .before .before .if1 .left) l (c .before .before .before .before .before .before .pre .1) in
+    let r = room-on (a .n) (a .at) (length (now (a .out))) (c .before .before .before .before .if1 .left) l
+    (c .before .before .before .before .before .before .pre .1) in
     omega (arith, r, c .before .before .put-decimal .ensures .0)
 
--- src/lib.rt:35:1
 put-decimal-same-length-2 : (t : ℕ) → put-decimal-lts.Need-same-length-2 (
   put-decimal-below t,
   put-decimal.Post,
 ) (put-decimal-at t) put-decimal.Post
 put-decimal-same-length-2 t c = search needs
 
--- src/lib.rt:35:1
 put-decimal-returns-2 : (t : ℕ) → put-decimal-lts.Need-returns-2 (
   put-decimal-below t,
   put-decimal.Post,
@@ -130,7 +119,8 @@ put-decimal-returns-2 : (t : ℕ) → put-decimal-lts.Need-returns-2 (
 put-decimal-returns-2 t c =
     let a = c .before .before .before .before .before .before .args in
     let l : a .n < 2 ^ 64 = omega arith in
-    last-digit (now (a .out)) (a .at) (a .n) (c .before .before .put-decimal .result) (c .before .before .put-decimal .last .0) (c .before .before .before .before .if1 .left) l (c .before .before .put-decimal .ensures)
+    last-digit (now (a .out)) (a .at) (a .n) (c .before .before .put-decimal .result) (c .before .before .put-decimal .last .0)
+    (c .before .before .before .before .if1 .left) l (c .before .before .put-decimal .ensures)
 
 pub +put-decimal-spec : {M : Type 1} → statement M
 +put-decimal-spec = close μ-put-decimal λ t. put-decimal-lts.spec (

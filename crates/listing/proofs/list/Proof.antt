@@ -10,41 +10,36 @@ use Rattle.listing.proofs.list_accepted.Reads as list-accepted-reads
 use Rattle.listing.proofs.list_refused.Reads as list-refused-reads
 use Rattle.reader.proofs.read.Reads as read-reads
 
--- src/lib.rt:152:11
 read-requires : tie.Need-read-requires
 read-requires c κs = search needs
 
--- src/lib.rt:153:29
 enum-known-length : tie.Need-enum-known-length
 enum-known-length c = search needs
 
--- src/lib.rt:153:48
 list-accepted-requires : tie.Need-list-accepted-requires
 list-accepted-requires c κs = sym (c .before .before .before .before .read .ensures) ∙ c .before .before .length .given .1
 
--- src/lib.rt:154:28
 enum-known-number : tie.Need-enum-known-number
 enum-known-number c = search needs
 
--- src/lib.rt:154:47
 list-refused-requires : tie.Need-list-refused-requires
 list-refused-requires c κs = search needs
 
--- src/lib.rt:149:1
 same-length : tie.Need-same-length
 same-length c = search needs
 
--- src/lib.rt:149:1
 returns : tie.Need-returns
-returns c = let a = c .before .before .before .before .before .before .before .before .before .before .args in list-by (now (a .file)) (now (a .out)) _ _ _ (sym (c .before .before .before .before .before .before .before .read .ensures) ∙ c .before .before .before .before .before .length .given .1) (c .before .before .list-accepted .ensures)
+returns c = let a = c .before .before .before .before .before .before .before .before .before .before .args in list-by (now (a .file)) (now (a .out)) _ _ _
+    (sym (c .before .before .before .before .before .before .before .read .ensures) ∙ c .before .before .before .before .before .length .given .1)
+    (c .before .before .list-accepted .ensures)
 
--- src/lib.rt:149:1
 same-length-2 : tie.Need-same-length-2
 same-length-2 c = search needs
 
--- src/lib.rt:149:1
 returns-2 : tie.Need-returns-2
-returns-2 c = let a = c .before .before .before .before .before .before .before .before .before .before .args in list-by (now (a .file)) (now (a .out)) _ _ _ (sym (c .before .before .before .before .before .before .before .read .ensures) ∙ c .before .before .before .before .before .number .given .1) (c .before .before .list-refused .ensures)
+returns-2 c = let a = c .before .before .before .before .before .before .before .before .before .before .args in list-by (now (a .file)) (now (a .out)) _ _ _
+    (sym (c .before .before .before .before .before .before .before .read .ensures) ∙ c .before .before .before .before .before .number .given .1)
+    (c .before .before .list-refused .ensures)
 
 pub list-spec : {M : Type 1} → statement M
 list-spec =

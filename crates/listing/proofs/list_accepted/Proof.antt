@@ -15,37 +15,37 @@ use Rattle.listing.proofs.list_accepted.Lts as lts
 use Rattle.listing.proofs.put_entries.Reads as put-entries-reads
 use Rattle.listing.proofs.put_head.Reads as put-head-reads
 
--- src/lib.rt:129:25
 mul-if1 : tie.Need-mul-if1
 mul-if1 c = omega (arith, accepted-is 0 (now (c .before .before .args .file)) _ _ (c .before .before .pre) .4)
 
--- src/lib.rt:129:20
 add-if1 : tie.Need-add-if1
 add-if1 c = omega (arith, accepted-is 0 (now (c .before .before .args .file)) _ _ (c .before .before .pre) .4)
 
--- src/lib.rt:130:9
 returns : tie.Need-returns
-returns c = let a = c .before .before .before .args in no-room (now (a .out)) (64 + 48 * a .count) (headLine (a .size) (a .count) ++ linesOf (now (a .file)) (indexOf (now (a .file)))) (c .if1 .taken)
+returns c = let a = c .before .before .before .args in no-room (now (a .out)) (64 + 48 * a .count) (headLine (a .size) (a .count) ++ linesOf (now (a .file))
+    (indexOf (now (a .file)))) (c .if1 .taken)
 
--- src/lib.rt:132:9
 put-head-requires : tie.Need-put-head-requires
 put-head-requires c κs = search needs
 
--- src/lib.rt:133:21
 put-entries-requires : tie.Need-put-entries-requires
-put-entries-requires c κs = let a = c .before .before .before .before .before .before .before .before .args in (size-known (now (a .file)) (a .size) (a .count) (c .before .before .before .before .before .before .before .before .pre), omega (arith, c .before .before .before .before .before .if1 .left, c .before .before .before .put-head .ensures .1))
+put-entries-requires c κs = let a = c .before .before .before .before .before .before .before .before .args in (
+  size-known (now (a .file)) (a .size) (a .count) (c .before .before .before .before .before .before .before .before .pre),
+  omega
+      (arith, c .before .before .before .before .before .if1 .left, c .before .before .before .put-head .ensures .1),
+)
 
--- src/lib.rt:125:1
 same-length : tie.Need-same-length
 same-length c = search needs
 
--- src/lib.rt:125:1
 returns-2 : tie.Need-returns-2
 returns-2 c = let a = c .before .before .before .before .before .before .before .before .before .before .before .args in
     let f = now (a .file) in
-    written (now (a .out)) (64 + 48 * a .count) (headLine (a .size) (a .count) ++ linesOf f (indexOf f)) _ _ (c .before .before .before .before .before .before .before .before .if1 .left)
+    written (now (a .out)) (64 + 48 * a .count) (headLine (a .size) (a .count) ++ linesOf f (indexOf f)) _ _
+    (c .before .before .before .before .before .before .before .before .if1 .left)
     (omega (arith, c .before .before .before .before .before .before .put-head .ensures .1, c .before .before .put-entries .ensures .1))
-    (more (now (a .out)) 0 (headLine (a .size) (a .count)) _ _ (c .before .before .before .before .before .before .put-head .ensures .0) (linesOf f (indexOf f)) _ _ (c .before .before .put-entries .ensures .0))
+    (more (now (a .out)) 0 (headLine (a .size) (a .count)) _ _ (c .before .before .before .before .before .before .put-head .ensures .0)
+    (linesOf f (indexOf f)) _ _ (c .before .before .put-entries .ensures .0))
 
 pub list-accepted-spec : {M : Type 1} → statement M
 list-accepted-spec =

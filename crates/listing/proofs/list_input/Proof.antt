@@ -17,12 +17,14 @@ returns c =
 returns-2 : tie.Need-returns-2
 returns-2 c =
     let a = c .before .before .before .before .before .before .before .before .args in
-    input-over (now (a .file)) (now (a .out)) _ _ (a .longer) (c .before .before .before .before .before .if1 .left) (c .before .before .before .before .if2 .taken) (c .before .before .list-refused2 .ensures)
+    input-over (now (a .file)) (now (a .out)) _ _ (a .longer) (c .before .before .before .before .before .if1 .left)
+    (c .before .before .before .before .if2 .taken) (c .before .before .list-refused2 .ensures)
 
 returns-3 : tie.Need-returns-3
 returns-3 c =
     let a = c .before .before .before .before .before .before .before .before .args in
-    input-whole (now (a .file)) (now (a .out)) _ _ (a .longer) (c .before .before .before .before .before .if1 .left) (c .before .before .before .before .if2 .left) (c .before .before .list .ensures)
+    input-whole (now (a .file)) (now (a .out)) _ _ (a .longer) (c .before .before .before .before .before .if1 .left)
+    (c .before .before .before .before .if2 .left) (c .before .before .list .ensures)
 
 pub list-input-spec : {M : Type 1} → statement M
 list-input-spec =

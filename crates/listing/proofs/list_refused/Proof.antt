@@ -12,43 +12,53 @@ use Rattle.listing.proofs.list_refused.Lts as lts
 use Rattle.listing.proofs.put_number.Reads as put-number-reads
 use Rattle.listing.proofs.put_text.Reads as put-text-reads
 
--- src/lib.rt:141:9
 returns : tie.Need-returns
 returns c = let a = c .before .before .args in no-room (now (a .out)) 64 (refusedLine (a .number) (a .place)) (c .if1 .taken)
 
--- src/lib.rt:143:34
 slice-aggregate-put-number : tie.Need-slice-aggregate-put-number
 slice-aggregate-put-number c = search needs
 
--- src/lib.rt:143:9
 put-number-requires : tie.Need-put-number-requires
 put-number-requires c κs = omega (arith, decimal-20 (c .before .before .before .before .args .number), c .before .before .if1 .left)
 
--- src/lib.rt:144:36
 slice-aggregate-put-number-2 : tie.Need-slice-aggregate-put-number-2
 slice-aggregate-put-number-2 c = search needs
 
--- src/lib.rt:144:9
 put-number-requires-2 : tie.Need-put-number-requires-2
-put-number-requires-2 c κs = let a = c .before .before .before .before .before .before .before .before .before .args in omega (arith, decimal-20 (a .number), decimal-20 (a .place), c .before .before .before .before .put-number .ensures .0, c .before .before .before .before .before .before .before .if1 .left)
+put-number-requires-2 c κs = let a = c .before .before .before .before .before .before .before .before .before .args in
+    omega (
+      arith,
+      decimal-20 (a .number),
+      decimal-20 (a .place),
+      c .before .before .before .before .put-number .ensures .0,
+      c .before .before .before .before .before .before .before .if1 .left,
+    )
 
--- src/lib.rt:145:40
 slice-aggregate-put-text : tie.Need-slice-aggregate-put-text
 slice-aggregate-put-text c = search needs
 
--- src/lib.rt:145:21
 put-text-requires : tie.Need-put-text-requires
-put-text-requires c κs = let a = c .before .before .before .before .before .before .before .before .before .before .before .before .before .before .args in omega (arith, decimal-20 (a .number), decimal-20 (a .place), c .before .before .before .before .before .before .before .before .before .put-number .ensures .0, c .before .before .before .before .put-number2 .ensures .0, c .before .before .before .before .before .before .before .before .before .before .before .before .if1 .left)
+put-text-requires c κs = let a = c .before .before .before .before .before .before .before .before .before .before .before .before .before .before .args in
+    omega (
+      arith,
+      decimal-20 (a .number),
+      decimal-20 (a .place),
+      c .before .before .before .before .before .before .before .before .before .put-number .ensures .0,
+      c .before .before .before .before .put-number2 .ensures .0,
+      c .before .before .before .before .before .before .before .before .before .before .before .before .if1 .left,
+    )
 
--- src/lib.rt:137:1
 same-length : tie.Need-same-length
 same-length c = search needs
 
--- src/lib.rt:137:1
 returns-2 : tie.Need-returns-2
-returns-2 c = let a = c .before .before .before .before .before .before .before .before .before .before .before .before .before .before .before .before .before .args in
-    let w = refused-line (now (a .out)) _ _ _ _ _ _ (a .number) (a .place) (c .before .before .before .before .before .before .before .before .before .before .before .before .put-number .ensures) (c .before .before .before .before .before .before .before .put-number2 .ensures) (c .before .before .put-text .ensures) in
-    written (now (a .out)) 64 (refusedLine (a .number) (a .place)) _ _ (c .before .before .before .before .before .before .before .before .before .before .before .before .before .before .before .if1 .left) (w .1) (w .0)
+returns-2 c = let a = c .before .before .before .before .before .before .before .before .before .before .before .before .before .before .before .before
+    .before .args in
+    let w = refused-line (now (a .out)) _ _ _ _ _ _ (a .number) (a .place)
+    (c .before .before .before .before .before .before .before .before .before .before .before .before .put-number .ensures)
+    (c .before .before .before .before .before .before .before .put-number2 .ensures) (c .before .before .put-text .ensures) in
+    written (now (a .out)) 64 (refusedLine (a .number) (a .place)) _ _
+    (c .before .before .before .before .before .before .before .before .before .before .before .before .before .before .before .if1 .left) (w .1) (w .0)
 
 pub list-refused-spec : {M : Type 1} → statement M
 list-refused-spec =

@@ -16,38 +16,40 @@ use Rattle.listing.proofs.put_entries.Lts as lts
 use Rattle.listing.proofs.put_entry.Reads as put-entry-reads
 
 abbrev Inv-loop : tie.InvT-loop
-Inv-loop out₀ at file count to₀ i₀ out to i = (i ≤ count) × (length out ≡ length out₀) × (to ≤ at + 48 * i) × Wrote out₀ at (linesOf file (take i (indexOf file))) to out
+Inv-loop out₀ at file count to₀ i₀ out to i = (i ≤ count) × (length out ≡ length out₀) × (to ≤ at + 48 * i) × Wrote out₀ at
+    (linesOf file (take i (indexOf file))) to out
 
 abbrev μ-loop : tie.MeasureT-loop
 μ-loop out₀ at file count to₀ i₀ out to i = count - i
 
--- src/lib.rt:107:5
 loop-holds : tie.Need-loop-holds Inv-loop μ-loop
 loop-holds c = let a = c .before .before .args in (omega arith, refl, omega arith, lines-none (now (a .file)) (now (a .out)) (a .at))
 
--- src/lib.rt:108:44
 mul-put-entry : tie.Need-mul-put-entry Inv-loop μ-loop
-mul-put-entry c = omega (arith, accepted-is 0 (now (c .before .before .before .before .before .args .file)) _ _ (c .before .before .before .before .before .pre .0) .4)
+mul-put-entry c = omega (
+  arith,
+  accepted-is 0 (now (c .before .before .before .before .before .args .file)) _ _
+      (c .before .before .before .before .before .pre .0) .4,
+)
 
--- src/lib.rt:108:39
 add-put-entry : tie.Need-add-put-entry Inv-loop μ-loop
-add-put-entry c = omega (arith, accepted-is 0 (now (c .before .before .before .before .before .args .file)) _ _ (c .before .before .before .before .before .pre .0) .4)
+add-put-entry c = omega (
+  arith,
+  accepted-is 0 (now (c .before .before .before .before .before .args .file)) _ _
+      (c .before .before .before .before .before .pre .0) .4,
+)
 
--- src/lib.rt:108:9
 put-entry-requires : tie.Need-put-entry-requires Inv-loop μ-loop
 put-entry-requires c κs = let f = now (c .before .before .before .before .before .args .file) in
     let e = entry-at 0 f _ _ (c .before .before .loop .i) (c .before .before .before .before .before .pre .0) (c .before .loop-test .taken) in
     (e .inside, e .chunk, omega (arith, c .before .before .before .before .before .pre .1))
 
--- src/lib.rt:109:9
 add-i : tie.Need-add-i Inv-loop μ-loop
 add-i c = search needs
 
--- src/lib.rt:107:5
 loop-less : tie.Need-loop-less Inv-loop μ-loop
 loop-less c = search needs
 
--- src/lib.rt:107:5
 loop-again : tie.Need-loop-again Inv-loop μ-loop
 loop-again c = let f = now (c .before .before .before .before .before .before .before .before .args .file) in
     let l = c .before .before .before .before .before .loop in
@@ -55,18 +57,21 @@ loop-again c = let f = now (c .before .before .before .before .before .before .b
       omega arith,
       omega arith,
       omega (arith, c .before .before .put-entry .ensures .1),
-      lines-turn f _ _ e (now (c .before .before .before .before .before .before .before .before .args .out)) _ _ (c .before .before .before .before .before .before .before .before .args .at) (l .i) _ _ (c .before .before .before .before .loop-test .taken) (l .inv .3) (c .before .before .put-entry .ensures .0),
+      lines-turn f _ _ e (now (c .before .before .before .before .before .before .before .before .args .out)) _ _
+          (c .before .before .before .before .before .before .before .before .args .at) (l .i) _ _ (c .before .before .before .before .loop-test .taken)
+          (l .inv .3) (c .before .before .put-entry .ensures .0),
     )
 
--- src/lib.rt:101:1
 same-length : tie.Need-same-length Inv-loop μ-loop
 same-length c = search needs
 
--- src/lib.rt:101:1
 returns : tie.Need-returns Inv-loop μ-loop
 returns c = let f = now (c .before .before .before .before .args .file) in
-    let l = c .before .loop in
-    (lines-whole f _ _ (c .before .before .before .before .pre .0) (now (c .before .before .before .before .args .out)) _ (c .before .before .before .before .args .at) (l .i) _ (c .loop-test .left) (l .inv .3), omega (arith, l .inv .2, l .inv .0))
+    let l = c .before .loop in (
+      lines-whole f _ _ (c .before .before .before .before .pre .0) (now (c .before .before .before .before .args .out)) _
+          (c .before .before .before .before .args .at) (l .i) _ (c .loop-test .left) (l .inv .3),
+      omega (arith, l .inv .2, l .inv .0),
+    )
 
 pub put-entries-spec : {M : Type 1} → statement M
 put-entries-spec =

@@ -9,30 +9,26 @@ use Rattle.blorb.proofs.be32_at.Reads as be32-at-reads
 use Rattle.listing.proofs.put_chunk.Reads as put-chunk-reads
 use Rattle.listing.proofs.put_fields.Reads as put-fields-reads
 
--- src/lib.rt:95:38
 add-be32-at : tie.Need-add-be32-at
 add-be32-at c = search needs
 
--- src/lib.rt:95:17
 be32-at-requires : tie.Need-be32-at-requires
 be32-at-requires c κs = search needs
 
--- src/lib.rt:96:9
 put-fields-requires : tie.Need-put-fields-requires
 put-fields-requires c κs = search needs
 
--- src/lib.rt:97:5
 put-chunk-requires : tie.Need-put-chunk-requires
 put-chunk-requires c κs = search needs
 
--- src/lib.rt:91:1
 same-length : tie.Need-same-length
 same-length c = search needs
 
--- src/lib.rt:91:1
 returns : tie.Need-returns
 returns c = let a = c .before .before .before .before .before .before .before .before .before .before .before .args in
-    entry-text (now (a .file)) (now (a .out)) _ _ (a .p) _ (a .at) _ _ (c .before .before .before .before .before .before .before .before .be32-at .ensures .0) (c .before .before .before .before .before .before .put-fields .ensures) (c .before .before .put-chunk .ensures)
+    entry-text (now (a .file)) (now (a .out)) _ _ (a .p) _ (a .at) _ _
+    (c .before .before .before .before .before .before .before .before .be32-at .ensures .0)
+    (c .before .before .before .before .before .before .put-fields .ensures) (c .before .before .put-chunk .ensures)
 
 pub put-entry-spec : {M : Type 1} → statement M
 put-entry-spec =

@@ -11,51 +11,58 @@ use Rattle.blorb.proofs.be32_at.Reads as be32-at-reads
 use Rattle.listing.proofs.put_number.Reads as put-number-reads
 use Rattle.listing.proofs.put_tag.Reads as put-tag-reads
 
--- src/lib.rt:71:39
 add-be32-at : tie.Need-add-be32-at
 add-be32-at c = search needs
 
--- src/lib.rt:71:9
 be32-at-requires : tie.Need-be32-at-requires
 be32-at-requires c κs = search needs
 
--- src/lib.rt:72:38
 add-be32-at-2 : tie.Need-add-be32-at-2
 add-be32-at-2 c = search needs
 
--- src/lib.rt:72:9
 be32-at-requires-2 : tie.Need-be32-at-requires-2
 be32-at-requires-2 c κs = search needs
 
--- src/lib.rt:73:9
 put-tag-requires : tie.Need-put-tag-requires
 put-tag-requires c κs = search needs
 
--- src/lib.rt:74:36
 slice-aggregate-put-number : tie.Need-slice-aggregate-put-number
 slice-aggregate-put-number c = search needs
 
--- src/lib.rt:74:9
 put-number-requires : tie.Need-put-number-requires
-put-number-requires c κs = omega (arith, decimal-10 _ (c .before .before .before .before .before .before .before .be32-at .ensures .1), c .before .before .before .before .put-tag .ensures .1, c .before .before .before .before .before .before .before .before .before .before .pre .1)
+put-number-requires c κs = omega (
+  arith,
+  decimal-10 _ (c .before .before .before .before .before .before .before .be32-at .ensures .1),
+  c .before .before .before .before .put-tag .ensures .1,
+  c .before .before .before .before .before .before .before .before .before .before .pre .1,
+)
 
--- src/lib.rt:75:26
 slice-aggregate-put-number-2 : tie.Need-slice-aggregate-put-number-2
 slice-aggregate-put-number-2 c = search needs
 
--- src/lib.rt:75:5
 put-number-requires-2 : tie.Need-put-number-requires-2
-put-number-requires-2 c κs = omega (arith, decimal-10 _ (c .before .before .before .before .before .before .before .before .before .before .before .before .be32-at .ensures .1), decimal-10 _ (c .before .before .before .before .before .before .before .before .before .before .before .be32-at2 .ensures .1), c .before .before .before .before .before .before .before .before .before .put-tag .ensures .1, c .before .before .before .before .put-number .ensures .0, c .before .before .before .before .before .before .before .before .before .before .before .before .before .before .before .pre .1)
+put-number-requires-2 c κs = omega (
+  arith,
+  decimal-10 _ (c .before .before .before .before .before .before .before .before .before .before .before .before .be32-at .ensures .1),
+  decimal-10
+      _ (c .before .before .before .before .before .before .before .before .before .before .before .be32-at2 .ensures .1),
+  c .before .before .before .before .before .before .before .before .before .put-tag .ensures .1,
+  c .before .before .before .before .put-number .ensures .0,
+  c .before .before .before .before .before .before .before .before .before .before .before .before .before .before .before .pre .1,
+)
 
--- src/lib.rt:67:1
 same-length : tie.Need-same-length
 same-length c = search needs
 
--- src/lib.rt:67:1
 returns : tie.Need-returns
-returns c = let a = c .before .before .before .before .before .before .before .before .before .before .before .before .before .before .before .before .before .before .args in
-    fields-text (now (a .file)) (a .p) _ _ (c .before .before .before .before .before .before .before .before .before .before .before .before .before .before .before .be32-at .ensures) (c .before .before .before .before .before .before .before .before .before .before .before .before .before .before .be32-at2 .ensures) (now (a .out)) (a .at) _ _ _ _ _ _
-    (c .before .before .before .before .before .before .before .before .before .before .before .before .put-tag .ensures) (c .before .before .before .before .before .before .before .put-number .ensures) (c .before .before .put-number2 .ensures)
+returns c = let a = c .before .before .before .before .before .before .before .before .before .before .before .before .before .before .before .before .before
+    .before .args in
+    fields-text (now (a .file)) (a .p) _ _
+    (c .before .before .before .before .before .before .before .before .before .before .before .before .before .before .before .be32-at .ensures)
+    (c .before .before .before .before .before .before .before .before .before .before .before .before .before .before .be32-at2 .ensures) (now (a .out))
+    (a .at) _ _ _ _ _ _
+    (c .before .before .before .before .before .before .before .before .before .before .before .before .put-tag .ensures)
+    (c .before .before .before .before .before .before .before .put-number .ensures) (c .before .before .put-number2 .ensures)
 
 pub put-fields-spec : {M : Type 1} → statement M
 put-fields-spec =

@@ -10,38 +10,40 @@ use Rattle.listing.proofs.put_head.Lts as lts
 use Rattle.listing.proofs.put_number.Reads as put-number-reads
 use Rattle.listing.proofs.put_text.Reads as put-text-reads
 
--- src/lib.rt:119:34
 slice-aggregate-put-number : tie.Need-slice-aggregate-put-number
 slice-aggregate-put-number c = search needs
 
--- src/lib.rt:119:9
 put-number-requires : tie.Need-put-number-requires
 put-number-requires c κs = omega (arith, decimal-20 (c .before .before .before .args .size))
 
--- src/lib.rt:120:36
 slice-aggregate-put-number-2 : tie.Need-slice-aggregate-put-number-2
 slice-aggregate-put-number-2 c = search needs
 
--- src/lib.rt:120:9
 put-number-requires-2 : tie.Need-put-number-requires-2
-put-number-requires-2 c κs = let a = c .before .before .before .before .before .before .before .before .args in omega (arith, decimal-20 (a .size), decimal-20 (a .count), c .before .before .before .before .put-number .ensures .0)
+put-number-requires-2 c κs = let a = c .before .before .before .before .before .before .before .before .args in
+    omega (arith, decimal-20 (a .size), decimal-20 (a .count), c .before .before .before .before .put-number .ensures .0)
 
--- src/lib.rt:121:24
 slice-aggregate-put-text : tie.Need-slice-aggregate-put-text
 slice-aggregate-put-text c = search needs
 
--- src/lib.rt:121:5
 put-text-requires : tie.Need-put-text-requires
-put-text-requires c κs = let a = c .before .before .before .before .before .before .before .before .before .before .before .before .before .args in omega (arith, decimal-20 (a .size), decimal-20 (a .count), c .before .before .before .before .before .before .before .before .before .put-number .ensures .0, c .before .before .before .before .put-number2 .ensures .0)
+put-text-requires c κs = let a = c .before .before .before .before .before .before .before .before .before .before .before .before .before .args in
+    omega (
+      arith,
+      decimal-20 (a .size),
+      decimal-20 (a .count),
+      c .before .before .before .before .before .before .before .before .before .put-number .ensures .0,
+      c .before .before .before .before .put-number2 .ensures .0,
+    )
 
--- src/lib.rt:115:1
 same-length : tie.Need-same-length
 same-length c = search needs
 
--- src/lib.rt:115:1
 returns : tie.Need-returns
 returns c = let a = c .before .before .before .before .before .before .before .before .before .before .before .before .before .before .before .before .args in
-    head-line (now (a .out)) _ _ _ _ _ _ (a .size) (a .count) (c .before .before .before .before .before .before .before .before .before .before .before .before .put-number .ensures) (c .before .before .before .before .before .before .before .put-number2 .ensures) (c .before .before .put-text .ensures)
+    head-line (now (a .out)) _ _ _ _ _ _ (a .size) (a .count)
+    (c .before .before .before .before .before .before .before .before .before .before .before .before .put-number .ensures)
+    (c .before .before .before .before .before .before .before .put-number2 .ensures) (c .before .before .put-text .ensures)
 
 pub put-head-spec : {M : Type 1} → statement M
 put-head-spec =

@@ -9,23 +9,20 @@ use Rattle.listing.proofs.put_number.Lts as lts
 use Rattle.listing.proofs.put_decimal.Reads as put-decimal-reads
 use Rattle.listing.proofs.put_text.Reads as put-text-reads
 
--- src/lib.rt:53:9
 put-text-requires : tie.Need-put-text-requires
 put-text-requires c κs = search needs
 
--- src/lib.rt:54:5
 put-decimal-requires : tie.Need-put-decimal-requires
 put-decimal-requires c κs = search needs
 
--- src/lib.rt:49:1
 same-length : tie.Need-same-length
 same-length c = search needs
 
--- src/lib.rt:49:1
 returns : tie.Need-returns
 returns c =
     let a = c .before .before .before .before .before .before .before .before .before .before .args in
-    more (now (a .out)) (a .at) (now (a .text)) _ _ (c .before .before .before .before .before .before .put-text .ensures) (decimal (a .n)) _ _ (c .before .before .put-decimal .ensures)
+    more (now (a .out)) (a .at) (now (a .text)) _ _ (c .before .before .before .before .before .before .put-text .ensures) (decimal (a .n)) _ _
+    (c .before .before .put-decimal .ensures)
 
 pub put-number-spec : {M : Type 1} → statement M
 put-number-spec = tie.close (tie.spec put-text-requires put-decimal-requires same-length returns)

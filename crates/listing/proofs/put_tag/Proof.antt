@@ -15,37 +15,31 @@ use Rattle.listing.proofs.put_tag.Reads as reads
 use Rattle.listing.proofs.put_tag.Lts as lts
 use Rattle.listing.proofs.put_text.Reads as put-text-reads
 
--- src/lib.rt:62:14
 add-to : tie.Need-add-to
 add-to c = search needs
 
--- src/lib.rt:63:23
 sub-put-text : tie.Need-sub-put-text
 sub-put-text c = search needs
 
--- src/lib.rt:63:23
 part-put-text-start : tie.Need-part-put-text-start
 part-put-text-start c = search needs
 
--- src/lib.rt:63:23
 part-put-text-end : tie.Need-part-put-text-end
 part-put-text-end c = search needs
 
--- src/lib.rt:63:5
 put-text-requires : tie.Need-put-text-requires
 put-text-requires c κs = search needs
 
--- src/lib.rt:58:1
 same-length : tie.Need-same-length
 same-length c = search needs
 
--- src/lib.rt:58:1
 returns : tie.Need-returns
 returns c =
     let a = c .before .before .before .before .before .before .before .args in
     let f = now (a .file) in
     let bytes : All Byte f = bytes-all f (λ i. omega (arith, c .before .before .before .before .before .shared-slice-known .given i)) in
-    let w = rw (tag-is f (a .from) (a .from + 4) bytes refl (c .before .before .before .before .before .before .before .pre .0)) at (c .before .before .put-text .ensures) in
+    let w = rw (tag-is f (a .from) (a .from + 4) bytes refl (c .before .before .before .before .before .before .before .pre .0)) at
+    (c .before .before .put-text .ensures) in
     (w, omega (arith, w .0, length-be32 (rd32 (drop (a .from) f))))
 
 pub put-tag-spec : {M : Type 1} → statement M

@@ -7,34 +7,31 @@ use Rattle.listing_io.proofs.list_whole.Reads as reads
 use Rattle.listing_io.proofs.list_whole.Lts as lts
 use Rattle.listing.proofs.list_input.Reads as list-input-reads
 
--- src/lib.rt:16:30
 list-input-requires : tie.Need-list-input-requires
 list-input-requires c κs = search needs
 
--- src/lib.rt:16:25
 enum-known-n : tie.Need-enum-known-n
 enum-known-n c = search needs
 
--- src/lib.rt:17:9
 enum-told : tie.Need-enum-told
 enum-told c = search needs
 
--- src/lib.rt:17:9
 same-length : tie.Need-same-length
 same-length c = search needs
 
--- src/lib.rt:17:9
 returns : tie.Need-returns
-returns c = let a = c .before .before .before .before .before .before .before .before .args in room-enough (now (a .file)) (a .longer) (now (a .out)) _ (c .before .before .before .before .before .before .before .before .pre) (c .before .before .before .before .list-input .ensures .0) (c .enum-told .given .1)
+returns c = let a = c .before .before .before .before .before .before .before .before .args in room-enough (now (a .file)) (a .longer) (now (a .out)) _
+    (c .before .before .before .before .before .before .before .before .pre) (c .before .before .before .before .list-input .ensures .0)
+    (c .enum-told .given .1)
 
--- src/lib.rt:12:1
 same-length-2 : tie.Need-same-length-2
 same-length-2 c = search needs
 
--- src/lib.rt:12:1
 returns-2 : tie.Need-returns-2
 returns-2 c = let a = c .before .before .before .before .before .before .before .before .before .args in
-    whole (now (a .file)) (a .longer) (now (a .out)) _ (c .before .before .before .before .before .before .before .before .before .pre) (c .before .before .before .before .before .list-input .ensures .0) _ _ (c .before .n .given .1) (c .before .before .before .before .before .list-input .kept .1 .1 .0) (c .before .before .before .before .before .list-input .ensures .1)
+    whole (now (a .file)) (a .longer) (now (a .out)) _ (c .before .before .before .before .before .before .before .before .before .pre)
+    (c .before .before .before .before .before .list-input .ensures .0) _ _ (c .before .n .given .1)
+    (c .before .before .before .before .before .list-input .kept .1 .1 .0) (c .before .before .before .before .before .list-input .ensures .1)
 
 pub list-whole-spec : {M : Type 1} → statement M
 list-whole-spec =

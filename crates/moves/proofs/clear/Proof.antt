@@ -17,38 +17,34 @@ Inv-loop buf₀ at n i₀ buf i = (i ≤ n) × (length buf ≡ length buf₀) ×
 abbrev μ-loop : tie.MeasureT-loop
 μ-loop buf₀ at n i₀ buf i = n - i
 
--- src/lib.rt:62:5
 loop-holds : tie.Need-loop-holds Inv-loop μ-loop
 loop-holds c = (omega arith, refl, paste-zero (now (c .args .buf)) (c .args .at) (replicate (c .args .n) 0))
 
--- src/lib.rt:63:13
 add-buf : tie.Need-add-buf Inv-loop μ-loop
 add-buf c = search needs
 
--- src/lib.rt:63:9
 slice-write-buf : tie.Need-slice-write-buf Inv-loop μ-loop
 slice-write-buf c = search needs
 
--- src/lib.rt:64:9
 add-i : tie.Need-add-i Inv-loop μ-loop
 add-i c = search needs
 
--- src/lib.rt:62:5
 loop-less : tie.Need-loop-less Inv-loop μ-loop
 loop-less c = search needs
 
--- src/lib.rt:62:5
 loop-again : tie.Need-loop-again Inv-loop μ-loop
 loop-again c =
     let l = c .before .loop in
-    let a = c .before .before .args in
-    (omega arith, simp length-set (omega arith), rw (l .inv .2) (clear-turn (now (a .buf)) (a .at) (a .n) (l .i) (c .before .before .pre) (c .loop-test .taken)))
+    let a = c .before .before .args in (
+      omega arith,
+      simp length-set (omega arith),
+      rw (l .inv .2) (clear-turn (now (a .buf)) (a .at) (a .n) (l .i) (c .before .before .pre)
+          (c .loop-test .taken)),
+    )
 
--- src/lib.rt:57:1
 same-length : tie.Need-same-length Inv-loop μ-loop
 same-length c = search needs
 
--- src/lib.rt:57:1
 returns : tie.Need-returns Inv-loop μ-loop
 returns c =
     let l = c .before .loop in

@@ -7,15 +7,12 @@ use Rattle.moves.proofs.copy_in.Reads as reads
 use Rattle.moves.proofs.copy_in.Lts as lts
 use Rattle.moves.proofs.shift.copy_parts.Reads as copy-parts-reads
 
--- src/moves.rt:46:5
 copy-parts-requires : tie.Need-copy-parts-requires
 copy-parts-requires c κs = search needs
 
--- src/moves.rt:42:1
 same-length : tie.Need-same-length
 same-length c = search needs
 
--- src/moves.rt:42:1
 returns : tie.Need-returns
 returns c = c .before .before .copy-parts .ensures ∙ copied _ _ _ _ refl
 

@@ -17,66 +17,56 @@ use Rattle.moves.proofs.put32.Reads as put32-reads
 use Rattle.blorb.proofs.be32_at.Reads as be32-at-reads
 
 abbrev Inv-loop : tie.InvT-loop
-Inv-loop buf₀ at n m i₀ p₀ buf i p = (i ≤ n) × (p ≡ at + 12 * i) × (length buf ≡ length buf₀) × (startsMoved (relocated m) (n - i) p buf ≡ startsMoved (relocated m) n at buf₀)
+Inv-loop buf₀ at n m i₀ p₀ buf i p = (i ≤ n) × (p ≡ at + 12 * i) × (length buf ≡ length buf₀) × (startsMoved (relocated m) (n - i) p buf ≡ startsMoved
+    (relocated m) n at buf₀)
 
 abbrev μ-loop : tie.MeasureT-loop
 μ-loop buf₀ at n m i₀ p₀ buf i p = n - i
 
--- src/lib.rt:96:5
 loop-holds : tie.Need-loop-holds Inv-loop μ-loop
 loop-holds c = (omega arith, omega arith, refl, rw sub-zero)
 
--- src/lib.rt:97:27
 add-be32-at : tie.Need-add-be32-at Inv-loop μ-loop
 add-be32-at c = search needs
 
--- src/lib.rt:97:13
 be32-at-requires : tie.Need-be32-at-requires Inv-loop μ-loop
 be32-at-requires c κs = search needs
 
--- src/lib.rt:98:20
 add-put32 : tie.Need-add-put32 Inv-loop μ-loop
 add-put32 c = search needs
 
--- src/lib.rt:98:27
 start-requires : tie.Need-start-requires Inv-loop μ-loop
 start-requires c κs = search needs
 
--- src/lib.rt:98:9
 put32-requires : tie.Need-put32-requires Inv-loop μ-loop
 put32-requires c κs = search needs
 
--- src/lib.rt:99:9
 add-p : tie.Need-add-p Inv-loop μ-loop
 add-p c = search needs
 
--- src/lib.rt:100:9
 add-i : tie.Need-add-i Inv-loop μ-loop
 add-i c = search needs
 
--- src/lib.rt:96:5
 loop-less : tie.Need-loop-less Inv-loop μ-loop
 loop-less c = search needs
 
--- src/lib.rt:96:5
 loop-again : tie.Need-loop-again Inv-loop μ-loop
 loop-again c =
     let l = c .before .before .before .before .before .before .before .before .loop in
     let a = c .before .before .before .before .before .before .before .before .before .before .args in
     let f = relocated (a .m) in
     let e : c .before .before .put32 .last .0 ≡ noted (l .buf) (l .p + 8) (be32 (f (rd32 (drop (l .p + 8) (l .buf)))))
-    = c .before .before .put32 .ensures ∙ ap (λ (v : ℕ). noted (l .buf) (l .p + 8) (be32 v)) (c .before .before .before .start .ensures ∙ ap f (c .before .before .before .before .before .be32-at .ensures .0)) in (
+    = c .before .before .put32 .ensures ∙ ap (λ (v : ℕ). noted (l .buf) (l .p + 8) (be32 v)) (c .before .before .before .start .ensures
+    ∙ ap f (c .before .before .before .before .before .be32-at .ensures .0)) in (
       omega arith,
       omega arith,
       search needs,
       rw e (start-turn f (a .n) (l .i) (a .at) (l .p) (l .buf) (c .before .before .before .before .before .before .before .loop-test .taken)) ∙ l .inv .3,
     )
 
--- src/lib.rt:90:1
 same-length : tie.Need-same-length Inv-loop μ-loop
 same-length c = search needs
 
--- src/lib.rt:90:1
 returns : tie.Need-returns Inv-loop μ-loop
 returns c =
     let l = c .before .loop in

@@ -11,19 +11,15 @@ use Rattle.moves.proofs.put32.Lts as lts
 use Rattle.moves.proofs.put_low.Reads as put-low-reads
 use Rattle.moves.proofs.turn.Reads as turn-reads
 
--- src/moves.rt:53:22
 turn-requires : tie.Need-turn-requires
 turn-requires c κs = search needs
 
--- src/moves.rt:53:5
 put-low-requires : tie.Need-put-low-requires
 put-low-requires c κs = search needs
 
--- src/moves.rt:49:1
 same-length : tie.Need-same-length
 same-length c = search needs
 
--- src/moves.rt:49:1
 returns : tie.Need-returns
 returns c =
     let a = c .before .before .before .before .before .before .args in

@@ -6,15 +6,12 @@ use Rattle.moves.proofs.put8.Tie as tie
 use Rattle.moves.proofs.put8.Reads as reads
 use Rattle.moves.proofs.put8.Lts as lts
 
--- src/lib.rt:120:5
 slice-write-buf : tie.Need-slice-write-buf
 slice-write-buf c = search needs
 
--- src/lib.rt:116:1
 same-length : tie.Need-same-length
 same-length c = search needs
 
--- src/lib.rt:116:1
 returns : tie.Need-returns
 returns c = one-byte (now (c .args .buf)) (c .args .at) (c .args .v) (c .pre)
 

@@ -9,47 +9,46 @@ use Rattle.moves.proofs.clear.Reads as clear-reads
 use Rattle.moves.proofs.copy_in.Reads as copy-in-reads
 use Rattle.moves.proofs.put32.Reads as put32-reads
 
--- src/lib.rt:140:5
 put32-requires : tie.Need-put32-requires
 put32-requires c κs = search needs
 
--- src/lib.rt:141:16
 add-put32 : tie.Need-add-put32
 add-put32 c = search needs
 
--- src/lib.rt:141:5
 put32-requires-2 : tie.Need-put32-requires-2
 put32-requires-2 c κs = search needs
 
--- src/lib.rt:142:18
 add-copy-in : tie.Need-add-copy-in
 add-copy-in c = search needs
 
--- src/lib.rt:142:5
 copy-in-requires : tie.Need-copy-in-requires
 copy-in-requires c κs = search needs
 
--- src/lib.rt:143:16
 add-clear : tie.Need-add-clear
 add-clear c = search needs
 
--- src/lib.rt:143:16
 add-clear-2 : tie.Need-add-clear-2
 add-clear-2 c = search needs
 
--- src/lib.rt:143:5
 clear-requires : tie.Need-clear-requires
 clear-requires c κs = search needs
 
--- src/lib.rt:135:1
 same-length : tie.Need-same-length
 same-length c = search needs
 
--- src/lib.rt:135:1
 returns : tie.Need-returns
 returns c =
-    let a = c .before .before .before .before .before .before .before .before .before .before .before .before .before .before .before .before .before .before .args in
-    rw (c .before .before .clear .ensures, c .before .before .before .before .before .before .copy-in .ensures, c .before .before .before .before .before .before .before .before .before .before .put322 .ensures, c .before .before .before .before .before .before .before .before .before .before .before .before .before .before .put32 .ensures) (chunk-written (now (a .buf)) (a .at) (a .kind) (now (a .d)) (c .before .before .before .before .before .before .before .before .before .before .before .before .before .before .before .before .before .before .pre))
+    let a = c .before .before .before .before .before .before .before .before .before .before .before .before .before .before .before .before .before
+    .before .args in
+    rw (
+      c .before .before .clear .ensures,
+      c .before .before .before .before .before .before .copy-in .ensures,
+      c .before .before .before .before .before .before .before .before .before .before .put322 .ensures,
+      c .before .before .before .before .before .before .before .before .before .before .before .before .before .before .put32 .ensures,
+    )
+    (chunk-written (now (a .buf)) (a .at) (a .kind) (now (a .d))
+    (c .before .before .before .before .before .before .before .before .before .before .before .before .before .before .before .before .before
+    .before .pre))
 
 pub put-chunk-spec : {M : Type 1} → statement M
 put-chunk-spec =

@@ -7,43 +7,35 @@ use Rattle.moves.proofs.put_heading.Reads as reads
 use Rattle.moves.proofs.put_heading.Lts as lts
 use Rattle.moves.proofs.put_words.Reads as put-words-reads
 
--- src/lib.rt:130:40
 mul-put-words : tie.Need-mul-put-words
 mul-put-words c = search needs
 
--- src/lib.rt:130:35
 add-put-words : tie.Need-add-put-words
 add-put-words c = search needs
 
--- src/lib.rt:130:35
 add-put-words-2 : tie.Need-add-put-words-2
 add-put-words-2 c = search needs
 
--- src/lib.rt:130:5
 put-words-requires : tie.Need-put-words-requires
 put-words-requires c κs = search needs
 
--- src/lib.rt:131:40
 mul-put-words-2 : tie.Need-mul-put-words-2
 mul-put-words-2 c = search needs
 
--- src/lib.rt:131:36
 add-put-words-3 : tie.Need-add-put-words-3
 add-put-words-3 c = search needs
 
--- src/lib.rt:131:5
 put-words-requires-2 : tie.Need-put-words-requires-2
 put-words-requires-2 c κs = search needs
 
--- src/lib.rt:126:1
 same-length : tie.Need-same-length
 same-length c = search needs
 
--- src/lib.rt:126:1
 returns : tie.Need-returns
 returns c =
     let a = c .before .before .before .before .before .before .before .before .before .args in
-    rw (c .before .before .put-words2 .ensures, c .before .before .before .before .before .before .put-words .ensures) (heading-written (now (a .buf)) (a .n) (a .t) (c .before .before .before .before .before .before .before .before .before .pre .0))
+    rw (c .before .before .put-words2 .ensures, c .before .before .before .before .before .before .put-words .ensures) (heading-written (now (a .buf)) (a .n)
+    (a .t) (c .before .before .before .before .before .before .before .before .before .pre .0))
 
 pub put-heading-spec : {M : Type 1} → statement M
 put-heading-spec =

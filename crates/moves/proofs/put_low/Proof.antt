@@ -13,55 +13,42 @@ use Rattle.moves.proofs.put_low.Tie as tie
 use Rattle.moves.proofs.put_low.Reads as reads
 use Rattle.moves.proofs.put_low.Lts as lts
 
--- src/moves.rt:35:15
 cast-buf : tie.Need-cast-buf
 cast-buf c = search needs
 
--- src/moves.rt:35:5
 slice-write-buf : tie.Need-slice-write-buf
 slice-write-buf c = search needs
 
--- src/moves.rt:36:19
 cast-buf-2 : tie.Need-cast-buf-2
 cast-buf-2 c = search needs
 
--- src/moves.rt:36:9
 add-buf : tie.Need-add-buf
 add-buf c = search needs
 
--- src/moves.rt:36:5
 slice-write-buf-2 : tie.Need-slice-write-buf-2
 slice-write-buf-2 c = simp length-set (omega arith)
 
--- src/moves.rt:37:19
 cast-buf-3 : tie.Need-cast-buf-3
 cast-buf-3 c = search needs
 
--- src/moves.rt:37:9
 add-buf-2 : tie.Need-add-buf-2
 add-buf-2 c = search needs
 
--- src/moves.rt:37:5
 slice-write-buf-3 : tie.Need-slice-write-buf-3
 slice-write-buf-3 c = simp length-set (omega arith)
 
--- src/moves.rt:38:19
 cast-buf-4 : tie.Need-cast-buf-4
 cast-buf-4 c = search needs
 
--- src/moves.rt:38:9
 add-buf-3 : tie.Need-add-buf-3
 add-buf-3 c = search needs
 
--- src/moves.rt:38:5
 slice-write-buf-4 : tie.Need-slice-write-buf-4
 slice-write-buf-4 c = simp length-set (omega arith)
 
--- src/moves.rt:31:1
 same-length : tie.Need-same-length
 same-length c = search needs
 
--- src/moves.rt:31:1
 returns : tie.Need-returns
 unfolding low4 noted
 returns c =
@@ -69,7 +56,8 @@ returns c =
     let p : a .at + 1 ≡ suc (a .at) = omega arith in
     let q : a .at + 2 ≡ suc (suc (a .at)) = omega arith in
     let r : a .at + 3 ≡ suc (suc (suc (a .at))) = omega arith in
-    rw (p, q, r) (sets-eq (low4 (a .v)) (now (a .buf)) (a .at) (c .pre) ∙ append-assoc (take (a .at) (now (a .buf))) (low4 (a .v)) (drop (a .at + 4) (now (a .buf))))
+    rw (p, q, r) (sets-eq (low4 (a .v)) (now (a .buf)) (a .at) (c .pre) ∙ append-assoc (take (a .at) (now (a .buf))) (low4 (a .v))
+    (drop (a .at + 4) (now (a .buf))))
 
 pub put-low-spec : {M : Type 1} → statement M
 put-low-spec =

@@ -7,35 +7,33 @@ use Rattle.moves.proofs.put_words.Reads as reads
 use Rattle.moves.proofs.put_words.Lts as lts
 use Rattle.moves.proofs.put32.Reads as put32-reads
 
--- src/lib.rt:120:5
 put32-requires : tie.Need-put32-requires
 put32-requires c κs = search needs
 
--- src/lib.rt:121:16
 add-put32 : tie.Need-add-put32
 add-put32 c = search needs
 
--- src/lib.rt:121:5
 put32-requires-2 : tie.Need-put32-requires-2
 put32-requires-2 c κs = search needs
 
--- src/lib.rt:122:16
 add-put32-2 : tie.Need-add-put32-2
 add-put32-2 c = search needs
 
--- src/lib.rt:122:5
 put32-requires-3 : tie.Need-put32-requires-3
 put32-requires-3 c κs = search needs
 
--- src/lib.rt:116:1
 same-length : tie.Need-same-length
 same-length c = search needs
 
--- src/lib.rt:116:1
 returns : tie.Need-returns
 returns c =
     let a = c .before .before .before .before .before .before .before .before .before .before .before .before .before .args in
-    rw (c .before .before .put323 .ensures, c .before .before .before .before .before .before .put322 .ensures, c .before .before .before .before .before .before .before .before .before .before .put32 .ensures) (words (now (a .buf)) (a .at) (a .a) (a .b) (a .c) (c .before .before .before .before .before .before .before .before .before .before .before .before .before .pre))
+    rw (
+      c .before .before .put323 .ensures,
+      c .before .before .before .before .before .before .put322 .ensures,
+      c .before .before .before .before .before .before .before .before .before .before .put32 .ensures,
+    ) (words (now (a .buf)) (a .at) (a .a) (a .b) (a .c)
+    (c .before .before .before .before .before .before .before .before .before .before .before .before .before .pre))
 
 pub put-words-spec : {M : Type 1} → statement M
 put-words-spec =

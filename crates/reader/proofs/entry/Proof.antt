@@ -10,81 +10,80 @@ use Rattle.blorb.proofs.Usage.of_code.Reads as of-code-reads
 use Rattle.blorb.proofs.be32_at.Reads as be32-at-reads
 use Rattle.reader.proofs.read.Reads as read-reads
 
--- src/lib.rt:80:11
 read-requires : tie.Need-read-requires
 read-requires c κs = search needs
 
--- src/lib.rt:81:28
 enum-known-number : tie.Need-enum-known-number
 enum-known-number c = search needs
 
--- src/lib.rt:82:40
 enum-known-count : tie.Need-enum-known-count
 enum-known-count c = search needs
 
--- src/lib.rt:84:17
 returns : tie.Need-returns
 returns c = entry-22 _ _ _ _ (accepted _ _ _ _ (sym (c .before .before .before .before .read .ensures) ∙ c .before .before .count .given .1)) (c .if1 .taken)
 
--- src/lib.rt:89:26
 mul-p : tie.Need-mul-p
-mul-p c = let g = (accepted _ _ _ _ (sym (c .before .before .before .before .read .ensures) ∙ c .before .before .count .given .1)) in omega (arith, g .passed .judged .few, c .if1 .left)
+mul-p c = let g = (accepted _ _ _ _ (sym (c .before .before .before .before .read .ensures) ∙ c .before .before .count .given .1)) in
+    omega (arith, g .passed .judged .few, c .if1 .left)
 
--- src/lib.rt:89:21
 add-p : tie.Need-add-p
-add-p c = let g = (accepted _ _ _ _ (sym (c .before .before .before .before .read .ensures) ∙ c .before .before .count .given .1)) in omega (arith, g .passed .judged .few, c .if1 .left)
+add-p c = let g = (accepted _ _ _ _ (sym (c .before .before .before .before .read .ensures) ∙ c .before .before .count .given .1)) in
+    omega (arith, g .passed .judged .few, c .if1 .left)
 
--- src/lib.rt:90:51
 be32-at-requires : tie.Need-be32-at-requires
-be32-at-requires c κs = let g = (accepted _ _ _ _ (sym (c .before .before .before .before .read .ensures) ∙ c .before .before .count .given .1)) in omega (arith, g .passed .judged .room, c .if1 .left)
+be32-at-requires c κs = let g = (accepted _ _ _ _ (sym (c .before .before .before .before .read .ensures) ∙ c .before .before .count .given .1)) in
+    omega (arith, g .passed .judged .room, c .if1 .left)
 
--- src/lib.rt:90:36
 of-code-requires : tie.Need-of-code-requires
 of-code-requires c κs = search needs
 
--- src/lib.rt:90:27
 enum-known-usage : tie.Need-enum-known-usage
 enum-known-usage c = search needs
 
--- src/lib.rt:91:17
 enum-told : tie.Need-enum-told
 enum-told c = search needs
 
--- src/lib.rt:91:17
 returns-2 : tie.Need-returns-2
-returns-2 c = entry-unknown _ _ _ _ (accepted _ _ _ _ (sym (c .before .before .before .before .before .before .before .before .read .ensures) ∙ c .before .before .before .before .before .before .count .given .1)) (c .before .before .before .before .if1 .left) _ (c .before .before .before .be32-at .ensures .0) (sym (c .before .before .of-code .ensures) ∙ c .enum-told .given .1)
+returns-2 c = entry-unknown _ _ _ _ (accepted _ _ _ _ (sym (c .before .before .before .before .before .before .before .before .read .ensures)
+    ∙ c .before .before .before .before .before .before .count .given .1)) (c .before .before .before .before .if1 .left) _
+    (c .before .before .before .be32-at .ensures .0) (sym (c .before .before .of-code .ensures) ∙ c .enum-told .given .1)
 
--- src/lib.rt:96:47
 add-be32-at : tie.Need-add-be32-at
-add-be32-at c = let g = (accepted _ _ _ _ (sym (c .before .before .before .before .before .before .before .before .before .read .ensures) ∙ c .before .before .before .before .before .before .before .count .given .1)) in omega (arith, g .passed .judged .few, c .before .before .before .before .before .if1 .left)
+add-be32-at c = let g = (accepted _ _ _ _ (sym (c .before .before .before .before .before .before .before .before .before .read .ensures)
+    ∙ c .before .before .before .before .before .before .before .count .given .1)) in
+    omega (arith, g .passed .judged .few, c .before .before .before .before .before .if1 .left)
 
--- src/lib.rt:96:26
 be32-at-requires-2 : tie.Need-be32-at-requires-2
-be32-at-requires-2 c κs = let g = (accepted _ _ _ _ (sym (c .before .before .before .before .before .before .before .before .before .read .ensures) ∙ c .before .before .before .before .before .before .before .count .given .1)) in omega (arith, g .passed .judged .room, c .before .before .before .before .before .if1 .left)
+be32-at-requires-2 c κs = let g = (accepted _ _ _ _ (sym (c .before .before .before .before .before .before .before .before .before .read .ensures)
+    ∙ c .before .before .before .before .before .before .before .count .given .1)) in
+    omega (arith, g .passed .judged .room, c .before .before .before .before .before .if1 .left)
 
--- src/lib.rt:96:26
 cast-number : tie.Need-cast-number
 cast-number c = search needs
 
--- src/lib.rt:97:46
 add-be32-at-2 : tie.Need-add-be32-at-2
-add-be32-at-2 c = let g = (accepted _ _ _ _ (sym (c .before .before .before .before .before .before .before .before .before .before .read .ensures) ∙ c .before .before .before .before .before .before .before .before .count .given .1)) in omega (arith, g .passed .judged .few, c .before .before .before .before .before .before .if1 .left)
+add-be32-at-2 c = let g = (accepted _ _ _ _ (sym (c .before .before .before .before .before .before .before .before .before .before .read .ensures)
+    ∙ c .before .before .before .before .before .before .before .before .count .given .1)) in
+    omega (arith, g .passed .judged .few, c .before .before .before .before .before .before .if1 .left)
 
--- src/lib.rt:97:25
 be32-at-requires-3 : tie.Need-be32-at-requires-3
-be32-at-requires-3 c κs = let g = (accepted _ _ _ _ (sym (c .before .before .before .before .before .before .before .before .before .before .read .ensures) ∙ c .before .before .before .before .before .before .before .before .count .given .1)) in omega (arith, g .passed .judged .room, c .before .before .before .before .before .before .if1 .left)
+be32-at-requires-3 c κs = let g = (accepted _ _ _ _ (sym (c .before .before .before .before .before .before .before .before .before .before .read .ensures)
+    ∙ c .before .before .before .before .before .before .before .before .count .given .1)) in
+    omega (arith, g .passed .judged .room, c .before .before .before .before .before .before .if1 .left)
 
--- src/lib.rt:97:25
 cast-start : tie.Need-cast-start
 cast-start c = search needs
 
--- src/lib.rt:77:1
 returns-3 : tie.Need-returns-3
 returns-3 c = entry-no _ _ _ _ _ (refused-as _ _ _ _ (sym (c .before .before .before .read .ensures) ∙ c .before .number .given .1))
 
--- src/lib.rt:77:1
 returns-4 : tie.Need-returns-4
-returns-4 c = entry-known _ _ _ _ (accepted _ _ _ _ (sym (c .before .before .before .before .before .before .before .before .before .before .before .read .ensures) ∙ c .before .before .before .before .before .before .before .before .before .count .given .1)) (c .before .before .before .before .before .before .before .if1 .left) _ (c .before .before .before .before .before .before .be32-at .ensures .0) _ _ _ (sym (c .before .before .before .before .before .of-code .ensures) ∙ c .before .before .before .usage .given .1) (c .before .be32-at2 .ensures .0) (c .be32-at3 .ensures .0)
+returns-4 c = entry-known _ _ _ _
+    (accepted _ _ _ _ (sym (c .before .before .before .before .before .before .before .before .before .before .before .read .ensures)
+    ∙ c .before .before .before .before .before .before .before .before .before .count .given .1))
+    (c .before .before .before .before .before .before .before .if1 .left) _ (c .before .before .before .before .before .before .be32-at .ensures .0) _ _ _
+    (sym (c .before .before .before .before .before .of-code .ensures) ∙ c .before .before .before .usage .given .1) (c .before .be32-at2 .ensures .0)
+    (c .be32-at3 .ensures .0)
 
 pub entry-spec : {M : Type 1} → statement M
 entry-spec =

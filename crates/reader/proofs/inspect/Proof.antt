@@ -8,31 +8,26 @@ use Rattle.reader.proofs.inspect.Lts as lts
 use Rattle.reader.proofs.judge_file.Reads as judge-file-reads
 use Rattle.reader.proofs.parts.facts.Reads as facts-reads
 
--- src/lib.rt:219:11
 judge-file-requires : tie.Need-judge-file-requires
 judge-file-requires c κs = search needs
 
--- src/lib.rt:220:30
 enum-known-number : tie.Need-enum-known-number
 enum-known-number c = search needs
 
--- src/lib.rt:221:27
 enum-known-count : tie.Need-enum-known-count
 enum-known-count c = search needs
 
--- src/lib.rt:221:63
 facts-requires : tie.Need-facts-requires
 facts-requires c κs =
     let j = judged-good _ _ _ _ _ (c .before .before .before .judge-file .ensures) (c .before .count .given .1) in
     (accepted _ _ _ _ (j .0) .passed, j .1)
 
--- src/lib.rt:216:1
 returns : tie.Need-returns
 returns c = inspected-no _ _ _ _ _ _ _ (refused-as _ _ _ _ (judged-no _ _ _ _ _ (c .before .before .before .judge-file .ensures) (c .before .number .given .1)))
 
--- src/lib.rt:216:1
 returns-2 : tie.Need-returns-2
-returns-2 c = inspected _ _ _ _ _ _ (accepted _ _ _ _ (judged-good _ _ _ _ _ (c .before .before .before .before .judge-file .ensures) (c .before .before .count .given .1) .0)) _ (c .facts .ensures)
+returns-2 c = inspected _ _ _ _ _ _ (accepted _ _ _ _ (judged-good _ _ _ _ _ (c .before .before .before .before .judge-file .ensures)
+    (c .before .before .count .given .1) .0)) _ (c .facts .ensures)
 
 pub inspect-spec : {M : Type 1} → statement M
 inspect-spec =

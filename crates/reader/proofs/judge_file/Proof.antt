@@ -14,49 +14,48 @@ use Rattle.index.proofs.optional.optional.Reads as optional-reads
 returns : tie.Need-returns
 returns c = unknown-is _ _ (c .if1 .taken)
 
--- src/lib.rt:121:11
 judge-entries-requires : tie.Need-judge-entries-requires
 judge-entries-requires c κs = search needs
 
--- src/lib.rt:122:30
 enum-known-number : tie.Need-enum-known-number
 enum-known-number c = search needs
 
--- src/lib.rt:123:27
 enum-known-count : tie.Need-enum-known-count
 enum-known-count c = search needs
 
--- src/lib.rt:125:17
 returns-2 : tie.Need-returns-2
 returns-2 c =
     let g = entries-good _ _ _ _ _ (c .before .before .before .before .judge-entries .ensures) (c .before .before .count .given .1) in
     (rest-is _ _ _ accept (c .before .before .before .before .before .if1 .left) (g .1) (ordinary-optional _ _ (g .2 (c .if2 .taken))), g .2)
 
--- src/lib.rt:127:55
 optional-requires : tie.Need-optional-requires
 optional-requires c κs = (entries-good _ _ _ _ _ (c .before .before .before .before .judge-entries .ensures) (c .before .before .count .given .1)) .0
 
--- src/lib.rt:127:37
 enum-known-number-2 : tie.Need-enum-known-number-2
 enum-known-number-2 c = search needs
 
--- src/lib.rt:128:17
 returns-3 : tie.Need-returns-3
 returns-3 c =
-    rest-is _ _ _ (refuse _ _) (c .before .before .before .before .before .before .before .before .before .if1 .left) ((entries-good _ _ _ _ _ (c .before .before .before .before .before .before .before .before .judge-entries .ensures) (c .before .before .before .before .before .before .count .given .1)) .1) (sym (c .before .before .before .optional .ensures) ∙ ap verdictOf (c .before .number2 .given .1))
+    rest-is _ _ _ (refuse _ _) (c .before .before .before .before .before .before .before .before .before .if1 .left)
+    ((entries-good _ _ _ _ _ (c .before .before .before .before .before .before .before .before .judge-entries .ensures)
+    (c .before .before .before .before .before .before .count .given .1)) .1) (sym (c .before .before .before .optional .ensures)
+    ∙ ap verdictOf (c .before .number2 .given .1))
 
 enum-told : tie.Need-enum-told
 enum-told c = search needs
 
--- src/lib.rt:118:1
 returns-4 : tie.Need-returns-4
-returns-4 c = entries-no _ _ _ _ _ (c .before .before .before .before .if1 .left) (c .before .before .before .judge-entries .ensures) (c .before .number .given .1)
+returns-4 c = entries-no _ _ _ _ _ (c .before .before .before .before .if1 .left) (c .before .before .before .judge-entries .ensures)
+    (c .before .number .given .1)
 
--- src/lib.rt:118:1
 returns-5 : tie.Need-returns-5
 returns-5 c =
-    let g = entries-good _ _ _ _ _ (c .before .before .before .before .before .before .before .judge-entries .ensures) (c .before .before .before .before .before .count .given .1) in
-    (rest-is _ _ _ accept (c .before .before .before .before .before .before .before .before .if1 .left) (g .1) (sym (c .before .before .optional .ensures) ∙ ap verdictOf (c .enum-told .given .1)), g .2)
+    let g = entries-good _ _ _ _ _ (c .before .before .before .before .before .before .before .judge-entries .ensures)
+    (c .before .before .before .before .before .count .given .1) in (
+      rest-is _ _ _ accept (c .before .before .before .before .before .before .before .before .if1 .left) (g .1) (sym (c .before .before .optional .ensures)
+          ∙ ap verdictOf (c .enum-told .given .1)),
+      g .2,
+    )
 
 pub judge-file-spec : {M : Type 1} → statement M
 judge-file-spec =

@@ -21,107 +21,179 @@ use Rattle.chunks.proofs.walk.Reads as walk-reads
 use Rattle.index.proofs.entries.entries.Reads as entries-reads
 use Rattle.index.proofs.entries.shape.Reads as shape-reads
 
--- src/lib.rt:86:47
 head-requires : tie.Need-head-requires
 head-requires c κs = search needs
 
--- src/lib.rt:86:29
 enum-known-number : tie.Need-enum-known-number
 enum-known-number c = search needs
 
--- src/lib.rt:87:9
 returns : tie.Need-returns
 returns c = read-1 _ _ _ _ (sym (c .before .before .before .head .ensures) ∙ ap verdictOf (c .before .number .given .1))
 
 enum-told : tie.Need-enum-told
 enum-told c = search needs
 
--- src/lib.rt:89:9
 walk-requires : tie.Need-walk-requires
 walk-requires c κs = search needs
 
--- src/lib.rt:91:29
 enum-known-fault : tie.Need-enum-known-fault
 enum-known-fault c = search needs
 
--- src/lib.rt:92:9
 returns-2 : tie.Need-returns-2
-returns-2 c = read-2 _ _ (sym (c .before .before .before .before .before .before .head .ensures) ∙ ap verdictOf (c .before .before .before .before .enum-told .given .1)) _ _ (sym (c .before .before .before .walk .ensures .0) ∙ ap verdictOf (c .before .fault .given .1))
+returns-2 c = read-2 _ _ (sym (c .before .before .before .before .before .before .head .ensures)
+    ∙ ap verdictOf (c .before .before .before .before .enum-told .given .1)) _ _ (sym (c .before .before .before .walk .ensures .0)
+    ∙ ap verdictOf (c .before .fault .given .1))
 
 enum-told-2 : tie.Need-enum-told-2
 enum-told-2 c = search needs
 
--- src/lib.rt:94:47
 first-requires : tie.Need-first-requires
 first-requires c κs = (sym (c .before .before .walk .ensures .0) ∙ ap verdictOf (c .enum-told2 .given .1))
 
--- src/lib.rt:94:29
 enum-known-number-2 : tie.Need-enum-known-number-2
 enum-known-number-2 c = search needs
 
--- src/lib.rt:95:9
 returns-3 : tie.Need-returns-3
-returns-3 c = read-3 _ _ (sym (c .before .before .before .before .before .before .before .before .before .head .ensures) ∙ ap verdictOf (c .before .before .before .before .before .before .before .enum-told .given .1)) (sym (c .before .before .before .before .before .before .walk .ensures .0) ∙ ap verdictOf (c .before .before .before .before .enum-told2 .given .1)) _ _ (sym (c .before .before .before .first .ensures) ∙ ap verdictOf (c .before .number2 .given .1))
+returns-3 c = read-3 _ _ (sym (c .before .before .before .before .before .before .before .before .before .head .ensures)
+    ∙ ap verdictOf (c .before .before .before .before .before .before .before .enum-told .given .1))
+    (sym (c .before .before .before .before .before .before .walk .ensures .0) ∙ ap verdictOf (c .before .before .before .before .enum-told2 .given .1)) _ _
+    (sym (c .before .before .before .first .ensures) ∙ ap verdictOf (c .before .number2 .given .1))
 
 enum-told-3 : tie.Need-enum-told-3
 enum-told-3 c = search needs
 
--- src/lib.rt:100:9
 skip-requires : tie.Need-skip-requires
-skip-requires c κs = fine _ 12 (first-long _ (sym (c .before .before .first .ensures) ∙ ap verdictOf (c .enum-told3 .given .1))) (sym (c .before .before .before .before .before .walk .ensures .0) ∙ ap verdictOf (c .before .before .before .enum-told2 .given .1)) .header
+skip-requires c κs = fine _ 12 (first-long _ (sym (c .before .before .first .ensures) ∙ ap verdictOf (c .enum-told3 .given .1)))
+    (sym (c .before .before .before .before .before .walk .ensures .0) ∙ ap verdictOf (c .before .before .before .enum-told2 .given .1)) .header
 
--- src/lib.rt:97:47
 second-if-requires : tie.Need-second-if-requires
-second-if-requires c κs = (rw (c .skip .ensures) (walked _ 12 (first-long _ (sym (c .before .before .before .first .ensures) ∙ ap verdictOf (c .before .enum-told3 .given .1))) (sym (c .before .before .before .before .before .before .walk .ensures .0) ∙ ap verdictOf (c .before .before .before .before .enum-told2 .given .1))), λ e. ap (λ (x : ℕ). allOrdinary (chunksFrom (now (c .before .before .before .before .before .before .before .before .before .before .before .args .file)) x)) (c .skip .ensures) ∙ c .before .before .before .before .before .before .walk .ensures .1 e)
+second-if-requires c κs = (
+  rw (c .skip .ensures)
+      (walked _ 12 (first-long _ (sym (c .before .before .before .first .ensures) ∙ ap verdictOf (c .before .enum-told3 .given .1)))
+      (sym (c .before .before .before .before .before .before .walk .ensures .0) ∙ ap verdictOf (c .before .before .before .before .enum-told2 .given .1))),
+  λ e. ap (λ (x : ℕ). allOrdinary (chunksFrom (now (c .before .before .before .before .before .before .before .before .before .before .before .args .file))
+      x)) (c .skip .ensures) ∙ c .before .before .before .before .before .before .walk .ensures .1 e,
+)
 
--- src/lib.rt:97:29
 enum-known-number-3 : tie.Need-enum-known-number-3
 enum-known-number-3 c = search needs
 
--- src/lib.rt:102:9
 returns-4 : tie.Need-returns-4
-returns-4 c = read-4 _ _ (sym (c .before .before .before .before .before .before .before .before .before .before .before .before .before .head .ensures) ∙ ap verdictOf (c .before .before .before .before .before .before .before .before .before .before .before .enum-told .given .1)) (sym (c .before .before .before .before .before .before .before .before .before .before .walk .ensures .0) ∙ ap verdictOf (c .before .before .before .before .before .before .before .before .enum-told2 .given .1)) (sym (c .before .before .before .before .before .before .before .first .ensures) ∙ ap verdictOf (c .before .before .before .before .before .enum-told3 .given .1)) _ (c .before .before .before .before .skip .ensures) _ _ (sym (c .before .before .before .second-if .ensures) ∙ ap verdictOf (c .before .number3 .given .1))
+returns-4 c = read-4 _ _ (sym (c .before .before .before .before .before .before .before .before .before .before .before .before .before .head .ensures)
+    ∙ ap verdictOf (c .before .before .before .before .before .before .before .before .before .before .before .enum-told .given .1))
+    (sym (c .before .before .before .before .before .before .before .before .before .before .walk .ensures .0)
+    ∙ ap verdictOf (c .before .before .before .before .before .before .before .before .enum-told2 .given .1))
+    (sym (c .before .before .before .before .before .before .before .first .ensures)
+    ∙ ap verdictOf (c .before .before .before .before .before .enum-told3 .given .1)) _ (c .before .before .before .before .skip .ensures) _ _
+    (sym (c .before .before .before .second-if .ensures) ∙ ap verdictOf (c .before .number3 .given .1))
 
 enum-told-4 : tie.Need-enum-told-4
 enum-told-4 c = search needs
 
--- src/lib.rt:104:47
 shape-requires : tie.Need-shape-requires
-shape-requires c κs = (first-long _ (sym (c .before .before .before .before .before .before .first .ensures) ∙ ap verdictOf (c .before .before .before .before .enum-told3 .given .1)), (sym (c .before .before .before .before .before .before .before .before .before .walk .ensures .0) ∙ ap verdictOf (c .before .before .before .before .before .before .before .enum-told2 .given .1)))
+shape-requires c κs = (
+  first-long _ (sym (c .before .before .before .before .before .before .first .ensures)
+      ∙ ap verdictOf (c .before .before .before .before .enum-told3 .given .1)),
+  (sym (c .before .before .before .before .before .before .before .before .before .walk .ensures .0)
+      ∙ ap verdictOf (c .before .before .before .before .before .before .before .enum-told2 .given .1)),
+)
 
--- src/lib.rt:104:29
 enum-known-number-4 : tie.Need-enum-known-number-4
 enum-known-number-4 c = search needs
 
--- src/lib.rt:105:9
 returns-5 : tie.Need-returns-5
-returns-5 c = read-5 _ _ (sym (c .before .before .before .before .before .before .before .before .before .before .before .before .before .before .before .before .head .ensures) ∙ ap verdictOf (c .before .before .before .before .before .before .before .before .before .before .before .before .before .before .enum-told .given .1)) (sym (c .before .before .before .before .before .before .before .before .before .before .before .before .before .walk .ensures .0) ∙ ap verdictOf (c .before .before .before .before .before .before .before .before .before .before .before .enum-told2 .given .1)) (sym (c .before .before .before .before .before .before .before .before .before .before .first .ensures) ∙ ap verdictOf (c .before .before .before .before .before .before .before .before .enum-told3 .given .1)) _ (c .before .before .before .before .before .before .before .skip .ensures) (sym (c .before .before .before .before .before .before .second-if .ensures) ∙ ap verdictOf (c .before .before .before .before .enum-told4 .given .1)) _ _ (sym (c .before .before .before .shape .ensures) ∙ ap verdictOf (c .before .number4 .given .1))
+returns-5 c = read-5 _ _ (sym (c .before .before .before .before .before .before .before .before .before .before .before .before .before .before .before
+    .before .head .ensures) ∙ ap verdictOf
+    (c .before .before .before .before .before .before .before .before .before .before .before .before .before .before .enum-told .given .1))
+    (sym (c .before .before .before .before .before .before .before .before .before .before .before .before .before .walk .ensures .0)
+    ∙ ap verdictOf (c .before .before .before .before .before .before .before .before .before .before .before .enum-told2 .given .1))
+    (sym (c .before .before .before .before .before .before .before .before .before .before .first .ensures)
+    ∙ ap verdictOf (c .before .before .before .before .before .before .before .before .enum-told3 .given .1)) _
+    (c .before .before .before .before .before .before .before .skip .ensures) (sym (c .before .before .before .before .before .before .second-if .ensures)
+    ∙ ap verdictOf (c .before .before .before .before .enum-told4 .given .1)) _ _ (sym (c .before .before .before .shape .ensures)
+    ∙ ap verdictOf (c .before .number4 .given .1))
 
 enum-told-5 : tie.Need-enum-told-5
 enum-told-5 c = search needs
 
--- src/lib.rt:107:17
 be32-at-requires : tie.Need-be32-at-requires
-be32-at-requires c κs = omega (arith, shaped _ (first-long _ (sym (c .before .before .before .before .before .before .before .before .before .first .ensures) ∙ ap verdictOf (c .before .before .before .before .before .before .before .enum-told3 .given .1))) (sym (c .before .before .before .before .before .before .before .before .before .before .before .before .walk .ensures .0) ∙ ap verdictOf (c .before .before .before .before .before .before .before .before .before .before .enum-told2 .given .1)) (sym (c .before .before .shape .ensures) ∙ ap verdictOf (c .enum-told5 .given .1)) .room)
+be32-at-requires c κs = omega (
+  arith,
+  shaped _ (first-long _ (sym (c .before .before .before .before .before .before .before .before .before .first .ensures)
+      ∙ ap verdictOf (c .before .before .before .before .before .before .before .enum-told3 .given .1)))
+      (sym (c .before .before .before .before .before .before .before .before .before .before .before .before .walk .ensures .0)
+      ∙ ap verdictOf (c .before .before .before .before .before .before .before .before .before .before .enum-told2 .given .1))
+      (sym (c .before .before .shape .ensures) ∙ ap verdictOf (c .enum-told5 .given .1)) .room,
+)
 
--- src/lib.rt:108:47
 entries-requires : tie.Need-entries-requires
-entries-requires c κs = let s = is-shaped _ (sym (c .before .before .before .before .before .before .before .before .before .before .before .before .before .walk .ensures .0) ∙ ap verdictOf (c .before .before .before .before .before .before .before .before .before .before .before .enum-told2 .given .1)) (sym (c .before .before .before .before .before .before .before .before .before .before .first .ensures) ∙ ap verdictOf (c .before .before .before .before .before .before .before .before .enum-told3 .given .1)) (sym (c .before .before .before .shape .ensures) ∙ ap verdictOf (c .before .enum-told5 .given .1)) _ (c .be32-at .ensures .0) in (s .few, s .room, s .walks)
+entries-requires c κs = let s =
+    is-shaped _ (sym (c .before .before .before .before .before .before .before .before .before .before .before .before .before .walk .ensures .0)
+    ∙ ap verdictOf (c .before .before .before .before .before .before .before .before .before .before .before .enum-told2 .given .1))
+    (sym (c .before .before .before .before .before .before .before .before .before .before .first .ensures)
+    ∙ ap verdictOf (c .before .before .before .before .before .before .before .before .enum-told3 .given .1))
+    (sym (c .before .before .before .shape .ensures) ∙ ap verdictOf (c .before .enum-told5 .given .1)) _ (c .be32-at .ensures .0) in
+    (s .few, s .room, s .walks)
 
--- src/lib.rt:108:29
 enum-known-number-5 : tie.Need-enum-known-number-5
 enum-known-number-5 c = search needs
 
--- src/lib.rt:109:9
 returns-6 : tie.Need-returns-6
-returns-6 c = read-6 _ _ (sym (c .before .before .before .before .before .before .before .before .before .before .before .before .before .before .before .before .before .before .before .before .head .ensures) ∙ ap verdictOf (c .before .before .before .before .before .before .before .before .before .before .before .before .before .before .before .before .before .before .enum-told .given .1)) (sym (c .before .before .before .before .before .before .before .before .before .before .before .before .before .before .before .before .before .walk .ensures .0) ∙ ap verdictOf (c .before .before .before .before .before .before .before .before .before .before .before .before .before .before .before .enum-told2 .given .1)) (sym (c .before .before .before .before .before .before .before .before .before .before .before .before .before .before .first .ensures) ∙ ap verdictOf (c .before .before .before .before .before .before .before .before .before .before .before .before .enum-told3 .given .1)) _ (c .before .before .before .before .before .before .before .before .before .before .before .skip .ensures) (sym (c .before .before .before .before .before .before .before .before .before .before .second-if .ensures) ∙ ap verdictOf (c .before .before .before .before .before .before .before .before .enum-told4 .given .1)) (sym (c .before .before .before .before .before .before .before .shape .ensures) ∙ ap verdictOf (c .before .before .before .before .before .enum-told5 .given .1)) _ (c .before .before .before .before .be32-at .ensures .0) _ _ (sym (c .before .before .before .entries .ensures) ∙ ap verdictOf (c .before .number5 .given .1))
+returns-6 c = read-6 _ _ (sym (c .before .before .before .before .before .before .before .before .before .before .before .before .before .before .before
+    .before .before .before .before .before .head .ensures)
+    ∙ ap verdictOf (c .before .before .before .before .before .before .before .before .before .before .before .before .before .before .before .before .before
+    .before .enum-told .given .1))
+    (sym (c .before .before .before .before .before .before .before .before .before .before .before .before .before .before .before .before .before .walk
+    .ensures .0) ∙ ap verdictOf (c .before .before .before .before .before .before .before .before .before .before .before .before .before .before .before
+    .enum-told2 .given .1)) (sym (c .before .before .before .before .before .before .before .before .before .before .before .before .before .before .first
+    .ensures) ∙ ap verdictOf (c .before .before .before .before .before .before .before .before .before .before .before .before .enum-told3 .given .1)) _
+    (c .before .before .before .before .before .before .before .before .before .before .before .skip .ensures)
+    (sym (c .before .before .before .before .before .before .before .before .before .before .second-if .ensures)
+    ∙ ap verdictOf (c .before .before .before .before .before .before .before .before .enum-told4 .given .1))
+    (sym (c .before .before .before .before .before .before .before .shape .ensures)
+    ∙ ap verdictOf (c .before .before .before .before .before .enum-told5 .given .1)) _ (c .before .before .before .before .be32-at .ensures .0) _ _
+    (sym (c .before .before .before .entries .ensures) ∙ ap verdictOf (c .before .number5 .given .1))
 
 enum-told-6 : tie.Need-enum-told-6
 enum-told-6 c = search needs
 
--- src/lib.rt:83:1
 returns-7 : tie.Need-returns-7
-returns-7 c = (is-judged _ _ (sym (c .before .before .before .before .before .before .before .before .before .before .before .before .before .before .before .before .before .before .before .head .ensures) ∙ ap verdictOf (c .before .before .before .before .before .before .before .before .before .before .before .before .before .before .before .before .before .enum-told .given .1)) (sym (c .before .before .before .before .before .before .before .before .before .before .before .before .before .before .before .before .walk .ensures .0) ∙ ap verdictOf (c .before .before .before .before .before .before .before .before .before .before .before .before .before .before .enum-told2 .given .1)) (sym (c .before .before .before .before .before .before .before .before .before .before .before .before .before .first .ensures) ∙ ap verdictOf (c .before .before .before .before .before .before .before .before .before .before .before .enum-told3 .given .1)) _ (c .before .before .before .before .before .before .before .before .before .before .skip .ensures) (sym (c .before .before .before .before .before .before .before .before .before .second-if .ensures) ∙ ap verdictOf (c .before .before .before .before .before .before .before .enum-told4 .given .1)) (sym (c .before .before .before .before .before .before .shape .ensures) ∙ ap verdictOf (c .before .before .before .before .enum-told5 .given .1)) _ (c .before .before .before .be32-at .ensures .0) (sym (c .before .before .entries .ensures) ∙ ap verdictOf (c .enum-told6 .given .1)), read-rest _ _ (sym (c .before .before .before .before .before .before .before .before .before .before .before .before .before .before .before .before .before .before .before .head .ensures) ∙ ap verdictOf (c .before .before .before .before .before .before .before .before .before .before .before .before .before .before .before .before .before .enum-told .given .1)) (sym (c .before .before .before .before .before .before .before .before .before .before .before .before .before .before .before .before .walk .ensures .0) ∙ ap verdictOf (c .before .before .before .before .before .before .before .before .before .before .before .before .before .before .enum-told2 .given .1)) (sym (c .before .before .before .before .before .before .before .before .before .before .before .before .before .first .ensures) ∙ ap verdictOf (c .before .before .before .before .before .before .before .before .before .before .before .enum-told3 .given .1)) _ (c .before .before .before .before .before .before .before .before .before .before .skip .ensures) (sym (c .before .before .before .before .before .before .before .before .before .second-if .ensures) ∙ ap verdictOf (c .before .before .before .before .before .before .before .enum-told4 .given .1)) (sym (c .before .before .before .before .before .before .shape .ensures) ∙ ap verdictOf (c .before .before .before .before .enum-told5 .given .1)) _ (c .before .before .before .be32-at .ensures .0) (sym (c .before .before .entries .ensures) ∙ ap verdictOf (c .enum-told6 .given .1)), ordinary-behind _ (sym (c .before .before .before .before .before .before .before .before .before .before .before .before .before .before .before .before .walk .ensures .0) ∙ ap verdictOf (c .before .before .before .before .before .before .before .before .before .before .before .before .before .before .enum-told2 .given .1)) (sym (c .before .before .before .before .before .before .before .before .before .before .before .before .before .first .ensures) ∙ ap verdictOf (c .before .before .before .before .before .before .before .before .before .before .before .enum-told3 .given .1)) (sym (c .before .before .before .before .before .before .shape .ensures) ∙ ap verdictOf (c .before .before .before .before .enum-told5 .given .1)) _ (c .before .before .before .be32-at .ensures .0) _ (c .before .before .before .before .before .before .before .before .before .before .before .before .before .before .before .before .walk .ensures .1))
+returns-7 c = (
+  is-judged _ _ (sym
+      (c .before .before .before .before .before .before .before .before .before .before .before .before .before .before .before .before .before .before
+      .before .head .ensures) ∙ ap verdictOf
+      (c .before .before .before .before .before .before .before .before .before .before .before .before .before .before .before .before .before .enum-told
+      .given .1)) (sym (c .before .before .before .before .before .before .before .before .before .before .before .before .before .before .before .before .walk
+      .ensures .0) ∙ ap verdictOf (c .before .before .before .before .before .before .before .before .before .before .before .before .before .before
+      .enum-told2 .given .1)) (sym (c .before .before .before .before .before .before .before .before .before .before .before .before .before .first .ensures)
+      ∙ ap verdictOf (c .before .before .before .before .before .before .before .before .before .before .before .enum-told3 .given .1)) _
+      (c .before .before .before .before .before .before .before .before .before .before .skip .ensures)
+      (sym (c .before .before .before .before .before .before .before .before .before .second-if .ensures)
+      ∙ ap verdictOf (c .before .before .before .before .before .before .before .enum-told4 .given .1))
+      (sym (c .before .before .before .before .before .before .shape .ensures) ∙ ap verdictOf (c .before .before .before .before .enum-told5 .given .1)) _
+      (c .before .before .before .be32-at .ensures .0) (sym (c .before .before .entries .ensures) ∙ ap verdictOf (c .enum-told6 .given .1)),
+  read-rest _ _
+      (sym (c .before .before .before .before .before .before .before .before .before .before .before .before .before .before .before .before .before .before
+      .before .head .ensures) ∙ ap verdictOf
+      (c .before .before .before .before .before .before .before .before .before .before .before .before .before .before .before .before .before .enum-told
+      .given .1)) (sym (c .before .before .before .before .before .before .before .before .before .before .before .before .before .before .before .before .walk
+      .ensures .0) ∙ ap verdictOf (c .before .before .before .before .before .before .before .before .before .before .before .before .before .before
+      .enum-told2 .given .1)) (sym (c .before .before .before .before .before .before .before .before .before .before .before .before .before .first .ensures)
+      ∙ ap verdictOf (c .before .before .before .before .before .before .before .before .before .before .before .enum-told3 .given .1)) _
+      (c .before .before .before .before .before .before .before .before .before .before .skip .ensures)
+      (sym (c .before .before .before .before .before .before .before .before .before .second-if .ensures)
+      ∙ ap verdictOf (c .before .before .before .before .before .before .before .enum-told4 .given .1))
+      (sym (c .before .before .before .before .before .before .shape .ensures) ∙ ap verdictOf (c .before .before .before .before .enum-told5 .given .1)) _
+      (c .before .before .before .be32-at .ensures .0) (sym (c .before .before .entries .ensures) ∙ ap verdictOf (c .enum-told6 .given .1)),
+  ordinary-behind _
+      (sym (c .before .before .before .before .before .before .before .before .before .before .before .before .before .before .before .before .walk .ensures
+      .0) ∙ ap verdictOf (c .before .before .before .before .before .before .before .before .before .before .before .before .before .before .enum-told2 .given
+      .1)) (sym (c .before .before .before .before .before .before .before .before .before .before .before .before .before .first .ensures)
+      ∙ ap verdictOf (c .before .before .before .before .before .before .before .before .before .before .before .enum-told3 .given .1))
+      (sym (c .before .before .before .before .before .before .shape .ensures) ∙ ap verdictOf (c .before .before .before .before .enum-told5 .given .1)) _
+      (c .before .before .before .be32-at .ensures .0) _
+      (c .before .before .before .before .before .before .before .before .before .before .before .before .before .before .before .before .walk .ensures .1),
+)
 
 pub judge-in-turn-spec : {M : Type 1} → statement M
 judge-in-turn-spec =

@@ -7,23 +7,18 @@ use Rattle.reader.proofs.read.Reads as reads
 use Rattle.reader.proofs.read.Lts as lts
 use Rattle.reader.proofs.judge_file.Reads as judge-file-reads
 
--- src/lib.rt:124:11
 judge-file-requires : tie.Need-judge-file-requires
 judge-file-requires c κs = search needs
 
--- src/lib.rt:125:30
 enum-known-number : tie.Need-enum-known-number
 enum-known-number c = search needs
 
--- src/lib.rt:126:27
 enum-known-count : tie.Need-enum-known-count
 enum-known-count c = search needs
 
--- src/lib.rt:121:1
 returns : tie.Need-returns
 returns c = sym (judged-no _ _ _ _ _ (c .before .before .before .judge-file .ensures) (c .before .number .given .1))
 
--- src/lib.rt:121:1
 returns-2 : tie.Need-returns-2
 returns-2 c = sym (judged-good _ _ _ _ _ (c .before .before .before .judge-file .ensures) (c .before .count .given .1) .0)
 

@@ -10,7 +10,6 @@ use Rattle.rewrite.proofs.add_bytes.Reads as reads
 use Rattle.rewrite.proofs.add_bytes.Lts as lts
 use Rattle.rewrite.proofs.insert_bytes.Reads as insert-bytes-reads
 
--- src/rewrite.rt:29:5
 insert-bytes-requires : tie.Need-insert-bytes-requires
 insert-bytes-requires c κs =
     let a = c .before .before .before .args in
@@ -18,17 +17,16 @@ insert-bytes-requires c κs =
     let p = c .before .before .before .pre in
     (p .0, (insertable-end b (a .len) (a .count) (p .0), p .1))
 
--- src/rewrite.rt:23:1
 same-length : tie.Need-same-length
 same-length c = search needs
 
--- src/rewrite.rt:23:1
 returns : tie.Need-returns
 returns c =
     let a = c .before .before .before .before .before .before .args in
     let b = now (a .buf) in
     c .before .before .insert-bytes .ensures
-    ∙ ap (written b (a .len)) (added-file b (a .len) (a .count) (c .before .before .before .before .before .before .pre .0) (a .usage) (a .number) (chunkOf (a .kind) (now (a .d))))
+    ∙ ap (written b (a .len)) (added-file b (a .len) (a .count) (c .before .before .before .before .before .before .pre .0) (a .usage) (a .number)
+    (chunkOf (a .kind) (now (a .d))))
 
 pub add-bytes-spec : {M : Type 1} → statement M
 add-bytes-spec = tie.close (tie.spec insert-bytes-requires same-length returns)

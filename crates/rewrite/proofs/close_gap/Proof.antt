@@ -12,32 +12,27 @@ use Rattle.rewrite.proofs.close_gap.Lts as lts
 use Rattle.moves.proofs.clear.Reads as clear-reads
 use Rattle.moves.proofs.shift.shift_left.Reads as shift-left-reads
 
--- src/lib.rt:188:28
 add-shift-left : tie.Need-add-shift-left
 add-shift-left c = search needs
 
--- src/lib.rt:188:5
 shift-left-requires : tie.Need-shift-left-requires
 shift-left-requires c κs = search needs
 
--- src/lib.rt:189:23
 sub-clear : tie.Need-sub-clear
 sub-clear c = search needs
 
--- src/lib.rt:189:5
 clear-requires : tie.Need-clear-requires
 clear-requires c κs = search needs
 
--- src/lib.rt:184:1
 same-length : tie.Need-same-length
 same-length c = search needs
 
--- src/lib.rt:184:1
 returns : tie.Need-returns
 unfolding closed
 returns c =
     let a = c .before .before .before .before .before .before .before .before .before .args in
-    c .before .before .clear .ensures ∙ ap (λ (z : List ℕ). noted z (a .len - a .k) (replicate (a .k) 0)) (c .before .before .before .before .before .before .shift-left .ensures)
+    c .before .before .clear .ensures ∙ ap (λ (z : List ℕ). noted z (a .len - a .k) (replicate (a .k) 0))
+    (c .before .before .before .before .before .before .shift-left .ensures)
 
 pub close-gap-spec : {M : Type 1} → statement M
 close-gap-spec =

@@ -16,104 +16,82 @@ use Rattle.moves.proofs.put_heading.Reads as put-heading-reads
 use Rattle.moves.proofs.put_words.Reads as put-words-reads
 use Rattle.moves.proofs.shift.shift_right.Reads as shift-right-reads
 
--- src/rewrite.rt:105:21
 add-size : tie.Need-add-size
 add-size c = search needs
 
--- src/rewrite.rt:105:16
 add-size-2 : tie.Need-add-size-2
 add-size-2 c = search needs
 
--- src/rewrite.rt:106:22
 mul-entry : tie.Need-mul-entry
 mul-entry c = search needs
 
--- src/rewrite.rt:106:17
 add-entry : tie.Need-add-entry
 add-entry c = search needs
 
--- src/rewrite.rt:112:21
 sub-t15 : tie.Need-sub-t15
 sub-t15 c = search needs
 
--- src/rewrite.rt:112:20
 cast-t19 : tie.Need-cast-t19
 cast-t19 c = search needs
 
--- src/rewrite.rt:113:20
 add-t14 : tie.Need-add-t14
 add-t14 c = search needs
 
--- src/rewrite.rt:113:19
 cast-t20 : tie.Need-cast-t20
 cast-t20 c = search needs
 
--- src/rewrite.rt:107:5
 move-starts-requires : tie.Need-move-starts-requires
 move-starts-requires c κs = search needs
 
--- src/rewrite.rt:119:38
 add-shift-right : tie.Need-add-shift-right
 add-shift-right c = search needs
 
--- src/rewrite.rt:119:5
 shift-right-requires : tie.Need-shift-right-requires
 shift-right-requires c κs = search needs
 
--- src/rewrite.rt:120:5
 shift-right-requires-2 : tie.Need-shift-right-requires-2
 shift-right-requires-2 c κs = search needs
 
--- src/rewrite.rt:121:63
 add-put-words : tie.Need-add-put-words
 add-put-words c = search needs
 
--- src/rewrite.rt:121:5
 put-words-requires : tie.Need-put-words-requires
 put-words-requires c κs = search needs
 
--- src/rewrite.rt:122:27
 add-put-chunk : tie.Need-add-put-chunk
 add-put-chunk c = search needs
 
--- src/rewrite.rt:122:5
 put-chunk-requires : tie.Need-put-chunk-requires
 put-chunk-requires c κs = search needs
 
--- src/rewrite.rt:123:28
 mul-rest : tie.Need-mul-rest
 mul-rest c = search needs
 
--- src/rewrite.rt:123:23
 add-rest : tie.Need-add-rest
 add-rest c = search needs
 
--- src/rewrite.rt:123:16
 sub-rest : tie.Need-sub-rest
 sub-rest c = search needs
 
--- src/rewrite.rt:123:16
 add-rest-2 : tie.Need-add-rest-2
 add-rest-2 c = search needs
 
--- src/rewrite.rt:124:27
 add-put-heading : tie.Need-add-put-heading
 add-put-heading c = search needs
 
--- src/rewrite.rt:124:5
 put-heading-requires : tie.Need-put-heading-requires
 put-heading-requires c κs = search needs
 
--- src/rewrite.rt:97:1
 same-length : tie.Need-same-length
 same-length c = search needs
 
--- src/rewrite.rt:97:1
 returns : tie.Need-returns
 returns c =
-    let a = c .before .before .before .before .before .before .before .before .before .before .before .before .before .before .before .before .before .before .before .before .before .before .before .before .before .before .args in
+    let a = c .before .before .before .before .before .before .before .before .before .before .before .before .before .before .before .before .before .before
+    .before .before .before .before .before .before .before .before .args in
     let b = now (a .buf) in
-    let p = c .before .before .before .before .before .before .before .before .before .before .before .before .before .before .before .before .before .before .before .before .before .before .before .before .before .before .pre in
+    let p = c .before .before .before .before .before .before .before .before .before .before .before .before .before .before .before .before .before .before
+    .before .before .before .before .before .before .before .before .pre in
     let sz = 8 + (length (now (a .d)) + length (now (a .d)) % 2) in
     let mv : Move = record { limit = a .at - 1; grow = 12 + sz; fall = 0; plus = 12; minus = 0 } in
     rw (
@@ -121,8 +99,10 @@ returns c =
       c .before .before .before .before .before .before .put-chunk .ensures,
       c .before .before .before .before .before .before .before .before .before .before .put-words .ensures,
       c .before .before .before .before .before .before .before .before .before .before .before .before .before .before .shift-right2 .ensures,
-      c .before .before .before .before .before .before .before .before .before .before .before .before .before .before .before .before .before .before .shift-right .ensures,
-      c .before .before .before .before .before .before .before .before .before .before .before .before .before .before .before .before .before .before .before .before .before .before .move-starts .ensures,
+      c .before .before .before .before .before .before .before .before .before .before .before .before .before .before .before .before .before .before
+          .shift-right .ensures,
+      c .before .before .before .before .before .before .before .before .before .before .before .before .before .before .before .before .before .before
+          .before .before .before .before .move-starts .ensures,
       relocated-risen mv (a .at) sz (omega (arith, p .1 .0 .behind)) refl refl refl refl refl,
     )
     (insert-written b (a .len) (a .count) (a .place) (a .at) (a .usage) (a .number) (p .0) (p .1 .0) (a .kind) (now (a .d)) (p .1 .1 .0))

@@ -14,62 +14,55 @@ use Rattle.moves.proofs.put_heading.Reads as put-heading-reads
 use Rattle.moves.proofs.put_words.Reads as put-words-reads
 use Rattle.moves.proofs.shift.shift_right.Reads as shift-right-reads
 
--- src/rewrite.rt:155:22
 mul-entry : tie.Need-mul-entry
 mul-entry c = search needs
 
--- src/rewrite.rt:155:17
 add-entry : tie.Need-add-entry
 add-entry c = search needs
 
--- src/rewrite.rt:156:5
 move-starts-requires : tie.Need-move-starts-requires
 move-starts-requires c κs = search needs
 
--- src/rewrite.rt:168:5
 shift-right-requires : tie.Need-shift-right-requires
 shift-right-requires c κs = search needs
 
--- src/rewrite.rt:169:63
 add-put-words : tie.Need-add-put-words
 add-put-words c = search needs
 
--- src/rewrite.rt:169:5
 put-words-requires : tie.Need-put-words-requires
 put-words-requires c κs = search needs
 
--- src/rewrite.rt:170:27
 add-put-heading : tie.Need-add-put-heading
 add-put-heading c = search needs
 
--- src/rewrite.rt:170:58
 mul-put-heading : tie.Need-mul-put-heading
 mul-put-heading c = search needs
 
--- src/rewrite.rt:170:53
 add-put-heading-2 : tie.Need-add-put-heading-2
 add-put-heading-2 c = search needs
 
--- src/rewrite.rt:170:46
 sub-put-heading : tie.Need-sub-put-heading
 sub-put-heading c = search needs
 
--- src/rewrite.rt:170:5
 put-heading-requires : tie.Need-put-heading-requires
 put-heading-requires c κs = search needs
 
--- src/rewrite.rt:151:1
 same-length : tie.Need-same-length
 same-length c = search needs
 
--- src/rewrite.rt:151:1
 returns : tie.Need-returns
 returns c =
     let a = c .before .before .before .before .before .before .before .before .before .before .before .before .before .before .before .before .before .args in
     let b = now (a .buf) in
     let p = c .before .before .before .before .before .before .before .before .before .before .before .before .before .before .before .before .before .pre in
     let mv : Move = record { limit = 0; grow = 12; fall = 0; plus = 12; minus = 0 } in
-    rw (c .before .before .put-heading .ensures, c .before .before .before .before .before .before .put-words .ensures, c .before .before .before .before .before .before .before .before .before .before .shift-right .ensures, c .before .before .before .before .before .before .before .before .before .before .before .before .before .before .move-starts .ensures, relocated-alike mv 12 refl refl refl refl)
+    rw (
+      c .before .before .put-heading .ensures,
+      c .before .before .before .before .before .before .put-words .ensures,
+      c .before .before .before .before .before .before .before .before .before .before .shift-right .ensures,
+      c .before .before .before .before .before .before .before .before .before .before .before .before .before .before .move-starts .ensures,
+      relocated-alike mv 12 refl refl refl refl,
+    )
     (enter-written b (a .len) (a .count) (a .place) (a .at) (a .usage) (a .number) (p .0) (p .1 .0) (p .1 .1 .0))
 
 pub insert-entry-spec : {M : Type 1} → statement M

@@ -13,39 +13,34 @@ use Rattle.rewrite.proofs.move_behind.Reads as reads
 use Rattle.rewrite.proofs.move_behind.Lts as lts
 use Rattle.moves.proofs.move_starts.Reads as move-starts-reads
 
--- src/rewrite.rt:97:9
 returns : tie.Need-returns
 returns c =
     let a = c .before .before .args in
     let b = now (a .buf) in
-    starts-kept b (a .count) (a .start) (a .old) (a .new) (c .if1 .taken) (bytes-all b (λ i. omega (arith, c .before .slice-known .given i))) (c .before .before .pre .0)
+    starts-kept b (a .count) (a .start) (a .old) (a .new) (c .if1 .taken) (bytes-all b (λ i. omega (arith, c .before .slice-known .given i)))
+    (c .before .before .pre .0)
 
--- src/rewrite.rt:104:20
 cast-t10 : tie.Need-cast-t10
 cast-t10 c = search needs
 
--- src/rewrite.rt:105:19
 cast-t11 : tie.Need-cast-t11
 cast-t11 c = search needs
 
--- src/rewrite.rt:106:19
 cast-t12 : tie.Need-cast-t12
 cast-t12 c = search needs
 
--- src/rewrite.rt:99:5
 move-starts-requires : tie.Need-move-starts-requires
 move-starts-requires c κs = search needs
 
--- src/rewrite.rt:92:1
 same-length : tie.Need-same-length
 same-length c = search needs
 
--- src/rewrite.rt:92:1
 returns-2 : tie.Need-returns-2
 returns-2 c =
     let a = c .before .before .before .before .before .before .args in
     let mv : Move = record { limit = a .start; grow = a .new; fall = a .old; plus = 0; minus = 0 } in
-    c .before .before .move-starts .ensures ∙ ap (λ (f : ℕ → ℕ). startsMoved f (a .count) 24 (now (a .buf))) (relocated-behind mv (a .start) (a .old) (a .new) refl refl refl refl refl)
+    c .before .before .move-starts .ensures ∙ ap (λ (f : ℕ → ℕ). startsMoved f (a .count) 24 (now (a .buf))) (relocated-behind mv (a .start) (a .old)
+    (a .new) refl refl refl refl refl)
 
 pub move-behind-spec : {M : Type 1} → statement M
 move-behind-spec =

@@ -16,104 +16,87 @@ use Rattle.moves.proofs.move_starts.Reads as move-starts-reads
 use Rattle.moves.proofs.put_heading.Reads as put-heading-reads
 use Rattle.moves.proofs.shift.shift_left.Reads as shift-left-reads
 
--- src/rewrite.rt:69:20
 cast-t10 : tie.Need-cast-t10
 cast-t10 c = search needs
 
--- src/rewrite.rt:71:20
 add-t11 : tie.Need-add-t11
 add-t11 c = search needs
 
--- src/rewrite.rt:71:19
 cast-t12 : tie.Need-cast-t12
 cast-t12 c = search needs
 
--- src/rewrite.rt:64:5
 move-starts-requires : tie.Need-move-starts-requires
 move-starts-requires c κs = search needs
 
--- src/rewrite.rt:76:33
 mul-shift-left : tie.Need-mul-shift-left
 mul-shift-left c = search needs
 
--- src/rewrite.rt:76:28
 add-shift-left : tie.Need-add-shift-left
 add-shift-left c = search needs
 
--- src/rewrite.rt:76:5
 shift-left-requires : tie.Need-shift-left-requires
 shift-left-requires c κs = search needs
 
--- src/rewrite.rt:77:28
 add-shift-left-2 : tie.Need-add-shift-left-2
 add-shift-left-2 c = search needs
 
--- src/rewrite.rt:77:47
 add-shift-left-3 : tie.Need-add-shift-left-3
 add-shift-left-3 c = search needs
 
--- src/rewrite.rt:77:5
 shift-left-requires-2 : tie.Need-shift-left-requires-2
 shift-left-requires-2 c κs = search needs
 
--- src/rewrite.rt:78:30
 add-clear : tie.Need-add-clear
 add-clear c = search needs
 
--- src/rewrite.rt:78:23
 sub-clear : tie.Need-sub-clear
 sub-clear c = search needs
 
--- src/rewrite.rt:78:42
 add-clear-2 : tie.Need-add-clear-2
 add-clear-2 c = search needs
 
--- src/rewrite.rt:78:5
 clear-requires : tie.Need-clear-requires
 clear-requires c κs = search needs
 
--- src/rewrite.rt:79:27
 sub-put-heading : tie.Need-sub-put-heading
 sub-put-heading c = search needs
 
--- src/rewrite.rt:79:46
 sub-put-heading-2 : tie.Need-sub-put-heading-2
 sub-put-heading-2 c = search needs
 
--- src/rewrite.rt:79:65
 mul-put-heading : tie.Need-mul-put-heading
 mul-put-heading c = search needs
 
--- src/rewrite.rt:79:60
 add-put-heading : tie.Need-add-put-heading
 add-put-heading c = search needs
 
--- src/rewrite.rt:79:46
 sub-put-heading-3 : tie.Need-sub-put-heading-3
 sub-put-heading-3 c = search needs
 
--- src/rewrite.rt:79:5
 put-heading-requires : tie.Need-put-heading-requires
 put-heading-requires c κs = search needs
 
--- src/rewrite.rt:60:1
 same-length : tie.Need-same-length
 same-length c = search needs
 
--- src/rewrite.rt:60:1
 returns : tie.Need-returns
 returns c =
-    let a = c .before .before .before .before .before .before .before .before .before .before .before .before .before .before .before .before .before .before .before .before .before .args in
+    let a = c .before .before .before .before .before .before .before .before .before .before .before .before .before .before .before .before .before .before
+    .before .before .before .args in
     let b = now (a .buf) in
-    let p = c .before .before .before .before .before .before .before .before .before .before .before .before .before .before .before .before .before .before .before .before .before .pre in
+    let p = c .before .before .before .before .before .before .before .before .before .before .before .before .before .before .before .before .before .before
+    .before .before .before .pre in
     let mv : Move = record { limit = a .start; grow = 0; fall = 12 + a .size; plus = 0; minus = 12 } in
-    let cleared : c .before .before .before .before .before .before .clear .last .0 ≡ noted (c .before .before .before .before .before .before .before .before .before .before .shift-left2 .last .0) (a .len - (12 + a .size)) (replicate (12 + a .size) 0) = c .before .before .before .before .before .before .clear .ensures in
+    let cleared : c .before .before .before .before .before .before .clear .last .0 ≡ noted
+    (c .before .before .before .before .before .before .before .before .before .before .shift-left2 .last .0) (a .len - (12 + a .size))
+    (replicate (12 + a .size) 0) = c .before .before .before .before .before .before .clear .ensures in
     rw (
       c .before .before .put-heading .ensures,
       cleared,
       c .before .before .before .before .before .before .before .before .before .before .shift-left2 .ensures,
       c .before .before .before .before .before .before .before .before .before .before .before .before .before .before .shift-left .ensures,
-      c .before .before .before .before .before .before .before .before .before .before .before .before .before .before .before .before .before .before .move-starts .ensures,
+      c .before .before .before .before .before .before .before .before .before .before .before .before .before .before .before .before .before .before
+          .move-starts .ensures,
       relocated-fallen mv (a .start) (a .size) refl refl refl refl refl,
     )
     (remove-written b (a .len) (a .count) (a .i) (a .start) (a .size) (p .0) (p .1 .listed) (p .1 .starts) (p .1 .gone))

@@ -17,65 +17,61 @@ use Rattle.moves.proofs.put_heading.Reads as put-heading-reads
 use Rattle.rewrite.proofs.move_behind.Reads as move-behind-reads
 use Rattle.rewrite.proofs.resize.Reads as resize-reads
 
--- src/rewrite.rt:129:20
 add-new : tie.Need-add-new
 add-new c = search needs
 
--- src/rewrite.rt:129:15
 add-new-2 : tie.Need-add-new-2
 add-new-2 c = search needs
 
--- src/rewrite.rt:130:5
 resize-requires : tie.Need-resize-requires
 resize-requires c κs = search needs
 
--- src/rewrite.rt:131:5
 move-behind-requires : tie.Need-move-behind-requires
 move-behind-requires c κs = search needs
 
--- src/rewrite.rt:135:22
 mul-put-heading : tie.Need-mul-put-heading
 mul-put-heading c = search needs
 
--- src/rewrite.rt:135:17
 add-put-heading : tie.Need-add-put-heading
 add-put-heading c = search needs
 
--- src/rewrite.rt:135:10
 sub-put-heading : tie.Need-sub-put-heading
 sub-put-heading c = search needs
 
--- src/rewrite.rt:135:10
 sub-put-heading-2 : tie.Need-sub-put-heading-2
 sub-put-heading-2 c = search needs
 
--- src/rewrite.rt:135:10
 add-put-heading-2 : tie.Need-add-put-heading-2
 add-put-heading-2 c = search needs
 
--- src/rewrite.rt:132:5
 put-heading-requires : tie.Need-put-heading-requires
 put-heading-requires c κs = search needs
 
--- src/rewrite.rt:137:5
 put-chunk-requires : tie.Need-put-chunk-requires
 put-chunk-requires c κs = search needs
 
--- src/rewrite.rt:114:1
 same-length : tie.Need-same-length
 same-length c = search needs
 
--- src/rewrite.rt:114:1
 returns : tie.Need-returns
 returns c =
-    let a = c .before .before .before .before .before .before .before .before .before .before .before .before .before .before .before .before .before .before .args in
+    let a = c .before .before .before .before .before .before .before .before .before .before .before .before .before .before .before .before .before
+    .before .args in
     let b = now (a .buf) in
-    let p = c .before .before .before .before .before .before .before .before .before .before .before .before .before .before .before .before .before .before .pre in
+    let p = c .before .before .before .before .before .before .before .before .before .before .before .before .before .before .before .before .before
+    .before .pre in
     let new : ℕ = 8 + (length (now (a .d)) + length (now (a .d)) % 2) in
     let en : 8 + (length (now (a .d)) + length (now (a .d)) % 2) ≡ size (chunkOf (a .kind) (now (a .d))) = sym (size-of (a .kind) (now (a .d)) ∙ omega arith) in
     let room : a .len + (new - a .old) ≤ length b = omega arith in
-    let part : c .before .before .before .before .before .before .before .before .before .before .before .before .before .before .resize .last .0 ≡ resized b (a .start) (a .len) (a .old) new = c .before .before .before .before .before .before .before .before .before .before .before .before .before .before .resize .ensures in
-    rw (c .before .before .put-chunk .ensures, c .before .before .before .before .before .before .put-heading .ensures, c .before .before .before .before .before .before .before .before .before .before .move-behind .ensures, part)
+    let part : c .before .before .before .before .before .before .before .before .before .before .before .before .before .before .resize .last .0 ≡ resized b
+    (a .start) (a .len) (a .old) new =
+    c .before .before .before .before .before .before .before .before .before .before .before .before .before .before .resize .ensures in
+    rw (
+      c .before .before .put-chunk .ensures,
+      c .before .before .before .before .before .before .put-heading .ensures,
+      c .before .before .before .before .before .before .before .before .before .before .move-behind .ensures,
+      part,
+    )
     (replace-written b (a .len) (a .count) (a .i) (a .start) (a .old) new (a .kind) (now (a .d)) (p .0) (p .1 .0) en room)
 
 pub replace-bytes-spec : {M : Type 1} → statement M

@@ -11,44 +11,34 @@ use Rattle.rewrite.proofs.resize.Lts as lts
 use Rattle.rewrite.proofs.close_gap.Reads as close-gap-reads
 use Rattle.moves.proofs.shift.shift_right.Reads as shift-right-reads
 
--- src/rewrite.rt:82:9
 returns : tie.Need-returns
 returns c = let a = c .before .before .args in resized-same (now (a .buf)) (a .at) (a .len) (a .old) (a .new) (c .if1 .taken)
 
--- src/rewrite.rt:85:33
 add-shift-right : tie.Need-add-shift-right
 add-shift-right c = search needs
 
--- src/rewrite.rt:85:48
 sub-shift-right : tie.Need-sub-shift-right
 sub-shift-right c = search needs
 
--- src/rewrite.rt:85:9
 shift-right-requires : tie.Need-shift-right-requires
 shift-right-requires c κs = search needs
 
--- src/rewrite.rt:86:9
 same-length : tie.Need-same-length
 same-length c = search needs
 
--- src/rewrite.rt:86:9
 returns-2 : tie.Need-returns-2
 unfolding resized
 returns-2 c = c .before .before .shift-right .ensures ∙ (rw (lt-ltb _ _ (c .before .before .before .before .if2 .taken)))
 
--- src/rewrite.rt:88:20
 add-close-gap : tie.Need-add-close-gap
 add-close-gap c = search needs
 
--- src/rewrite.rt:88:5
 close-gap-requires : tie.Need-close-gap-requires
 close-gap-requires c κs = search needs
 
--- src/rewrite.rt:77:1
 same-length-2 : tie.Need-same-length-2
 same-length-2 c = search needs
 
--- src/rewrite.rt:77:1
 returns-3 : tie.Need-returns-3
 unfolding resized
 returns-3 c = c .before .before .close-gap .ensures ∙ (rw (le-ltb _ _ (c .before .before .before .before .if2 .left)))

@@ -41,7 +41,8 @@ type-allowed-requires c κs = search needs
 returns : tie.Need-returns
 returns c =
     let a = c .before .before .before .before .before .args in
-    c .type-allowed .ensures ∙ ap (λ (z : Chunk). allows (a .profile) (a .usage) z) (chunk-read (now (a .s)) (a .at) _ _ (c .before .before .before .be32-at .ensures .0) (c .before .before .be32-at2 .ensures .0))
+    c .type-allowed .ensures ∙ ap (λ (z : Chunk). allows (a .profile) (a .usage) z) (chunk-read (now (a .s)) (a .at) _ _
+    (c .before .before .before .be32-at .ensures .0) (c .before .before .be32-at2 .ensures .0))
 
 pub chunk-allowed-spec : {M : Type 1} → statement M
 chunk-allowed-spec =

@@ -23,7 +23,8 @@ add-result c = search needs
 returns : tie.Need-returns
 returns c =
     let a = c .before .before .before .before .args in
-    λ i. eqb (a .p .place) (a .place) && (eqb (a .count) (a .place + 1) && (eqb (a .p .start + c .before .before .chunk-size .ensures i) (a .len) && not (a .p .shared)))
+    λ i. eqb (a .p .place) (a .place) && (eqb (a .count) (a .place + 1) && (eqb (a .p .start + c .before .before .chunk-size .ensures i) (a .len) && not
+    (a .p .shared)))
 
 pub fits-added-spec : {M : Type 1} → statement M
 fits-added-spec = tie.close (tie.spec cast-end chunk-size-requires add-end add-result returns)

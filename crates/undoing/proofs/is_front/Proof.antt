@@ -18,7 +18,8 @@ enum-told : tie.Need-enum-told
 enum-told c = search needs
 
 returns : tie.Need-returns
-returns c = c .is-picture .ensures ∙ ap (λ (f : Front). frontIs f (c .before .before .before .before .args .usage) (c .before .before .before .before .args .number)) (sym (c .before .before .front .given .1))
+returns c = c .is-picture .ensures ∙ ap (λ (f : Front). frontIs f (c .before .before .before .before .args .usage)
+    (c .before .before .before .before .args .number)) (sym (c .before .before .front .given .1))
 
 returns-2 : tie.Need-returns-2
 returns-2 c = search needs

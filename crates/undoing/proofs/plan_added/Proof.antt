@@ -30,7 +30,8 @@ is-front-requires c κs = search needs
 returns-2 : tie.Need-returns-2
 returns-2 c =
     let a = c .before .before .before .before .before .before .before .args in
-    added-not (a .facts) (a .len) (a .r) _ _ _ (c .before .before .before .before .before .target .given .1) (c .before .before .fits-added .ensures) (c .before .is-front .ensures) (c .if1 .taken)
+    added-not (a .facts) (a .len) (a .r) _ _ _ (c .before .before .before .before .before .target .given .1) (c .before .before .fits-added .ensures)
+    (c .before .is-front .ensures) (c .if1 .taken)
 
 cast-t14 : tie.Need-cast-t14
 cast-t14 c = search needs
@@ -44,7 +45,8 @@ less-requires c κs = search needs
 returns-3 : tie.Need-returns-3
 returns-3 c =
     let a = c .before .before .before .before .before .before .before .before .before .args in
-    added-fits (a .facts) (a .len) (a .r) _ _ _ (c .before .before .before .before .before .before .before .target .given .1) (c .before .before .before .before .fits-added .ensures) (c .before .before .before .is-front .ensures) _ _ (c .before .before .if1 .left)
+    added-fits (a .facts) (a .len) (a .r) _ _ _ (c .before .before .before .before .before .before .before .target .given .1)
+    (c .before .before .before .before .fits-added .ensures) (c .before .before .before .is-front .ensures) _ _ (c .before .before .if1 .left)
     (c .before .before .before .before .before .chunk-size .ensures) (c .less .ensures)
 
 pub plan-added-spec : {M : Type 1} → statement M

@@ -26,7 +26,8 @@ is-front-requires c κs = search needs
 returns-2 : tie.Need-returns-2
 returns-2 c =
     let a = c .before .before .before .before .before .before .args in
-    linked-not (a .facts) (a .len) (a .r) _ _ _ (c .before .before .before .before .target .given .1) (c .before .before .fits-linked .ensures) (c .before .is-front .ensures) (c .if1 .taken)
+    linked-not (a .facts) (a .len) (a .r) _ _ _ (c .before .before .before .before .target .given .1) (c .before .before .fits-linked .ensures)
+    (c .before .is-front .ensures) (c .if1 .taken)
 
 cast-t13 : tie.Need-cast-t13
 cast-t13 c = search needs
@@ -37,7 +38,9 @@ less-requires c κs = search needs
 returns-3 : tie.Need-returns-3
 returns-3 c =
     let a = c .before .before .before .before .before .before .before .before .args in
-    linked-fits (a .facts) (a .len) (a .r) _ _ _ (c .before .before .before .before .before .before .target .given .1) (c .before .before .before .before .fits-linked .ensures) (c .before .before .before .is-front .ensures) _ (c .before .before .if1 .left) (c .less .ensures)
+    linked-fits (a .facts) (a .len) (a .r) _ _ _ (c .before .before .before .before .before .before .target .given .1)
+    (c .before .before .before .before .fits-linked .ensures) (c .before .before .before .is-front .ensures) _ (c .before .before .if1 .left)
+    (c .less .ensures)
 
 pub plan-linked-spec : {M : Type 1} → statement M
 plan-linked-spec =

@@ -42,8 +42,11 @@ old-fine-requires c κs = search needs
 returns-2 : tie.Need-returns-2
 returns-2 c =
     let a = c .before .before .before .before .before .before .before .before .before .before .args in
-    replaced-not (a .profile) (a .facts) (a .len) (a .r) (now (a .d)) _ _ _ _ _ _ (c .before .before .before .before .before .before .before .target .given .1) (c .before .before .fits-replaced .ensures) (c .before .old-fine .ensures)
-    (c .before .before .before .before .before .chunk-size .ensures) (c .before .before .before .chunk-size2 .ensures) (c .before .before .before .before .less .ensures) (c .if1 .taken)
+    replaced-not (a .profile) (a .facts) (a .len) (a .r) (now (a .d)) _ _ _ _ _ _
+    (c .before .before .before .before .before .before .before .target .given .1) (c .before .before .fits-replaced .ensures)
+    (c .before .old-fine .ensures)
+    (c .before .before .before .before .before .chunk-size .ensures) (c .before .before .before .chunk-size2 .ensures)
+    (c .before .before .before .before .less .ensures) (c .if1 .taken)
 
 cast-t12 : tie.Need-cast-t12
 cast-t12 c = search needs
@@ -51,8 +54,11 @@ cast-t12 c = search needs
 returns-3 : tie.Need-returns-3
 returns-3 c =
     let a = c .before .before .before .before .before .before .before .before .before .before .before .args in
-    replaced-fits (a .profile) (a .facts) (a .len) (a .r) (now (a .d)) _ _ _ _ _ _ (c .before .before .before .before .before .before .before .before .target .given .1) (c .before .before .before .fits-replaced .ensures) (c .before .before .old-fine .ensures)
-    (c .before .before .before .before .before .before .chunk-size .ensures) (c .before .before .before .before .chunk-size2 .ensures) (c .before .before .before .before .before .less .ensures) (c .before .if1 .left)
+    replaced-fits (a .profile) (a .facts) (a .len) (a .r) (now (a .d)) _ _ _ _ _ _
+    (c .before .before .before .before .before .before .before .before .target .given .1) (c .before .before .before .fits-replaced .ensures)
+    (c .before .before .old-fine .ensures)
+    (c .before .before .before .before .before .before .chunk-size .ensures) (c .before .before .before .before .chunk-size2 .ensures)
+    (c .before .before .before .before .before .less .ensures) (c .before .if1 .left)
 
 pub plan-replaced-spec : {M : Type 1} → statement M
 plan-replaced-spec =

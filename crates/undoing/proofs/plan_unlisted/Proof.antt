@@ -11,7 +11,8 @@ use Rattle.undoing.proofs.in_order.Reads as in-order-reads
 use Rattle.undoing.proofs.less.Reads as less-reads
 
 returns : tie.Need-returns
-returns c = unlisted-none (c .before .before .args .profile) (c .before .before .args .facts) (now (c .before .before .args .s)) (c .before .before .args .r) (c .if1 .taken)
+returns c = unlisted-none (c .before .before .args .profile) (c .before .before .args .facts) (now (c .before .before .args .s)) (c .before .before .args .r)
+    (c .if1 .taken)
 
 add-to : tie.Need-add-to
 add-to c = search needs

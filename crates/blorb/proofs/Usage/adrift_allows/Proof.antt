@@ -8,43 +8,33 @@ use Rattle.blorb.proofs.Usage.adrift_allows.Lts as lts
 use Rattle.blorb.proofs.gif_type.Reads as gif-type-reads
 use Rattle.blorb.proofs.wav_type.Reads as wav-type-reads
 
--- src/lib.rt:237:28
 enum-told : tie.Need-enum-told
 enum-told c = search needs
 
--- src/lib.rt:237:28
 gif-type-requires : tie.Need-gif-type-requires
 gif-type-requires c κs = search needs
 
--- src/lib.rt:238:27
 enum-told-2 : tie.Need-enum-told-2
 enum-told-2 c = search needs
 
--- src/lib.rt:238:27
 wav-type-requires : tie.Need-wav-type-requires
 wav-type-requires c κs = search needs
 
--- src/lib.rt:239:28
 enum-told-3 : tie.Need-enum-told-3
 enum-told-3 c = search needs
 
--- src/lib.rt:240:28
 enum-told-4 : tie.Need-enum-told-4
 enum-told-4 c = search needs
 
--- src/lib.rt:233:5
 returns : tie.Need-returns
 returns c = c .gif-type .ensures ∙ sym (rw (c .before .enum-told .given .1) (adrift-pict _))
 
--- src/lib.rt:233:5
 returns-2 : tie.Need-returns-2
 returns-2 c = c .wav-type .ensures ∙ sym (rw (c .before .enum-told2 .given .1) (adrift-snd _))
 
--- src/lib.rt:233:5
 returns-3 : tie.Need-returns-3
 returns-3 c = sym (rw (c .enum-told3 .given .1) (adrift-data _))
 
--- src/lib.rt:233:5
 returns-4 : tie.Need-returns-4
 returns-4 c = sym (rw (c .enum-told4 .given .1) (adrift-exec _))
 

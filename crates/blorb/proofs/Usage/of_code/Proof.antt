@@ -4,23 +4,18 @@ use Rattle.blorb.proofs.Usage.of_code.Tie as tie
 use Rattle.blorb.proofs.Usage.of_code.Reads as reads
 use Rattle.blorb.proofs.Usage.of_code.Lts as lts
 
--- src/lib.rt:115:13
 returns : tie.Need-returns
 returns c = code-pict _ (c .if1 .taken)
 
--- src/lib.rt:118:13
 returns-2 : tie.Need-returns-2
 returns-2 c = code-snd _ (c .before .if1 .left) (c .if2 .taken)
 
--- src/lib.rt:121:13
 returns-3 : tie.Need-returns-3
 returns-3 c = code-data _ (c .before .before .if1 .left) (c .before .if2 .left) (c .if3 .taken)
 
--- src/lib.rt:124:13
 returns-4 : tie.Need-returns-4
 returns-4 c = code-exec _ (c .before .before .before .if1 .left) (c .before .before .if2 .left) (c .before .if3 .left) (c .if4 .taken)
 
--- src/lib.rt:111:5
 returns-5 : tie.Need-returns-5
 returns-5 c = code-none _ (c .before .before .before .if1 .left) (c .before .before .if2 .left) (c .before .if3 .left) (c .if4 .left)
 

@@ -11,51 +11,39 @@ use Rattle.blorb.proofs.exec_type.Reads as exec-type-reads
 use Rattle.blorb.proofs.pict_type.Reads as pict-type-reads
 use Rattle.blorb.proofs.sound_type.Reads as sound-type-reads
 
--- src/lib.rt:146:44
 enum-told : tie.Need-enum-told
 enum-told c = search needs
 
--- src/lib.rt:146:28
 pict-type-requires : tie.Need-pict-type-requires
 pict-type-requires c κs = search needs
 
--- src/lib.rt:147:27
 enum-told-2 : tie.Need-enum-told-2
 enum-told-2 c = search needs
 
--- src/lib.rt:147:27
 sound-type-requires : tie.Need-sound-type-requires
 sound-type-requires c κs = search needs
 
--- src/lib.rt:148:28
 enum-told-3 : tie.Need-enum-told-3
 enum-told-3 c = search needs
 
--- src/lib.rt:148:28
 data-type-requires : tie.Need-data-type-requires
 data-type-requires c κs = search needs
 
--- src/lib.rt:149:28
 enum-told-4 : tie.Need-enum-told-4
 enum-told-4 c = search needs
 
--- src/lib.rt:149:28
 exec-type-requires : tie.Need-exec-type-requires
 exec-type-requires c κs = search needs
 
--- src/lib.rt:142:5
 returns : tie.Need-returns
 returns c = c .pict-type .ensures ∙ sym (rw (c .before .enum-told .given .1) (plain-pict _))
 
--- src/lib.rt:142:5
 returns-2 : tie.Need-returns-2
 returns-2 c = c .sound-type .ensures ∙ sym (rw (c .before .enum-told2 .given .1))
 
--- src/lib.rt:142:5
 returns-3 : tie.Need-returns-3
 returns-3 c = c .data-type .ensures ∙ sym (rw (c .before .enum-told3 .given .1) (plain-data _))
 
--- src/lib.rt:142:5
 returns-4 : tie.Need-returns-4
 returns-4 c = c .exec-type .ensures ∙ sym (rw (c .before .enum-told4 .given .1) (plain-exec _))
 

@@ -10,7 +10,25 @@ use Rattle.chunks.specs.Walk.{walkFrom, Reached}
 use Rattle.blorb.specs.Verdict.{accept, pairIn}
 use Rattle.chunks.proofs.StartLaws.{begun, resume}
 use Rattle.index.specs.Entries.{usageAt, numberAt, startAt, place, earlier, entriesFrom, entryFault, Before, Below, slotOf}
-use Rattle.index.proofs.EntryLaws.{judged-at, judged-fault, entry-start, entry-stop, pair-stop, pair-more, pair-hit, order-stop, entries-next, before-next, before-none, entries-end, fresh, pair-none, topped, below-next, below-same}
+use Rattle.index.proofs.EntryLaws.{
+  judged-at,
+  judged-fault,
+  entry-start,
+  entry-stop,
+  pair-stop,
+  pair-more,
+  pair-hit,
+  order-stop,
+  entries-next,
+  before-next,
+  before-none,
+  entries-end,
+  fresh,
+  pair-none,
+  topped,
+  below-next,
+  below-same,
+}
 use Rattle.index.proofs.entries.entries.Statement.{statement}
 use Rattle.index.proofs.entries.entries.Tie as tie
 use Rattle.index.proofs.entries.entries.Reads as reads
@@ -21,13 +39,16 @@ use Rattle.index.proofs.entries.same_pair.Reads as same-pair-reads
 use Rattle.index.proofs.entries.slot.Reads as slot-reads
 
 abbrev Inv-loop : tie.InvT-loop
-Inv-loop s profile count base answer₀ tops found j p before k number i₀ answer i = (i ≤ j) × (answer ≡ Good) × (pairIn (usageAt s (place j)) (numberAt s (place j)) (earlier s base i) ≡ false)
+Inv-loop s profile count base answer₀ tops found j p before k number i₀ answer i = (i ≤ j) × (answer ≡ Good)
+    × (pairIn (usageAt s (place j)) (numberAt s (place j)) (earlier s base i) ≡ false)
 
 abbrev μ-loop : tie.MeasureT-loop
 μ-loop s profile count base answer₀ tops found j p before k number i₀ answer i = j - i
 
 abbrev Inv-entries : tie.InvT-entries
-Inv-entries s profile count base answer₀ tops₀ found₀ j₀ answer tops found j = (j ≤ count) × (answer ≡ Good) × (length tops ≡ 8) × (walkFrom s found ≡ accept) × Reached s base found × (entriesFrom profile s base j (count - j) ≡ entriesFrom profile s base 0 count) × Below s tops j × Before s base j found
+Inv-entries s profile count base answer₀ tops₀ found₀ j₀ answer tops found j = (j ≤ count) × (answer ≡ Good) × (length tops ≡ 8)
+    × (walkFrom s found ≡ accept) × Reached s base found × (entriesFrom profile s base j (count - j) ≡ entriesFrom profile s base 0 count) × Below s tops j
+    × Before s base j found
 
 abbrev μ-entries : tie.MeasureT-entries
 μ-entries s profile count base answer₀ tops₀ found₀ j₀ answer tops found j = count - j
@@ -41,8 +62,16 @@ add-base c = search needs
 entries-holds : tie.Need-entries-holds Inv-loop μ-loop Inv-entries μ-entries
 entries-holds c =
     let a = c .before .args in
-    let z : a .count - 0 ≡ a .count = omega arith in
-    (search needs, refl, refl, c .before .pre .2, (λ x l. refl), ap (λ (n : ℕ). entriesFrom (a .profile) (now (a .s)) (place (a .count)) 0 n) z, (λ i h. absurd (omega arith)), before-none (now (a .s)) (place (a .count)))
+    let z : a .count - 0 ≡ a .count = omega arith in (
+      search needs,
+      refl,
+      refl,
+      c .before .pre .2,
+      (λ x l. refl),
+      ap (λ (n : ℕ). entriesFrom (a .profile) (now (a .s)) (place (a .count)) 0 n) z,
+      (λ i h. absurd (omega arith)),
+      before-none (now (a .s)) (place (a .count)),
+    )
 
 mul-p : tie.Need-mul-p Inv-loop μ-loop Inv-entries μ-entries
 mul-p c = search needs
@@ -57,7 +86,9 @@ enum-known-number : tie.Need-enum-known-number Inv-loop μ-loop Inv-entries μ-e
 enum-known-number c = search needs
 
 returns : tie.Need-returns Inv-loop μ-loop Inv-entries μ-entries
-returns c = entry-stop _ _ _ _ _ (c .before .before .before .before .before .before .before .pre .2) (c .before .before .before .before .entries-test .taken) _ _ (judged-fault _ _ _ _ (sym (c .before .before .before .judge .ensures) ∙ c .before .number .given .1)) ∙ c .before .before .before .before .before .entries .inv .5
+returns c = entry-stop _ _ _ _ _ (c .before .before .before .before .before .before .before .pre .2) (c .before .before .before .before .entries-test .taken)
+    _ _ (judged-fault _ _ _ _ (sym (c .before .before .before .judge .ensures) ∙ c .before .number .given .1))
+    ∙ c .before .before .before .before .before .entries .inv .5
 
 enum-known-start : tie.Need-enum-known-start Inv-loop μ-loop Inv-entries μ-entries
 enum-known-start c = search needs
@@ -91,14 +122,18 @@ returns-2 c =
     let p : ℕ = place (o .j) in
     let base : ℕ = place (a .count) in
     let w = c .before .before .before .before .before .before .before .before .before .before .before .before .before .pre .2 in
-    let g = judged-at (entryFault (a .profile) s base p) (startAt s p) _ (sym (c .before .before .before .before .before .before .before .before .before .judge .ensures) ∙ c .before .before .before .before .before .before .before .start .given .1) in
+    let g = judged-at (entryFault (a .profile) s base p) (startAt s p) _
+    (sym (c .before .before .before .before .before .before .before .before .before .judge .ensures)
+    ∙ c .before .before .before .before .before .before .before .start .given .1) in
     let b = entry-start _ s base p (g .0) in
     let k = c .before .before .before .before .slot .result in
-    let q : k ≡ slotOf (usageAt s p) = c .before .before .before .before .slot .ensures .0 ∙ ap slotOf (c .before .before .before .before .before .be32-at .ensures .0) in
+    let q : k ≡ slotOf (usageAt s p) = c .before .before .before .before .slot .ensures .0
+    ∙ ap slotOf (c .before .before .before .before .before .be32-at .ensures .0) in
     let m : c .before .before .before .be32-at2 .result ≡ numberAt s p = c .before .before .before .be32-at2 .ensures .0 in
     let top : ℕ = getD (o .tops) k 0 in
     let h : top ≤ c .before .before .before .be32-at2 .result = c .before .before .if1 .taken in
-    let x : pairIn (usageAt s p) (numberAt s p) (earlier s base (o .j)) ≡ false = fresh s base (o .j) top (topped s (o .tops) (o .j) k (o .inv .6) q) (omega arith) (o .j) (omega arith) in
+    let x : pairIn (usageAt s p) (numberAt s p) (earlier s base (o .j)) ≡ false = fresh s base (o .j) top (topped s (o .tops) (o .j) k (o .inv .6) q)
+    (omega arith) (o .j) (omega arith) in
     c .unordered .ensures ∙ order-stop _ s base (a .count) (o .j) w (omega arith) (g .0) x (o .found) _ (o .inv .7) (g .1) (c .before .if2 .taken) ∙ o .inv .5
 
 add-tops : tie.Need-add-tops Inv-loop μ-loop Inv-entries μ-entries
@@ -124,14 +159,17 @@ entries-again c =
     let p : ℕ = place (o .j) in
     let base : ℕ = place (a .count) in
     let w = c .before .before .before .before .before .before .before .before .before .before .before .before .pre .2 in
-    let g = judged-at (entryFault (a .profile) s base p) (startAt s p) _ (sym (c .before .before .before .before .before .before .before .before .judge .ensures) ∙ c .before .before .before .before .before .before .start .given .1) in
+    let g = judged-at (entryFault (a .profile) s base p) (startAt s p) _
+    (sym (c .before .before .before .before .before .before .before .before .judge .ensures)
+    ∙ c .before .before .before .before .before .before .start .given .1) in
     let b = entry-start _ s base p (g .0) in
     let k = c .before .before .before .slot .result in
     let q : k ≡ slotOf (usageAt s p) = c .before .before .before .slot .ensures .0 ∙ ap slotOf (c .before .before .before .before .be32-at .ensures .0) in
     let m : c .before .before .be32-at2 .result ≡ numberAt s p = c .before .before .be32-at2 .ensures .0 in
     let top : ℕ = getD (o .tops) k 0 in
     let h : top ≤ c .before .before .be32-at2 .result = c .before .if1 .taken in
-    let x : pairIn (usageAt s p) (numberAt s p) (earlier s base (o .j)) ≡ false = fresh s base (o .j) top (topped s (o .tops) (o .j) k (o .inv .6) q) (omega arith) (o .j) (omega arith) in
+    let x : pairIn (usageAt s p) (numberAt s p) (earlier s base (o .j)) ≡ false = fresh s base (o .j) top (topped s (o .tops) (o .j) k (o .inv .6) q)
+    (omega arith) (o .j) (omega arith) in
     let z : k < 8 = c .before .before .before .slot .ensures .1 in
     let t : length (o .tops) ≡ 8 = o .inv .2 in (
       omega arith,
@@ -145,7 +183,14 @@ entries-again c =
     )
 
 loop-holds : tie.Need-loop-holds Inv-loop μ-loop Inv-entries μ-entries
-loop-holds c = (omega arith, c .before .before .before .before .before .before .before .before .before .entries .inv .1, pair-none (now (c .before .before .before .before .before .before .before .before .before .before .before .args .s)) (place (c .before .before .before .before .before .before .before .before .before .before .before .args .count)) (c .before .before .before .before .before .before .before .before .before .entries .j))
+loop-holds c = (
+  omega arith,
+  c .before .before .before .before .before .before .before .before .before .entries .inv .1,
+  pair-none
+      (now (c .before .before .before .before .before .before .before .before .before .before .before .args .s))
+      (place (c .before .before .before .before .before .before .before .before .before .before .before .args .count))
+      (c .before .before .before .before .before .before .before .before .before .entries .j),
+)
 
 same-pair-requires : tie.Need-same-pair-requires Inv-loop μ-loop Inv-entries μ-entries
 same-pair-requires c κs = search needs
@@ -158,8 +203,14 @@ loop-less c = search needs
 
 loop-again : tie.Need-loop-again Inv-loop μ-loop Inv-entries μ-entries
 loop-again c =
-    let l = c .before .before .before .loop in
-    (omega arith, l .inv .1, pair-more (now (c .before .before .before .before .before .before .before .before .before .before .before .before .before .before .before .args .s)) _ (l .i) (c .before .before .before .before .before .before .before .before .before .before .before .before .before .entries .j) (l .inv .2) (sym (c .before .same-pair .ensures) ∙ c .if3 .left))
+    let l = c .before .before .before .loop in (
+      omega arith,
+      l .inv .1,
+      pair-more
+          (now (c .before .before .before .before .before .before .before .before .before .before .before .before .before .before .before .args .s)) _ (l .i)
+          (c .before .before .before .before .before .before .before .before .before .before .before .before .before .entries .j) (l .inv .2)
+          (sym (c .before .same-pair .ensures) ∙ c .if3 .left),
+    )
 
 unordered-requires-2 : tie.Need-unordered-requires-2 Inv-loop μ-loop Inv-entries μ-entries
 unordered-requires-2 c κs = search needs
@@ -172,14 +223,18 @@ returns-3 c =
     let p : ℕ = place (o .j) in
     let base : ℕ = place (a .count) in
     let w = c .before .before .before .before .before .before .before .before .before .before .before .before .before .before .before .pre .2 in
-    let g = judged-at (entryFault (a .profile) s base p) (startAt s p) _ (sym (c .before .before .before .before .before .before .before .before .before .before .before .judge .ensures) ∙ c .before .before .before .before .before .before .before .before .before .start .given .1) in
+    let g = judged-at (entryFault (a .profile) s base p) (startAt s p) _
+    (sym (c .before .before .before .before .before .before .before .before .before .before .before .judge .ensures)
+    ∙ c .before .before .before .before .before .before .before .before .before .start .given .1) in
     let b = entry-start _ s base p (g .0) in
     let k = c .before .before .before .before .before .before .slot .result in
-    let q : k ≡ slotOf (usageAt s p) = c .before .before .before .before .before .before .slot .ensures .0 ∙ ap slotOf (c .before .before .before .before .before .before .before .be32-at .ensures .0) in
+    let q : k ≡ slotOf (usageAt s p) = c .before .before .before .before .before .before .slot .ensures .0
+    ∙ ap slotOf (c .before .before .before .before .before .before .before .be32-at .ensures .0) in
     let m : c .before .before .before .before .before .be32-at2 .result ≡ numberAt s p = c .before .before .before .before .before .be32-at2 .ensures .0 in
     let l = c .before .before .before .loop in
     let i : l .i ≡ o .j = omega (arith, l .inv .0, c .before .before .loop-test .left) in
-    let x : pairIn (usageAt s p) (numberAt s p) (earlier s base (o .j)) ≡ false = ap (λ (z : ℕ). pairIn (usageAt s p) (numberAt s p) (earlier s base z)) (sym i) ∙ l .inv .2 in
+    let x : pairIn (usageAt s p) (numberAt s p) (earlier s base (o .j)) ≡ false = ap (λ (z : ℕ). pairIn (usageAt s p) (numberAt s p) (earlier s base z))
+    (sym i) ∙ l .inv .2 in
     c .unordered2 .ensures ∙ order-stop _ s base (a .count) (o .j) w (omega arith) (g .0) x (o .found) _ (o .inv .7) (g .1) (c .before .if4 .taken) ∙ o .inv .5
 
 add-j-2 : tie.Need-add-j-2 Inv-loop μ-loop Inv-entries μ-entries
@@ -196,14 +251,18 @@ entries-again-2 c =
     let p : ℕ = place (o .j) in
     let base : ℕ = place (a .count) in
     let w = c .before .before .before .before .before .before .before .before .before .before .before .before .before .before .pre .2 in
-    let g = judged-at (entryFault (a .profile) s base p) (startAt s p) _ (sym (c .before .before .before .before .before .before .before .before .before .before .judge .ensures) ∙ c .before .before .before .before .before .before .before .before .start .given .1) in
+    let g = judged-at (entryFault (a .profile) s base p) (startAt s p) _
+    (sym (c .before .before .before .before .before .before .before .before .before .before .judge .ensures)
+    ∙ c .before .before .before .before .before .before .before .before .start .given .1) in
     let b = entry-start _ s base p (g .0) in
     let k = c .before .before .before .before .before .slot .result in
-    let q : k ≡ slotOf (usageAt s p) = c .before .before .before .before .before .slot .ensures .0 ∙ ap slotOf (c .before .before .before .before .before .before .be32-at .ensures .0) in
+    let q : k ≡ slotOf (usageAt s p) = c .before .before .before .before .before .slot .ensures .0
+    ∙ ap slotOf (c .before .before .before .before .before .before .be32-at .ensures .0) in
     let m : c .before .before .before .before .be32-at2 .result ≡ numberAt s p = c .before .before .before .before .be32-at2 .ensures .0 in
     let l = c .before .before .loop in
     let i : l .i ≡ o .j = omega (arith, l .inv .0, c .before .loop-test .left) in
-    let x : pairIn (usageAt s p) (numberAt s p) (earlier s base (o .j)) ≡ false = ap (λ (z : ℕ). pairIn (usageAt s p) (numberAt s p) (earlier s base z)) (sym i) ∙ l .inv .2 in
+    let x : pairIn (usageAt s p) (numberAt s p) (earlier s base (o .j)) ≡ false = ap (λ (z : ℕ). pairIn (usageAt s p) (numberAt s p) (earlier s base z))
+    (sym i) ∙ l .inv .2 in
     let h : c .before .before .before .before .be32-at2 .result < getD (o .tops) k 0 = c .before .before .before .if1 .left in (
       omega arith,
       l .inv .1,
@@ -220,7 +279,8 @@ returns-4 c =
     let a = c .before .before .before .args in
     let o = c .before .entries in
     let z : a .count - o .j ≡ 0 = omega arith in
-    rw (o .inv .1) (sym (ap (λ (n : ℕ). entriesFrom (a .profile) (now (a .s)) (place (a .count)) (o .j) n) z ∙ entries-end _ (now (a .s)) (place (a .count)) (c .before .before .before .pre .2) (o .j)) ∙ o .inv .5)
+    rw (o .inv .1) (sym (ap (λ (n : ℕ). entriesFrom (a .profile) (now (a .s)) (place (a .count)) (o .j) n) z ∙ entries-end _ (now (a .s)) (place (a .count))
+    (c .before .before .before .pre .2) (o .j)) ∙ o .inv .5)
 
 returns-5 : tie.Need-returns-5 Inv-loop μ-loop Inv-entries μ-entries
 returns-5 c =
@@ -230,8 +290,12 @@ returns-5 c =
     let l = c .before .before .before .loop in
     let p : ℕ = place (o .j) in
     let base : ℕ = place (a .count) in
-    let g = judged-at (entryFault (a .profile) s base p) (startAt s p) _ (sym (c .before .before .before .before .before .before .before .before .before .before .before .judge .ensures) ∙ c .before .before .before .before .before .before .before .before .before .start .given .1) in
-    pair-stop _ s base (a .count) (o .j) (c .before .before .before .before .before .before .before .before .before .before .before .before .before .before .before .pre .2) (omega arith) (g .0) (pair-hit s base (l .i) (o .j) (o .j) (c .before .before .loop-test .taken) (sym (c .before .same-pair .ensures) ∙ c .if3 .taken)) ∙ o .inv .5
+    let g = judged-at (entryFault (a .profile) s base p) (startAt s p) _
+    (sym (c .before .before .before .before .before .before .before .before .before .before .before .judge .ensures)
+    ∙ c .before .before .before .before .before .before .before .before .before .start .given .1) in
+    pair-stop _ s base (a .count) (o .j)
+    (c .before .before .before .before .before .before .before .before .before .before .before .before .before .before .before .pre .2) (omega arith)
+    (g .0) (pair-hit s base (l .i) (o .j) (o .j) (c .before .before .loop-test .taken) (sym (c .before .same-pair .ensures) ∙ c .if3 .taken)) ∙ o .inv .5
 
 pub entries-spec : {M : Type 1} → statement M
 entries-spec =

@@ -14,7 +14,8 @@ use Rattle.index.proofs.entries.find_place.Lts as lts
 use Rattle.blorb.proofs.be32_at.Reads as be32-at-reads
 
 abbrev Inv-loop : tie.InvT-loop
-Inv-loop s count code number i₀ i = (i ≤ count) × (i + pairPlace code number (entriesIn (count - i) (drop (place i) s)) ≡ pairPlace code number (entriesIn count (drop 24 s)))
+Inv-loop s count code number i₀ i = (i ≤ count) × (i + pairPlace code number (entriesIn (count - i) (drop (place i) s)) ≡ pairPlace code number
+    (entriesIn count (drop 24 s)))
 
 abbrev μ-loop : tie.MeasureT-loop
 μ-loop s count code number i₀ i = count - i
@@ -41,7 +42,8 @@ be32-at-requires-2 : tie.Need-be32-at-requires-2 Inv-loop μ-loop
 be32-at-requires-2 c κs = search needs
 
 returns : tie.Need-returns Inv-loop μ-loop
-returns c = place-hit _ _ _ _ _ _ _ (c .before .before .before .loop-test .taken) (c .before .before .be32-at .ensures .0) (c .before .be32-at2 .ensures .0) (c .if1 .taken) ∙ c .before .before .before .before .loop .inv .1
+returns c = place-hit _ _ _ _ _ _ _ (c .before .before .before .loop-test .taken) (c .before .before .be32-at .ensures .0) (c .before .be32-at2 .ensures .0)
+    (c .if1 .taken) ∙ c .before .before .before .before .loop .inv .1
 
 add-i : tie.Need-add-i Inv-loop μ-loop
 add-i c = search needs
@@ -50,7 +52,11 @@ loop-less : tie.Need-loop-less Inv-loop μ-loop
 loop-less c = search needs
 
 loop-again : tie.Need-loop-again Inv-loop μ-loop
-loop-again c = (omega arith, place-next _ _ _ _ _ _ _ (c .before .before .before .loop-test .taken) (c .before .before .be32-at .ensures .0) (c .before .be32-at2 .ensures .0) (c .if1 .left) ∙ c .before .before .before .before .loop .inv .1)
+loop-again c = (
+  omega arith,
+  place-next _ _ _ _ _ _ _ (c .before .before .before .loop-test .taken) (c .before .before .be32-at .ensures .0)
+      (c .before .be32-at2 .ensures .0) (c .if1 .left) ∙ c .before .before .before .before .loop .inv .1,
+)
 
 returns-2 : tie.Need-returns-2 Inv-loop μ-loop
 returns-2 c =
@@ -58,7 +64,8 @@ returns-2 c =
     let l = c .before .loop in
     let z : a .count - l .i ≡ 0 = omega arith in
     let e : l .i ≡ a .count = omega arith in
-    sym e ∙ sym (ap (λ (k : ℕ). l .i + pairPlace (a .code) (a .number) (entriesIn k (drop (place (l .i)) (now (a .s))))) z ∙ place-end (now (a .s)) (a .code) (a .number) (l .i)) ∙ l .inv .1
+    sym e ∙ sym (ap (λ (k : ℕ). l .i + pairPlace (a .code) (a .number) (entriesIn k (drop (place (l .i)) (now (a .s))))) z ∙ place-end (now (a .s)) (a .code)
+    (a .number) (l .i)) ∙ l .inv .1
 
 pub find-place-spec : {M : Type 1} → statement M
 find-place-spec =

@@ -36,7 +36,8 @@ part-plain-allows-start : tie.Need-part-plain-allows-start
 part-plain-allows-start c = search needs
 
 part-plain-allows-end : tie.Need-part-plain-allows-end
-part-plain-allows-end c = let i = whole _ _ (c .before .before .before .pre .0) (c .before .before .before .pre .1) in omega (arith, i .inside, i .next, c .before .be32-at .ensures .0)
+part-plain-allows-end c = let i = whole _ _ (c .before .before .before .pre .0) (c .before .before .before .pre .1) in
+    omega (arith, i .inside, i .next, c .before .be32-at .ensures .0)
 
 plain-allows-requires : tie.Need-plain-allows-requires
 plain-allows-requires c κs = search needs
@@ -45,7 +46,8 @@ returns : tie.Need-returns
 returns c =
     let a = c .before .before .before .before .before .args in
     c .plain-allows .ensures ∙ ap (plainAllows _)
-    (chunk-at (now (a .s)) _ _ _ _ refl (ap (λ (n : ℕ). a .at + 8 + n) (c .before .before .before .be32-at .ensures .0)) (c .before .before .be32-at2 .ensures .0))
+    (chunk-at (now (a .s)) _ _ _ _ refl (ap (λ (n : ℕ). a .at + 8 + n) (c .before .before .before .be32-at .ensures .0))
+    (c .before .before .be32-at2 .ensures .0))
 
 pub plainly-typed-spec : {M : Type 1} → statement M
 plainly-typed-spec =

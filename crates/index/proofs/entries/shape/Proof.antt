@@ -24,13 +24,27 @@ add-if2 : tie.Need-add-if2
 add-if2 c = search needs
 
 returns-2 : tie.Need-returns-2
-returns-2 c = shape-other _ (c .before .before .before .before .before .pre .0) (c .before .before .before .before .before .pre .1) (omega (arith, c .before .before .before .be32-at .ensures .0)) (λ e. c .if2 .taken (omega (arith, c .before .before .before .be32-at .ensures .0, c .before .be32-at2 .ensures .0)))
+returns-2 c = shape-other _ (c .before .before .before .before .before .pre .0) (c .before .before .before .before .before .pre .1)
+    (omega (arith, c .before .before .before .be32-at .ensures .0))
+    (λ e. c .if2 .taken (omega (arith, c .before .before .before .be32-at .ensures .0, c .before .be32-at2 .ensures .0)))
 
 returns-3 : tie.Need-returns-3
-returns-3 c = shape-many _ (c .before .before .before .before .before .before .pre .0) (c .before .before .before .before .before .before .pre .1) (omega (arith, c .before .before .before .before .be32-at .ensures .0)) (omega (arith, c .before .before .before .before .be32-at .ensures .0, c .before .before .be32-at2 .ensures .0, c .before .if2 .left)) (omega (arith, c .before .before .be32-at2 .ensures .0))
+returns-3 c = shape-many _ (c .before .before .before .before .before .before .pre .0) (c .before .before .before .before .before .before .pre .1)
+    (omega (arith, c .before .before .before .before .be32-at .ensures .0)) (omega (
+      arith,
+      c .before .before .before .before .be32-at .ensures .0,
+      c .before .before .be32-at2 .ensures .0,
+      c .before .if2 .left,
+    )) (omega (arith, c .before .before .be32-at2 .ensures .0))
 
 returns-4 : tie.Need-returns-4
-returns-4 c = shape-good _ (c .before .before .before .before .before .before .pre .0) (c .before .before .before .before .before .before .pre .1) (omega (arith, c .before .before .before .before .be32-at .ensures .0)) (omega (arith, c .before .before .before .before .be32-at .ensures .0, c .before .before .be32-at2 .ensures .0, c .before .if2 .left)) (omega (arith, c .before .before .be32-at2 .ensures .0))
+returns-4 c = shape-good _ (c .before .before .before .before .before .before .pre .0) (c .before .before .before .before .before .before .pre .1)
+    (omega (arith, c .before .before .before .before .be32-at .ensures .0)) (omega (
+      arith,
+      c .before .before .before .before .be32-at .ensures .0,
+      c .before .before .be32-at2 .ensures .0,
+      c .before .if2 .left,
+    )) (omega (arith, c .before .before .be32-at2 .ensures .0))
 
 pub shape-spec : {M : Type 1} → statement M
 shape-spec =

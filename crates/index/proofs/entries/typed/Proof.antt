@@ -21,7 +21,8 @@ be32-at-requires c κs = omega (arith, whole _ _ (c .before .before .before .pre
 returns-2 : tie.Need-returns-2
 returns-2 c =
     let a = c .before .before .before .before .before .args in
-    typed-else (a .profile) (now (a .s)) _ (a .at) _ (c .before .be32-at .ensures .0) _ (c .also-allows .ensures) _ (c .before .before .before .plainly-typed .ensures) (c .before .before .if1 .left)
+    typed-else (a .profile) (now (a .s)) _ (a .at) _ (c .before .be32-at .ensures .0) _ (c .also-allows .ensures) _
+    (c .before .before .before .plainly-typed .ensures) (c .before .before .if1 .left)
 
 pub typed-spec : {M : Type 1} → statement M
 typed-spec = tie.close (tie.spec (λ c κs. search needs) returns be32-at-requires (λ c κs. search needs) returns-2)

@@ -34,16 +34,23 @@ returns : tie.Need-returns
 returns c = front-none _ _ _ _ (c .before .before .before .be32-at .ensures .0) (sym (c .before .before .find .ensures) ∙ c .enum-told .given .1)
 
 be32-at-requires-2 : tie.Need-be32-at-requires-2
-be32-at-requires-2 c κs = let b = hit-begun _ _ _ _ _ (c .before .before .before .before .before .before .pre .0) (sym (c .before .before .before .find .ensures) ∙ c .before .start .given .1) in omega (arith, fine _ _ (b .0) (b .1) .header)
+be32-at-requires-2 c κs = let b = hit-begun _ _ _ _ _ (c .before .before .before .before .before .before .pre .0)
+    (sym (c .before .before .before .find .ensures) ∙ c .before .start .given .1) in omega (arith, fine _ _ (b .0) (b .1) .header)
 
 add-t10 : tie.Need-add-t10
 add-t10 c = search needs
 
 returns-2 : tie.Need-returns-2
-returns-2 c = front-rect _ _ _ _ (c .before .before .before .before .before .before .be32-at .ensures .0) _ _ (sym (c .before .before .before .before .before .find .ensures) ∙ c .before .before .before .start .given .1) (c .before .be32-at2 .ensures .0) (c .if1 .taken)
+returns-2 c = front-rect _ _ _ _ (c .before .before .before .before .before .before .be32-at .ensures .0) _ _
+    (sym (c .before .before .before .before .before .find .ensures) ∙ c .before .before .before .start .given .1) (c .before .be32-at2 .ensures .0)
+    (c .if1 .taken)
 
 returns-3 : tie.Need-returns-3
-returns-3 c = front-there (now (c .before .before .before .before .before .before .before .before .args .s)) (c .before .before .before .before .before .before .before .before .args .count) (c .before .before .before .before .before .before .before .before .args .at) (c .before .before .before .before .before .before .be32-at .result) (c .before .before .before .before .before .before .be32-at .ensures .0) _ _ (sym (c .before .before .before .before .before .find .ensures) ∙ c .before .before .before .start .given .1) (c .before .be32-at2 .ensures .0) (c .if1 .left)
+returns-3 c = front-there (now (c .before .before .before .before .before .before .before .before .args .s))
+    (c .before .before .before .before .before .before .before .before .args .count)
+    (c .before .before .before .before .before .before .before .before .args .at) (c .before .before .before .before .before .before .be32-at .result)
+    (c .before .before .before .before .before .before .be32-at .ensures .0) _ _ (sym (c .before .before .before .before .before .find .ensures)
+    ∙ c .before .before .before .start .given .1) (c .before .be32-at2 .ensures .0) (c .if1 .left)
 
 pub frontispiece-spec : {M : Type 1} → statement M
 frontispiece-spec =

@@ -40,7 +40,9 @@ enum-known-number : tie.Need-enum-known-number Inv-loop μ-loop
 enum-known-number c = search needs
 
 returns : tie.Need-returns Inv-loop μ-loop
-returns c = rules-stop _ _ _ _ _ (c .before .before .before .before .loop-test .taken) (c .before .before .before .before .before .loop .inv .0) _ _ (sym (c .before .before .before .optional-chunk .ensures) ∙ ap verdictOf (c .before .number .given .1)) ∙ c .before .before .before .before .before .loop .inv .1
+returns c = rules-stop _ _ _ _ _ (c .before .before .before .before .loop-test .taken) (c .before .before .before .before .before .loop .inv .0) _ _
+    (sym (c .before .before .before .optional-chunk .ensures) ∙ ap verdictOf (c .before .number .given .1))
+    ∙ c .before .before .before .before .before .loop .inv .1
 
 enum-told : tie.Need-enum-told Inv-loop μ-loop
 enum-told c = search needs
@@ -55,7 +57,8 @@ or-is-requires-2 : tie.Need-or-is-requires-2 Inv-loop μ-loop
 or-is-requires-2 c κs = search needs
 
 skip-requires : tie.Need-skip-requires Inv-loop μ-loop
-skip-requires c κs = fine _ _ (c .before .before .before .before .before .before .loop-test .taken) (c .before .before .before .before .before .before .before .loop .inv .0) .header
+skip-requires c κs = fine _ _ (c .before .before .before .before .before .before .loop-test .taken)
+    (c .before .before .before .before .before .before .before .loop .inv .0) .header
 
 loop-less : tie.Need-loop-less Inv-loop μ-loop
 loop-less c = omega (arith, c .skip .ensures)
@@ -63,8 +66,13 @@ loop-less c = omega (arith, c .skip .ensures)
 loop-again : tie.Need-loop-again Inv-loop μ-loop
 loop-again c =
     rw (c .skip .ensures, c .before .or-is2 .ensures, c .before .before .or-is .ensures) (
-      walked _ _ (c .before .before .before .before .before .before .before .loop-test .taken) (c .before .before .before .before .before .before .before .before .loop .inv .0),
-      rules-next _ _ _ _ _ (c .before .before .before .before .before .before .before .loop-test .taken) (c .before .before .before .before .before .before .before .before .loop .inv .0) _ (c .before .before .before .be32-at .ensures .0) (sym (c .before .before .before .before .before .before .optional-chunk .ensures) ∙ ap verdictOf (c .before .before .before .before .enum-told .given .1)) ∙ c .before .before .before .before .before .before .before .before .loop .inv .1,
+      walked _ _ (c .before .before .before .before .before .before .before .loop-test .taken)
+          (c .before .before .before .before .before .before .before .before .loop .inv .0),
+      rules-next _ _ _ _ _ (c .before .before .before .before .before .before .before .loop-test .taken)
+          (c .before .before .before .before .before .before .before .before .loop .inv .0) _ (c .before .before .before .be32-at .ensures .0)
+          (sym (c .before .before .before .before .before .before .optional-chunk .ensures)
+          ∙ ap verdictOf (c .before .before .before .before .enum-told .given .1))
+          ∙ c .before .before .before .before .before .before .before .before .loop .inv .1,
     )
 
 returns-2 : tie.Need-returns-2 Inv-loop μ-loop

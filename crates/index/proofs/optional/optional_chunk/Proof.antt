@@ -19,10 +19,12 @@ single-requires : tie.Need-single-requires
 single-requires c κs = search needs
 
 returns : tie.Need-returns
-returns c = c .single .ensures ∙ rule-reln _ _ (c .before .before .before .before .pre .1) (c .before .before .before .before .pre .2) _ _ _ _ (c .before .before .be32-at .ensures .0) (c .before .if1 .taken)
+returns c = c .single .ensures ∙ rule-reln _ _ (c .before .before .before .before .pre .1) (c .before .before .before .before .pre .2) _ _ _ _
+    (c .before .before .be32-at .ensures .0) (c .before .if1 .taken)
 
 returns-2 : tie.Need-returns-2
-returns-2 c = rule-none _ _ (c .before .before .before .before .pre .1) (c .before .before .before .before .pre .2) _ _ _ _ (c .before .before .be32-at .ensures .0) (c .before .if1 .left) (c .if2 .taken)
+returns-2 c = rule-none _ _ (c .before .before .before .before .pre .1) (c .before .before .before .before .pre .2) _ _ _ _
+    (c .before .before .be32-at .ensures .0) (c .before .if1 .left) (c .if2 .taken)
 
 single-requires-2 : tie.Need-single-requires-2
 single-requires-2 c κs = search needs
@@ -31,16 +33,26 @@ enum-known-number : tie.Need-enum-known-number
 enum-known-number c = search needs
 
 returns-3 : tie.Need-returns-3
-returns-3 c = fspc-stop _ _ (c .before .before .before .before .before .before .before .before .pre .1) (c .before .before .before .before .before .before .before .before .pre .2) _ _ _ _ (c .before .before .before .before .before .before .be32-at .ensures .0) (c .before .before .before .before .before .if1 .left) (c .before .before .before .before .if2 .left) _ _ (sym (c .before .before .before .single2 .ensures) ∙ ap verdictOf (c .before .number .given .1))
+returns-3 c = fspc-stop _ _ (c .before .before .before .before .before .before .before .before .pre .1)
+    (c .before .before .before .before .before .before .before .before .pre .2) _ _ _ _
+    (c .before .before .before .before .before .before .be32-at .ensures .0) (c .before .before .before .before .before .if1 .left)
+    (c .before .before .before .before .if2 .left) _ _ (sym (c .before .before .before .single2 .ensures) ∙ ap verdictOf (c .before .number .given .1))
 
 enum-told : tie.Need-enum-told
 enum-told c = search needs
 
 frontispiece-requires : tie.Need-frontispiece-requires
-frontispiece-requires c κs = let i = fine _ _ (c .before .before .before .before .before .before .before .pre .1) (c .before .before .before .before .before .before .before .pre .2) in let l = single-length _ _ (c .before .before .before .before .before .before .before .pre .1) (c .before .before .before .before .before .before .before .pre .2) (c .before .before .before .before .before .before .before .args .fspc) 4 (sym (c .before .before .single2 .ensures) ∙ ap verdictOf (c .enum-told .given .1)) in (c .before .before .before .before .before .before .before .pre .0, omega (arith, i .inside, i .next, l))
+frontispiece-requires c κs = let i = fine _ _ (c .before .before .before .before .before .before .before .pre .1)
+    (c .before .before .before .before .before .before .before .pre .2) in let l =
+    single-length _ _ (c .before .before .before .before .before .before .before .pre .1) (c .before .before .before .before .before .before .before .pre .2)
+    (c .before .before .before .before .before .before .before .args .fspc) 4 (sym (c .before .before .single2 .ensures)
+    ∙ ap verdictOf (c .enum-told .given .1)) in (c .before .before .before .before .before .before .before .pre .0, omega (arith, i .inside, i .next, l))
 
 returns-4 : tie.Need-returns-4
-returns-4 c = c .frontispiece .ensures ∙ fspc-on _ _ (c .before .before .before .before .before .before .before .before .pre .1) (c .before .before .before .before .before .before .before .before .pre .2) _ _ _ _ (c .before .before .before .before .before .before .be32-at .ensures .0) (c .before .before .before .before .before .if1 .left) (c .before .before .before .before .if2 .left) (sym (c .before .before .before .single2 .ensures) ∙ ap verdictOf (c .before .enum-told .given .1))
+returns-4 c = c .frontispiece .ensures ∙ fspc-on _ _ (c .before .before .before .before .before .before .before .before .pre .1)
+    (c .before .before .before .before .before .before .before .before .pre .2) _ _ _ _
+    (c .before .before .before .before .before .before .be32-at .ensures .0) (c .before .before .before .before .before .if1 .left)
+    (c .before .before .before .before .if2 .left) (sym (c .before .before .before .single2 .ensures) ∙ ap verdictOf (c .before .enum-told .given .1))
 
 pub optional-chunk-spec : {M : Type 1} → statement M
 optional-chunk-spec =

@@ -21,10 +21,12 @@ add-t8 : tie.Need-add-t8
 add-t8 c = search needs
 
 returns-2 : tie.Need-returns-2
-returns-2 c = single-18 _ _ (c .before .before .before .before .pre .0) (c .before .before .before .before .pre .1) _ _ _ (c .before .be32-at .ensures .0) (c .before .before .if1 .left) (c .if2 .taken)
+returns-2 c = single-18 _ _ (c .before .before .before .before .pre .0) (c .before .before .before .before .pre .1) _ _ _ (c .before .be32-at .ensures .0)
+    (c .before .before .if1 .left) (c .if2 .taken)
 
 returns-3 : tie.Need-returns-3
-returns-3 c = single-good _ _ (c .before .before .before .before .pre .0) (c .before .before .before .before .pre .1) _ _ _ (c .before .be32-at .ensures .0) (c .before .before .if1 .left) (c .if2 .left)
+returns-3 c = single-good _ _ (c .before .before .before .before .pre .0) (c .before .before .before .before .pre .1) _ _ _ (c .before .be32-at .ensures .0)
+    (c .before .before .if1 .left) (c .if2 .left)
 
 pub single-spec : {M : Type 1} → statement M
 single-spec = tie.close (tie.spec returns add-be32-at be32-at-requires add-t8 returns-2 returns-3)

@@ -12,156 +12,175 @@ use borrow.Author.Needs.{needs}
 use Rattle.judging.proofs.judge.add_fault.Statement.{statement}
 use Rattle.judging.proofs.judge.add_fault.Tie as tie
 
--- src/judge.rt:45:32
 add-if1 : tie.Need-add-if1
 add-if1 c = search needs
 
--- src/judge.rt:45:26
 add-if1-2 : tie.Need-add-if1-2
 add-if1-2 c = search needs
 
--- src/judge.rt:45:19
 add-if1-3 : tie.Need-add-if1-3
 add-if1-3 c = search needs
 
--- src/judge.rt:46:9
 refused-requires : tie.Need-refused-requires
 refused-requires c κs = search needs
 
--- src/judge.rt:46:9
 returns : tie.Need-returns
 returns c =
     let a = c .before .before .before .before .args in
     let f = now (a .s) in
     let bytes : All Byte f = bytes-all f (λ i. omega (arith, c .before .before .before .shared-slice-known .given i)) in
-    ap verdictOf (c .refused .ensures) ∙ out-101 (a .profile) f (a .count) (a .target) (a .usage) (a .number) (a .kind) (now (a .d)) bytes (c .before .before .before .before .pre) (omega arith) (omega arith) (omega arith) (c .before .if1 .taken)
+    ap verdictOf (c .refused .ensures) ∙ out-101 (a .profile) f (a .count) (a .target) (a .usage) (a .number) (a .kind) (now (a .d)) bytes
+    (c .before .before .before .before .pre) (omega arith) (omega arith) (omega arith) (c .before .if1 .taken)
 
--- src/judge.rt:49:29
 add-refused : tie.Need-add-refused
 add-refused c = search needs
 
--- src/judge.rt:49:9
 refused-requires-2 : tie.Need-refused-requires-2
 refused-requires-2 c κs = search needs
 
--- src/judge.rt:49:9
 returns-2 : tie.Need-returns-2
 returns-2 c =
     let a = c .before .before .before .before .before .args in
     let f = now (a .s) in
     let bytes : All Byte f = bytes-all f (λ i. omega (arith, c .before .before .before .before .shared-slice-known .given i)) in
-    ap verdictOf (c .refused2 .ensures) ∙ out-109 (a .profile) f (a .count) (a .target) (a .usage) (a .number) (a .kind) (now (a .d)) bytes (c .before .before .before .before .before .pre) (omega arith) (omega arith) (omega arith) (c .before .before .if1 .left) (c .before .if2 .taken)
+    ap verdictOf (c .refused2 .ensures) ∙ out-109 (a .profile) f (a .count) (a .target) (a .usage) (a .number) (a .kind) (now (a .d)) bytes
+    (c .before .before .before .before .before .pre) (omega arith) (omega arith) (omega arith) (c .before .before .if1 .left) (c .before .if2 .taken)
 
--- src/judge.rt:51:15
 add-if3 : tie.Need-add-if3
 add-if3 c = search needs
 
--- src/judge.rt:52:9
 refused-requires-3 : tie.Need-refused-requires-3
 refused-requires-3 c κs = search needs
 
--- src/judge.rt:52:9
 returns-3 : tie.Need-returns-3
 returns-3 c =
     let a = c .before .before .before .before .before .before .args in
     let f = now (a .s) in
     let bytes : All Byte f = bytes-all f (λ i. omega (arith, c .before .before .before .before .before .shared-slice-known .given i)) in
-    ap verdictOf (c .refused3 .ensures) ∙ out-111 (a .profile) f (a .count) (a .target) (a .usage) (a .number) (a .kind) (now (a .d)) bytes (c .before .before .before .before .before .before .pre) (omega arith) (omega arith) (omega arith) (c .before .before .before .if1 .left) (c .before .before .if2 .left) (c .before .if3 .taken)
+    ap verdictOf (c .refused3 .ensures) ∙ out-111 (a .profile) f (a .count) (a .target) (a .usage) (a .number) (a .kind) (now (a .d)) bytes
+    (c .before .before .before .before .before .before .pre) (omega arith) (omega arith) (omega arith) (c .before .before .before .if1 .left)
+    (c .before .before .if2 .left) (c .before .if3 .taken)
 
--- src/judge.rt:54:19
 mul-at : tie.Need-mul-at
 mul-at c = search needs
 
--- src/judge.rt:54:14
 add-at : tie.Need-add-at
 add-at c = search needs
 
--- src/judge.rt:55:29
 of-code-requires : tie.Need-of-code-requires
 of-code-requires c κs = search needs
 
--- src/judge.rt:56:9
 enum-told : tie.Need-enum-told
 enum-told c = search needs
 
--- src/judge.rt:56:9
 refused-requires-4 : tie.Need-refused-requires-4
 refused-requires-4 c κs = search needs
 
--- src/judge.rt:56:9
 returns-4 : tie.Need-returns-4
 returns-4 c =
     let a = c .before .before .before .before .before .before .before .before .before .args in
     let f = now (a .s) in
     let bytes : All Byte f = bytes-all f (λ i. omega (arith, c .before .before .before .before .before .before .before .before .shared-slice-known .given i)) in
-    ap verdictOf (c .refused4 .ensures) ∙ out-112 (a .profile) f (a .count) (a .target) (a .usage) (a .number) (a .kind) (now (a .d)) bytes (c .before .before .before .before .before .before .before .before .before .pre) (omega arith) (omega arith) (omega arith) (c .before .before .before .before .before .before .if1 .left) (c .before .before .before .before .before .if2 .left) (c .before .before .before .before .if3 .left) (known-not _ (sym (c .before .before .before .of-code .ensures) ∙ c .before .enum-told .given .1))
+    ap verdictOf (c .refused4 .ensures) ∙ out-112 (a .profile) f (a .count) (a .target) (a .usage) (a .number) (a .kind) (now (a .d)) bytes
+    (c .before .before .before .before .before .before .before .before .before .pre) (omega arith) (omega arith) (omega arith)
+    (c .before .before .before .before .before .before .if1 .left) (c .before .before .before .before .before .if2 .left)
+    (c .before .before .before .before .if3 .left) (known-not _ (sym (c .before .before .before .of-code .ensures) ∙ c .before .enum-told .given .1))
 
 enum-told-2 : tie.Need-enum-told-2
 enum-told-2 c = search needs
 
--- src/judge.rt:58:9
 type-allowed-requires : tie.Need-type-allowed-requires
 type-allowed-requires c κs = search needs
 
--- src/judge.rt:59:9
 refused-requires-5 : tie.Need-refused-requires-5
 refused-requires-5 c κs = search needs
 
--- src/judge.rt:59:9
 returns-5 : tie.Need-returns-5
 returns-5 c =
     let a = c .before .before .before .before .before .before .before .before .before .before .before .args in
     let f = now (a .s) in
-    let bytes : All Byte f = bytes-all f (λ i. omega (arith, c .before .before .before .before .before .before .before .before .before .before .shared-slice-known .given i)) in
-    ap verdictOf (c .refused5 .ensures) ∙ out-114 (a .profile) f (a .count) (a .target) (a .usage) (a .number) (a .kind) (now (a .d)) bytes (c .before .before .before .before .before .before .before .before .before .before .before .pre) (omega arith) (omega arith) (omega arith) (c .before .before .before .before .before .before .before .before .if1 .left) (c .before .before .before .before .before .before .before .if2 .left) (c .before .before .before .before .before .before .if3 .left) (known-is _ _ (sym (c .before .before .before .before .before .of-code .ensures) ∙ c .before .before .before .enum-told2 .given .1) .0) (sym (c .before .before .type-allowed .ensures) ∙ not-true _ (c .before .if4 .taken))
+    let bytes : All Byte f = bytes-all f
+    (λ i. omega (arith, c .before .before .before .before .before .before .before .before .before .before .shared-slice-known .given i)) in
+    ap verdictOf (c .refused5 .ensures) ∙ out-114 (a .profile) f (a .count) (a .target) (a .usage) (a .number) (a .kind) (now (a .d)) bytes
+    (c .before .before .before .before .before .before .before .before .before .before .before .pre) (omega arith) (omega arith) (omega arith)
+    (c .before .before .before .before .before .before .before .before .if1 .left) (c .before .before .before .before .before .before .before .if2 .left)
+    (c .before .before .before .before .before .before .if3 .left) (known-is _ _ (sym (c .before .before .before .before .before .of-code .ensures)
+    ∙ c .before .before .before .enum-told2 .given .1) .0) (sym (c .before .before .type-allowed .ensures) ∙ not-true _ (c .before .if4 .taken))
 
--- src/judge.rt:61:9
 number-fits-requires : tie.Need-number-fits-requires
 number-fits-requires c κs = search needs
 
--- src/judge.rt:62:29
 add-refused-2 : tie.Need-add-refused-2
 add-refused-2 c = search needs
 
--- src/judge.rt:62:9
 refused-requires-6 : tie.Need-refused-requires-6
 refused-requires-6 c κs = search needs
 
--- src/judge.rt:62:9
 returns-6 : tie.Need-returns-6
 returns-6 c =
     let a = c .before .before .before .before .before .before .before .before .before .before .before .before .before .args in
     let f = now (a .s) in
-    let bytes : All Byte f = bytes-all f (λ i. omega (arith, c .before .before .before .before .before .before .before .before .before .before .before .before .shared-slice-known .given i)) in
-    ap verdictOf (c .refused6 .ensures) ∙ out-115 (a .profile) f (a .count) (a .target) (a .usage) (a .number) (a .kind) (now (a .d)) bytes (c .before .before .before .before .before .before .before .before .before .before .before .before .before .pre) (omega arith) (omega arith) (omega arith) (c .before .before .before .before .before .before .before .before .before .before .if1 .left) (c .before .before .before .before .before .before .before .before .before .if2 .left) (c .before .before .before .before .before .before .before .before .if3 .left) (known-is _ _ (sym (c .before .before .before .before .before .before .before .of-code .ensures) ∙ c .before .before .before .before .before .enum-told2 .given .1) .0) (sym (c .before .before .before .before .type-allowed .ensures) ∙ not-false _ (c .before .before .before .if4 .left)) (sym (c .before .before .number-fits .ensures) ∙ not-true _ (c .before .if5 .taken))
+    let bytes : All Byte f = bytes-all f
+    (λ i. omega (arith, c .before .before .before .before .before .before .before .before .before .before .before .before .shared-slice-known .given i))
+    in
+    ap verdictOf (c .refused6 .ensures) ∙ out-115 (a .profile) f (a .count) (a .target) (a .usage) (a .number) (a .kind) (now (a .d)) bytes
+    (c .before .before .before .before .before .before .before .before .before .before .before .before .before .pre) (omega arith) (omega arith)
+    (omega arith) (c .before .before .before .before .before .before .before .before .before .before .if1 .left)
+    (c .before .before .before .before .before .before .before .before .before .if2 .left)
+    (c .before .before .before .before .before .before .before .before .if3 .left)
+    (known-is _ _ (sym (c .before .before .before .before .before .before .before .of-code .ensures)
+    ∙ c .before .before .before .before .before .enum-told2 .given .1) .0) (sym (c .before .before .before .before .type-allowed .ensures)
+    ∙ not-false _ (c .before .before .before .if4 .left)) (sym (c .before .before .number-fits .ensures) ∙ not-true _ (c .before .if5 .taken))
 
--- src/judge.rt:65:26
 enum-told-3 : tie.Need-enum-told-3
 enum-told-3 c = search needs
 
--- src/judge.rt:65:26
 refused-requires-7 : tie.Need-refused-requires-7
 refused-requires-7 c κs = search needs
 
--- src/judge.rt:66:28
 enum-told-4 : tie.Need-enum-told-4
 enum-told-4 c = search needs
 
--- src/judge.rt:39:1
 returns-7 : tie.Need-returns-7
 returns-7 c =
     let a = c .before .before .before .before .before .before .before .before .before .before .before .before .before .before .before .args in
     let f = now (a .s) in
-    let bytes : All Byte f = bytes-all f (λ i. omega (arith, c .before .before .before .before .before .before .before .before .before .before .before .before .before .before .shared-slice-known .given i)) in
-    ap verdictOf (c .refused7 .ensures) ∙ out-116 (a .profile) f (a .count) (a .target) (a .usage) (a .number) (a .kind) (now (a .d)) bytes (c .before .before .before .before .before .before .before .before .before .before .before .before .before .before .before .pre) (omega arith) (omega arith) (omega arith) (c .before .before .before .before .before .before .before .before .before .before .before .before .if1 .left) (c .before .before .before .before .before .before .before .before .before .before .before .if2 .left) (c .before .before .before .before .before .before .before .before .before .before .if3 .left) (known-is _ _ (sym (c .before .before .before .before .before .before .before .before .before .of-code .ensures) ∙ c .before .before .before .before .before .before .before .enum-told2 .given .1) .0) (sym (c .before .before .before .before .before .before .type-allowed .ensures) ∙ not-false _ (c .before .before .before .before .before .if4 .left)) (sym (c .before .before .before .before .number-fits .ensures) ∙ not-false _ (c .before .before .before .if5 .left)) (c .before .enum-told3 .given .0 .0) (c .before .enum-told3 .given .1)
+    let bytes : All Byte f = bytes-all f
+    (λ i. omega (
+      arith,
+      c .before .before .before .before .before .before .before .before .before .before .before .before .before .before
+          .shared-slice-known .given i,
+    )) in
+    ap verdictOf (c .refused7 .ensures) ∙ out-116 (a .profile) f (a .count) (a .target) (a .usage) (a .number) (a .kind) (now (a .d)) bytes
+    (c .before .before .before .before .before .before .before .before .before .before .before .before .before .before .before .pre) (omega arith)
+    (omega arith) (omega arith) (c .before .before .before .before .before .before .before .before .before .before .before .before .if1 .left)
+    (c .before .before .before .before .before .before .before .before .before .before .before .if2 .left)
+    (c .before .before .before .before .before .before .before .before .before .before .if3 .left)
+    (known-is _ _ (sym (c .before .before .before .before .before .before .before .before .before .of-code .ensures)
+    ∙ c .before .before .before .before .before .before .before .enum-told2 .given .1) .0)
+    (sym (c .before .before .before .before .before .before .type-allowed .ensures) ∙ not-false _ (c .before .before .before .before .before .if4 .left))
+    (sym (c .before .before .before .before .number-fits .ensures) ∙ not-false _ (c .before .before .before .if5 .left))
+    (c .before .enum-told3 .given .0 .0) (c .before .enum-told3 .given .1)
 
--- src/judge.rt:39:1
 returns-8 : tie.Need-returns-8
 returns-8 c =
     let a = c .before .before .before .before .before .before .before .before .before .before .before .before .before .before .args in
     let f = now (a .s) in
-    let bytes : All Byte f = bytes-all f (λ i. omega (arith, c .before .before .before .before .before .before .before .before .before .before .before .before .before .shared-slice-known .given i)) in
-    out-done (a .profile) f (a .count) (a .target) (a .usage) (a .number) (a .kind) (now (a .d)) bytes (c .before .before .before .before .before .before .before .before .before .before .before .before .before .before .pre) (omega arith) (omega arith) (omega arith) (c .before .before .before .before .before .before .before .before .before .before .before .if1 .left) (c .before .before .before .before .before .before .before .before .before .before .if2 .left) (c .before .before .before .before .before .before .before .before .before .if3 .left) (known-is _ _ (sym (c .before .before .before .before .before .before .before .before .of-code .ensures) ∙ c .before .before .before .before .before .before .enum-told2 .given .1) .0) (sym (c .before .before .before .before .before .type-allowed .ensures) ∙ not-false _ (c .before .before .before .before .if4 .left)) (sym (c .before .before .before .number-fits .ensures) ∙ not-false _ (c .before .before .if5 .left)) (c .enum-told4 .given .1)
+    let bytes : All Byte f = bytes-all f
+    (λ i. omega (
+      arith,
+      c .before .before .before .before .before .before .before .before .before .before .before .before .before
+          .shared-slice-known .given i,
+    )) in
+    out-done (a .profile) f (a .count) (a .target) (a .usage) (a .number) (a .kind) (now (a .d)) bytes
+    (c .before .before .before .before .before .before .before .before .before .before .before .before .before .before .pre) (omega arith) (omega arith)
+    (omega arith) (c .before .before .before .before .before .before .before .before .before .before .before .if1 .left)
+    (c .before .before .before .before .before .before .before .before .before .before .if2 .left)
+    (c .before .before .before .before .before .before .before .before .before .if3 .left)
+    (known-is _ _ (sym (c .before .before .before .before .before .before .before .before .of-code .ensures)
+    ∙ c .before .before .before .before .before .before .enum-told2 .given .1) .0)
+    (sym (c .before .before .before .before .before .type-allowed .ensures) ∙ not-false _ (c .before .before .before .before .if4 .left))
+    (sym (c .before .before .before .number-fits .ensures) ∙ not-false _ (c .before .before .if5 .left)) (c .enum-told4 .given .1)
 
 pub add-fault-spec : {M : Type 1} → statement M
 add-fault-spec =

@@ -4,31 +4,24 @@ use borrow.Author.Needs.{needs}
 use Rattle.judging.proofs.judge.fallen_start.Statement.{statement}
 use Rattle.judging.proofs.judge.fallen_start.Tie as tie
 
--- src/lib.rt:232:17
 add-if2 : tie.Need-add-if2
 add-if2 c = search needs
 
--- src/lib.rt:233:13
 returns : tie.Need-returns
 returns c = rw (lt-ltb _ _ (c .before .if1 .taken)) (omega arith)
 
--- src/lib.rt:235:22
 add-result : tie.Need-add-result
 add-result c = search needs
 
--- src/lib.rt:235:16
 sub-result : tie.Need-sub-result
 sub-result c = search needs
 
--- src/lib.rt:235:9
 returns-2 : tie.Need-returns-2
 returns-2 c = rw (lt-ltb _ _ (c .before .if1 .taken))
 
--- src/lib.rt:238:9
 returns-3 : tie.Need-returns-3
 returns-3 c = rw (le-ltb _ _ (c .before .if1 .left)) (omega arith)
 
--- src/lib.rt:227:1
 returns-4 : tie.Need-returns-4
 returns-4 c = rw (le-ltb _ _ (c .before .if1 .left))
 

@@ -3,15 +3,12 @@ use borrow.Author.Needs.{needs}
 use Rattle.judging.proofs.judge.makes_rect.Statement.{statement}
 use Rattle.judging.proofs.judge.makes_rect.Tie as tie
 
--- src/lib.rt:401:8
 is-picture-requires : tie.Need-is-picture-requires
 is-picture-requires c κs = search needs
 
--- src/lib.rt:402:9
 returns : tie.Need-returns
 returns c = let e = sym (c .before .is-picture .ensures) ∙ c .if1 .taken in rw e
 
--- src/lib.rt:398:1
 returns-2 : tie.Need-returns-2
 returns-2 c = let e = sym (c .before .is-picture .ensures) ∙ c .if1 .left in rw e
 

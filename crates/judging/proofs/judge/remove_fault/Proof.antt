@@ -12,57 +12,53 @@ use borrow.Author.Needs.{needs}
 use Rattle.judging.proofs.judge.remove_fault.Statement.{statement}
 use Rattle.judging.proofs.judge.remove_fault.Tie as tie
 
--- src/judge.rt:104:27
 enum-told : tie.Need-enum-told
 enum-told c = search needs
 
--- src/judge.rt:105:28
 enum-known-front : tie.Need-enum-known-front
 enum-known-front c = search needs
 
--- src/judge.rt:106:16
 is-picture-requires : tie.Need-is-picture-requires
 is-picture-requires c κs = search needs
 
--- src/judge.rt:107:21
 fallen-start-requires : tie.Need-fallen-start-requires
 fallen-start-requires c κs = search needs
 
--- src/judge.rt:108:37
 cast-refused : tie.Need-cast-refused
 cast-refused c = search needs
 
--- src/judge.rt:108:37
 add-refused : tie.Need-add-refused
 add-refused c = search needs
 
--- src/judge.rt:108:17
 refused-requires : tie.Need-refused-requires
 refused-requires c κs = search needs
 
--- src/judge.rt:108:17
 returns : tie.Need-returns
 returns c =
     let a = c .before .before .before .before .before .before .before .before .args in
     let f = now (a .s) in
     let bytes : All Byte f = bytes-all f (λ i. omega (arith, c .before .before .before .before .before .before .before .shared-slice-known .given i)) in
-    ap verdictOf (c .refused .ensures) ∙ ap (λ (z : ℕ). refuse 119 (z + 8)) (c .before .fallen-start .ensures) ∙ lost-front (a .profile) f (a .front) (a .usage) (a .number) (a .start) (a .size) bytes (c .before .before .before .before .before .before .before .before .pre) (omega arith) (omega arith) (c .before .before .before .before .before .front .given .0 .0) (c .before .before .before .before .before .front .given .0 .1 .0) (c .before .before .before .before .before .front .given .1) (sym (c .before .before .before .is-picture .ensures) ∙ c .before .before .if1 .taken)
+    ap verdictOf (c .refused .ensures) ∙ ap (λ (z : ℕ). refuse 119 (z + 8)) (c .before .fallen-start .ensures) ∙ lost-front (a .profile) f (a .front)
+    (a .usage) (a .number) (a .start) (a .size) bytes (c .before .before .before .before .before .before .before .before .pre) (omega arith)
+    (omega arith) (c .before .before .before .before .before .front .given .0 .0) (c .before .before .before .before .before .front .given .0 .1 .0)
+    (c .before .before .before .before .before .front .given .1) (sym (c .before .before .before .is-picture .ensures) ∙ c .before .before .if1 .taken)
 
--- src/judge.rt:99:1
 returns-2 : tie.Need-returns-2
 returns-2 c =
     let a = c .before .before .before .args in
     let f = now (a .s) in
     let bytes : All Byte f = bytes-all f (λ i. omega (arith, c .before .before .shared-slice-known .given i)) in
-    no-front (a .profile) f (a .front) (a .usage) (a .number) (a .start) (a .size) bytes (c .before .before .before .pre) (omega arith) (omega arith) (c .enum-told .given .1)
+    no-front (a .profile) f (a .front) (a .usage) (a .number) (a .start) (a .size) bytes (c .before .before .before .pre) (omega arith) (omega arith)
+    (c .enum-told .given .1)
 
--- src/judge.rt:99:1
 returns-3 : tie.Need-returns-3
 returns-3 c =
     let a = c .before .before .before .before .before .before .args in
     let f = now (a .s) in
     let bytes : All Byte f = bytes-all f (λ i. omega (arith, c .before .before .before .before .before .shared-slice-known .given i)) in
-    kept-front (a .profile) f (a .front) (a .usage) (a .number) (a .start) (a .size) bytes (c .before .before .before .before .before .before .pre) (omega arith) (omega arith) (c .before .before .before .front .given .0 .0) (c .before .before .before .front .given .0 .1 .0) (c .before .before .before .front .given .1) (sym (c .before .is-picture .ensures) ∙ c .if1 .left)
+    kept-front (a .profile) f (a .front) (a .usage) (a .number) (a .start) (a .size) bytes (c .before .before .before .before .before .before .pre)
+    (omega arith) (omega arith) (c .before .before .before .front .given .0 .0) (c .before .before .before .front .given .0 .1 .0)
+    (c .before .before .before .front .given .1) (sym (c .before .is-picture .ensures) ∙ c .if1 .left)
 
 pub remove-fault-spec : {M : Type 1} → statement M
 remove-fault-spec =

@@ -13,137 +13,142 @@ use borrow.Author.Needs.{needs}
 use Rattle.judging.proofs.judge.replace_fault.Statement.{statement}
 use Rattle.judging.proofs.judge.replace_fault.Tie as tie
 
--- src/judge.rt:146:20
 add-old : tie.Need-add-old
 add-old c = search needs
 
--- src/judge.rt:146:15
 add-old-2 : tie.Need-add-old-2
 add-old-2 c = search needs
 
--- src/judge.rt:147:20
 add-new : tie.Need-add-new
 add-new c = search needs
 
--- src/judge.rt:147:15
 add-new-2 : tie.Need-add-new-2
 add-new-2 c = search needs
 
--- src/judge.rt:148:25
 cast-if1 : tie.Need-cast-if1
 cast-if1 c = search needs
 
--- src/judge.rt:148:19
 sub-if1 : tie.Need-sub-if1
 sub-if1 c = search needs
 
--- src/judge.rt:148:19
 add-if1 : tie.Need-add-if1
 add-if1 c = search needs
 
--- src/judge.rt:149:9
 refused-requires : tie.Need-refused-requires
 refused-requires c κs = search needs
 
--- src/judge.rt:149:9
 returns : tie.Need-returns
 returns c =
     let a = c .before .before .before .before .before .before .args in
     let f = now (a .s) in
     let bytes : All Byte f = bytes-all f (λ i. omega (arith, c .before .before .before .before .before .shared-slice-known .given i)) in
-    ap verdictOf (c .refused .ensures) ∙ out-101 (a .profile) f (a .front) (a .piece) (a .usage) (a .number) (a .kind) (now (a .d)) bytes (c .before .before .before .before .before .before .pre) (omega arith) (omega arith) (omega arith) (c .before .if1 .taken)
+    ap verdictOf (c .refused .ensures) ∙ out-101 (a .profile) f (a .front) (a .piece) (a .usage) (a .number) (a .kind) (now (a .d)) bytes
+    (c .before .before .before .before .before .before .pre) (omega arith) (omega arith) (omega arith) (c .before .if1 .taken)
 
--- src/judge.rt:152:29
 cast-refused : tie.Need-cast-refused
 cast-refused c = search needs
 
--- src/judge.rt:152:9
 refused-requires-2 : tie.Need-refused-requires-2
 refused-requires-2 c κs = search needs
 
--- src/judge.rt:152:9
 returns-2 : tie.Need-returns-2
 returns-2 c =
     let a = c .before .before .before .before .before .before .before .before .args in
     let f = now (a .s) in
     let bytes : All Byte f = bytes-all f (λ i. omega (arith, c .before .before .before .before .before .before .before .shared-slice-known .given i)) in
-    ap verdictOf (c .refused2 .ensures) ∙ out-109 (a .profile) f (a .front) (a .piece) (a .usage) (a .number) (a .kind) (now (a .d)) bytes (c .before .before .before .before .before .before .before .before .pre) (omega arith) (omega arith) (omega arith) (c .before .before .before .if1 .left) (c .before .before .if2 .taken)
+    ap verdictOf (c .refused2 .ensures) ∙ out-109 (a .profile) f (a .front) (a .piece) (a .usage) (a .number) (a .kind) (now (a .d)) bytes
+    (c .before .before .before .before .before .before .before .before .pre) (omega arith) (omega arith) (omega arith)
+    (c .before .before .before .if1 .left) (c .before .before .if2 .taken)
 
--- src/judge.rt:154:9
 type-allowed-requires : tie.Need-type-allowed-requires
 type-allowed-requires c κs = search needs
 
--- src/judge.rt:155:34
 mul-refused : tie.Need-mul-refused
 mul-refused c = search needs
 
--- src/judge.rt:155:29
 add-refused : tie.Need-add-refused
 add-refused c = search needs
 
--- src/judge.rt:155:9
 refused-requires-3 : tie.Need-refused-requires-3
 refused-requires-3 c κs = search needs
 
--- src/judge.rt:155:9
 returns-3 : tie.Need-returns-3
 returns-3 c =
     let a = c .before .before .before .before .before .before .before .before .before .before .args in
     let f = now (a .s) in
-    let bytes : All Byte f = bytes-all f (λ i. omega (arith, c .before .before .before .before .before .before .before .before .before .shared-slice-known .given i)) in
-    ap verdictOf (c .refused3 .ensures) ∙ out-114 (a .profile) f (a .front) (a .piece) (a .usage) (a .number) (a .kind) (now (a .d)) bytes (c .before .before .before .before .before .before .before .before .before .before .pre) (omega arith) (omega arith) (omega arith) (c .before .before .before .before .before .if1 .left) (c .before .before .before .before .if2 .left) (sym (c .before .before .before .type-allowed .ensures) ∙ not-true _ (c .before .before .if3 .taken))
+    let bytes : All Byte f = bytes-all f
+    (λ i. omega (arith, c .before .before .before .before .before .before .before .before .before .shared-slice-known .given i)) in
+    ap verdictOf (c .refused3 .ensures) ∙ out-114 (a .profile) f (a .front) (a .piece) (a .usage) (a .number) (a .kind) (now (a .d)) bytes
+    (c .before .before .before .before .before .before .before .before .before .before .pre) (omega arith) (omega arith) (omega arith)
+    (c .before .before .before .before .before .if1 .left) (c .before .before .before .before .if2 .left)
+    (sym (c .before .before .before .type-allowed .ensures) ∙ not-true _ (c .before .before .if3 .taken))
 
--- src/judge.rt:158:27
 enum-told : tie.Need-enum-told
 enum-told c = search needs
 
--- src/judge.rt:159:28
 enum-known-front : tie.Need-enum-known-front
 enum-known-front c = search needs
 
--- src/judge.rt:160:16
 makes-rect-requires : tie.Need-makes-rect-requires
 makes-rect-requires c κs = search needs
 
--- src/judge.rt:161:60
 cast-behind-start : tie.Need-cast-behind-start
 cast-behind-start c = search needs
 
--- src/judge.rt:161:21
 behind-start-requires : tie.Need-behind-start-requires
 behind-start-requires c κs = search needs
 
--- src/judge.rt:162:37
 add-refused-2 : tie.Need-add-refused-2
 add-refused-2 c = search needs
 
--- src/judge.rt:162:17
 refused-requires-4 : tie.Need-refused-requires-4
 refused-requires-4 c κs = search needs
 
--- src/judge.rt:162:17
 returns-4 : tie.Need-returns-4
 returns-4 c =
     let a = c .before .before .before .before .before .before .before .before .before .before .before .before .before .before .before .args in
     let f = now (a .s) in
-    let bytes : All Byte f = bytes-all f (λ i. omega (arith, c .before .before .before .before .before .before .before .before .before .before .before .before .before .before .shared-slice-known .given i)) in
-    ap verdictOf (c .refused4 .ensures) ∙ ap (λ (z : ℕ). refuse 119 (z + 8)) (c .before .behind-start .ensures .0) ∙ out-119 (a .profile) f (a .front) (a .piece) (a .usage) (a .number) (a .kind) (now (a .d)) bytes (c .before .before .before .before .before .before .before .before .before .before .before .before .before .before .before .pre) (omega arith) (omega arith) (omega arith) (c .before .before .before .before .before .before .before .before .before .before .if1 .left) (c .before .before .before .before .before .before .before .before .before .if2 .left) (sym (c .before .before .before .before .before .before .before .before .type-allowed .ensures) ∙ not-false _ (c .before .before .before .before .before .before .before .if3 .left)) (c .before .before .before .before .before .front .given .0 .0) (c .before .before .before .before .before .front .given .0 .1 .0) (c .before .before .before .before .before .front .given .1) (sym (c .before .before .before .makes-rect .ensures) ∙ c .before .before .if4 .taken)
+    let bytes : All Byte f = bytes-all f
+    (λ i. omega (
+      arith,
+      c .before .before .before .before .before .before .before .before .before .before .before .before .before .before
+          .shared-slice-known .given i,
+    )) in
+    ap verdictOf (c .refused4 .ensures) ∙ ap (λ (z : ℕ). refuse 119 (z + 8)) (c .before .behind-start .ensures .0) ∙ out-119 (a .profile) f (a .front)
+    (a .piece) (a .usage) (a .number) (a .kind) (now (a .d)) bytes
+    (c .before .before .before .before .before .before .before .before .before .before .before .before .before .before .before .pre) (omega arith)
+    (omega arith) (omega arith) (c .before .before .before .before .before .before .before .before .before .before .if1 .left)
+    (c .before .before .before .before .before .before .before .before .before .if2 .left)
+    (sym (c .before .before .before .before .before .before .before .before .type-allowed .ensures)
+    ∙ not-false _ (c .before .before .before .before .before .before .before .if3 .left)) (c .before .before .before .before .before .front .given .0 .0)
+    (c .before .before .before .before .before .front .given .0 .1 .0) (c .before .before .before .before .before .front .given .1)
+    (sym (c .before .before .before .makes-rect .ensures) ∙ c .before .before .if4 .taken)
 
--- src/judge.rt:140:1
 returns-5 : tie.Need-returns-5
 returns-5 c =
     let a = c .before .before .before .before .before .before .before .before .before .before .args in
     let f = now (a .s) in
-    let bytes : All Byte f = bytes-all f (λ i. omega (arith, c .before .before .before .before .before .before .before .before .before .shared-slice-known .given i)) in
-    out-nothing (a .profile) f (a .front) (a .piece) (a .usage) (a .number) (a .kind) (now (a .d)) bytes (c .before .before .before .before .before .before .before .before .before .before .pre) (omega arith) (omega arith) (omega arith) (c .before .before .before .before .before .if1 .left) (c .before .before .before .before .if2 .left) (sym (c .before .before .before .type-allowed .ensures) ∙ not-false _ (c .before .before .if3 .left)) (c .enum-told .given .1)
+    let bytes : All Byte f = bytes-all f
+    (λ i. omega (arith, c .before .before .before .before .before .before .before .before .before .shared-slice-known .given i)) in
+    out-nothing (a .profile) f (a .front) (a .piece) (a .usage) (a .number) (a .kind) (now (a .d)) bytes
+    (c .before .before .before .before .before .before .before .before .before .before .pre) (omega arith) (omega arith) (omega arith)
+    (c .before .before .before .before .before .if1 .left) (c .before .before .before .before .if2 .left)
+    (sym (c .before .before .before .type-allowed .ensures) ∙ not-false _ (c .before .before .if3 .left)) (c .enum-told .given .1)
 
--- src/judge.rt:140:1
 returns-6 : tie.Need-returns-6
 returns-6 c =
     let a = c .before .before .before .before .before .before .before .before .before .before .before .before .before .args in
     let f = now (a .s) in
-    let bytes : All Byte f = bytes-all f (λ i. omega (arith, c .before .before .before .before .before .before .before .before .before .before .before .before .shared-slice-known .given i)) in
-    out-kept (a .profile) f (a .front) (a .piece) (a .usage) (a .number) (a .kind) (now (a .d)) bytes (c .before .before .before .before .before .before .before .before .before .before .before .before .before .pre) (omega arith) (omega arith) (omega arith) (c .before .before .before .before .before .before .before .before .if1 .left) (c .before .before .before .before .before .before .before .if2 .left) (sym (c .before .before .before .before .before .before .type-allowed .ensures) ∙ not-false _ (c .before .before .before .before .before .if3 .left)) (c .before .before .before .front .given .0 .0) (c .before .before .before .front .given .0 .1 .0) (c .before .before .before .front .given .1) (sym (c .before .makes-rect .ensures) ∙ c .if4 .left)
+    let bytes : All Byte f = bytes-all f
+    (λ i. omega (arith, c .before .before .before .before .before .before .before .before .before .before .before .before .shared-slice-known .given i))
+    in
+    out-kept (a .profile) f (a .front) (a .piece) (a .usage) (a .number) (a .kind) (now (a .d)) bytes
+    (c .before .before .before .before .before .before .before .before .before .before .before .before .before .pre) (omega arith) (omega arith)
+    (omega arith) (c .before .before .before .before .before .before .before .before .if1 .left)
+    (c .before .before .before .before .before .before .before .if2 .left)
+    (sym (c .before .before .before .before .before .before .type-allowed .ensures) ∙ not-false _ (c .before .before .before .before .before .if3 .left))
+    (c .before .before .before .front .given .0 .0) (c .before .before .before .front .given .0 .1 .0) (c .before .before .before .front .given .1)
+    (sym (c .before .makes-rect .ensures) ∙ c .if4 .left)
 
 pub replace-fault-spec : {M : Type 1} → statement M
 replace-fault-spec =

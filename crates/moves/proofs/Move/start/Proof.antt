@@ -8,27 +8,21 @@ use Rattle.moves.proofs.Move.start.Reads as reads
 use Rattle.moves.proofs.Move.start.Lts as lts
 use Rattle.moves.proofs.less.Reads as less-reads
 
--- src/lib.rt:82:13
 cast-if1 : tie.Need-cast-if1
 cast-if1 c = search needs
 
--- src/lib.rt:83:29
 cast-less : tie.Need-cast-less
 cast-less c = search needs
 
--- src/lib.rt:83:25
 add-less : tie.Need-add-less
 add-less c = search needs
 
--- src/lib.rt:83:47
 cast-less-2 : tie.Need-cast-less-2
 cast-less-2 c = search needs
 
--- src/lib.rt:83:13
 less-requires : tie.Need-less-requires
 less-requires c κs = search needs
 
--- src/lib.rt:83:13
 returns : tie.Need-returns
 unfolding relocated
 returns c =
@@ -36,23 +30,18 @@ returns c =
     let far : a .self .limit < a .t = c .before .before .before .if1 .taken in
     rw (lt-ltb (a .self .limit) (a .t) far) (c .less .ensures)
 
--- src/lib.rt:85:18
 cast-less-3 : tie.Need-cast-less-3
 cast-less-3 c = search needs
 
--- src/lib.rt:85:14
 add-less-2 : tie.Need-add-less-2
 add-less-2 c = search needs
 
--- src/lib.rt:85:36
 cast-less-4 : tie.Need-cast-less-4
 cast-less-4 c = search needs
 
--- src/lib.rt:85:9
 less-requires-2 : tie.Need-less-requires-2
 less-requires-2 c κs = search needs
 
--- src/lib.rt:78:5
 returns-2 : tie.Need-returns-2
 unfolding relocated
 returns-2 c =

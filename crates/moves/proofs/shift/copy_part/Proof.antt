@@ -9,43 +9,38 @@ use Rattle.moves.proofs.shift.copy_part.Reads as reads
 use Rattle.moves.proofs.shift.copy_part.Lts as lts
 use Rattle.moves.proofs.shift.put_bytes.Reads as put-bytes-reads
 
--- src/shift.rt:37:15
 slice-aggregate-put-bytes : tie.Need-slice-aggregate-put-bytes
 slice-aggregate-put-bytes c = search needs
 
--- src/shift.rt:37:5
 put-bytes-requires : tie.Need-put-bytes-requires
 put-bytes-requires c κs = search needs
 
--- src/shift.rt:38:24
 array-share-prefix-t : tie.Need-array-share-prefix-t
 array-share-prefix-t c = search needs
 
 -- what is lent of the array has the data's length
 whole : (c : lts.After-t3 (put-bytes-reads.Asked, put-bytes-reads.Learnt) reads.Pre reads.Post)
-    → length (take (length (now (c .before .before .before .before .before .before .before .args .d))) (c .before .before .before .put-bytes .last .0)) ≡ length (now (c .before .before .before .before .before .before .before .args .d))
+    → length (take (length (now (c .before .before .before .before .before .before .before .args .d))) (c .before .before .before .put-bytes .last .0)) ≡
+    length (now (c .before .before .before .before .before .before .before .args .d))
 whole c =
     let d = now (c .before .before .before .before .before .before .before .args .d) in
     ap length (laws.held (replicate 2048 0) d (c .before .before .before .put-bytes .last .0) (length d) (c .before .before .before .put-bytes .ensures) refl)
 
--- src/shift.rt:38:24
 slice-aggregate-put-bytes-2 : tie.Need-slice-aggregate-put-bytes-2
 slice-aggregate-put-bytes-2 c = sym (whole c)
 
--- src/shift.rt:38:5
 put-bytes-requires-2 : tie.Need-put-bytes-requires-2
 put-bytes-requires-2 c κs = rw (whole c) (search needs)
 
--- src/shift.rt:31:1
 same-length : tie.Need-same-length
 same-length c = search needs
 
--- src/shift.rt:31:1
 returns : tie.Need-returns
 returns c =
     let a = c .before .before .before .before .before .before .before .before .before .before .args in
     let d = now (a .d) in
-    laws.by-array (now (a .buf)) (replicate 2048 0) d (c .before .before .before .before .before .before .put-bytes .last .0) (c .before .before .put-bytes2 .last .0) (a .at) (length d)
+    laws.by-array (now (a .buf)) (replicate 2048 0) d (c .before .before .before .before .before .before .put-bytes .last .0)
+    (c .before .before .put-bytes2 .last .0) (a .at) (length d)
     (c .before .before .put-bytes2 .ensures) (c .before .before .before .before .before .before .put-bytes .ensures) refl
 
 pub copy-part-spec : {M : Type 1} → statement M

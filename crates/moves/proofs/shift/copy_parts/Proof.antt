@@ -19,67 +19,59 @@ Inv-loop buf₀ at d i₀ buf i = (i ≤ length d) × (length buf ≡ length buf
 abbrev μ-loop : tie.MeasureT-loop
 μ-loop buf₀ at d i₀ buf i = length d - i
 
--- src/shift.rt:83:5
 loop-holds : tie.Need-loop-holds Inv-loop μ-loop
 loop-holds c =
     let a = c .before .before .args in
     (omega arith, refl, paste-zero (now (a .buf)) (a .at) (now (a .d)))
 
--- src/shift.rt:84:25
 sub-part-of : tie.Need-sub-part-of Inv-loop μ-loop
 sub-part-of c = search needs
 
--- src/shift.rt:84:13
 part-of-requires : tie.Need-part-of-requires Inv-loop μ-loop
 part-of-requires c κs = search needs
 
--- src/shift.rt:85:24
 add-copy-part : tie.Need-add-copy-part Inv-loop μ-loop
 add-copy-part c = search needs
 
--- src/shift.rt:85:38
 add-copy-part-2 : tie.Need-add-copy-part-2 Inv-loop μ-loop
 add-copy-part-2 c = search needs
 
--- src/shift.rt:85:32
 sub-copy-part : tie.Need-sub-copy-part Inv-loop μ-loop
 sub-copy-part c = search needs
 
--- src/shift.rt:85:32
 part-copy-part-start : tie.Need-part-copy-part-start Inv-loop μ-loop
 part-copy-part-start c = search needs
 
--- src/shift.rt:85:32
 part-copy-part-end : tie.Need-part-copy-part-end Inv-loop μ-loop
 part-copy-part-end c = search needs
 
--- src/shift.rt:85:9
 copy-part-requires : tie.Need-copy-part-requires Inv-loop μ-loop
 copy-part-requires c κs = search needs
 
--- src/shift.rt:86:9
 add-i : tie.Need-add-i Inv-loop μ-loop
 add-i c = search needs
 
--- src/shift.rt:83:5
 loop-less : tie.Need-loop-less Inv-loop μ-loop
 loop-less c =
-    let more : 0 < c .before .before .before .before .before .part-of .result = c .before .before .before .before .before .part-of .ensures .1 .1 (omega arith) in
+    let more : 0 < c .before .before .before .before .before .part-of .result = c .before .before .before .before .before .part-of .ensures .1 .1
+    (omega arith) in
     omega arith
 
--- src/shift.rt:83:5
 loop-again : tie.Need-loop-again Inv-loop μ-loop
 loop-again c =
     let l = c .before .before .before .before .before .before .before .loop in
     let a = c .before .before .before .before .before .before .before .before .before .before .args in
-    let n = c .before .before .before .before .before .part-of .result in
-    (omega arith, search needs, laws.copy-part (now (a .buf)) (now (a .d)) (l .buf) (c .before .before .copy-part .last .0) (a .at) (l .i) (l .i + n - l .i) n (c .before .before .copy-part .ensures) (l .inv .2) (omega arith) (c .before .before .before .before .before .before .before .before .before .before .pre) (omega arith))
+    let n = c .before .before .before .before .before .part-of .result in (
+      omega arith,
+      search needs,
+      laws.copy-part (now (a .buf)) (now (a .d)) (l .buf) (c .before .before .copy-part .last .0) (a .at) (l .i) (l .i + n - l .i)
+          n (c .before .before .copy-part .ensures) (l .inv .2) (omega arith)
+          (c .before .before .before .before .before .before .before .before .before .before .pre) (omega arith),
+    )
 
--- src/shift.rt:78:1
 same-length : tie.Need-same-length Inv-loop μ-loop
 same-length c = search needs
 
--- src/shift.rt:78:1
 returns : tie.Need-returns Inv-loop μ-loop
 returns c =
     let l = c .before .loop in

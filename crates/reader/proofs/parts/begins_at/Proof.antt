@@ -6,15 +6,12 @@ use Rattle.reader.proofs.parts.begins_at.Reads as reads
 use Rattle.reader.proofs.parts.begins_at.Lts as lts
 use Rattle.chunks.proofs.begins.Reads as begins-reads
 
--- src/parts.rt:99:9
 returns : tie.Need-returns
 returns c = before-base _ _ _ (c .if1 .taken)
 
--- src/parts.rt:101:5
 begins-requires : tie.Need-begins-requires
 begins-requires c κs = search needs
 
--- src/parts.rt:94:1
 returns-2 : tie.Need-returns-2
 returns-2 c = search needs
 

@@ -8,27 +8,21 @@ use Rattle.reader.proofs.parts.begins_at.Reads as begins-at-reads
 use Rattle.reader.proofs.parts.front_if.Reads as front-if-reads
 use Rattle.reader.proofs.parts.target.Reads as target-reads
 
--- src/parts.rt:111:17
 target-requires : tie.Need-target-requires
 target-requires c κs = search needs
 
--- src/parts.rt:112:16
 front-if-requires : tie.Need-front-if-requires
 front-if-requires c κs = search needs
 
--- src/parts.rt:113:35
 mul-begins-at : tie.Need-mul-begins-at
 mul-begins-at c = search needs
 
--- src/parts.rt:113:30
 add-begins-at : tie.Need-add-begins-at
 add-begins-at c = search needs
 
--- src/parts.rt:113:17
 begins-at-requires : tie.Need-begins-at-requires
 begins-at-requires c κs = search needs
 
--- src/parts.rt:105:1
 returns : tie.Need-returns
 returns c = facts-are _ _ _ _ _ _ _ _ (c .before .before .target .ensures) (c .before .front-if .ensures) (c .begins-at .ensures)
 

@@ -21,50 +21,50 @@ Inv-loop s from at₀ at = (walkFrom s at ≡ accept) × Fronts (chunksFrom s at
 abbrev μ-loop : tie.MeasureT-loop
 μ-loop s from at₀ at = length s - at
 
--- src/parts.rt:70:5
 loop-holds : tie.Need-loop-holds Inv-loop μ-loop
 loop-holds c = (c .before .pre .1, c .before .pre .2, refl)
 
--- src/parts.rt:71:12
 be32-at-requires : tie.Need-be32-at-requires Inv-loop μ-loop
 be32-at-requires c κs = omega (arith, fine _ _ (c .loop-test .taken) (c .before .loop .inv .0) .header)
 
--- src/parts.rt:73:24
 cast-t7 : tie.Need-cast-t7 Inv-loop μ-loop
 cast-t7 c = search needs
 
--- src/parts.rt:74:43
 add-be32-at : tie.Need-add-be32-at Inv-loop μ-loop
-add-be32-at c = omega (arith, front-room _ _ (c .before .before .loop-test .taken) (c .before .before .before .loop .inv .0) (c .before .before .before .loop .inv .1) _ (c .before .be32-at .ensures .0) (c .if1 .taken))
+add-be32-at c = omega (
+  arith,
+  front-room _ _ (c .before .before .loop-test .taken) (c .before .before .before .loop .inv .0)
+      (c .before .before .before .loop .inv .1) _ (c .before .be32-at .ensures .0) (c .if1 .taken),
+)
 
--- src/parts.rt:74:25
 be32-at-requires-2 : tie.Need-be32-at-requires-2 Inv-loop μ-loop
-be32-at-requires-2 c κs = omega (arith, front-room _ _ (c .before .before .loop-test .taken) (c .before .before .before .loop .inv .0) (c .before .before .before .loop .inv .1) _ (c .before .be32-at .ensures .0) (c .if1 .taken))
+be32-at-requires-2 c κs = omega (
+  arith,
+  front-room _ _ (c .before .before .loop-test .taken) (c .before .before .before .loop .inv .0)
+      (c .before .before .before .loop .inv .1) _ (c .before .be32-at .ensures .0) (c .if1 .taken),
+)
 
--- src/parts.rt:74:25
 cast-t10 : tie.Need-cast-t10 Inv-loop μ-loop
 cast-t10 c = search needs
 
--- src/parts.rt:72:13
 returns : tie.Need-returns Inv-loop μ-loop
-returns c = front-hit _ _ (c .before .before .before .loop-test .taken) (c .before .before .before .before .loop .inv .0) (c .before .before .before .before .loop .inv .1) _ (c .before .before .be32-at .ensures .0) (c .before .if1 .taken) _ (c .be32-at2 .ensures .0) ∙ c .before .before .before .before .loop .inv .2
+returns c = front-hit _ _ (c .before .before .before .loop-test .taken) (c .before .before .before .before .loop .inv .0)
+    (c .before .before .before .before .loop .inv .1) _ (c .before .before .be32-at .ensures .0) (c .before .if1 .taken) _ (c .be32-at2 .ensures .0)
+    ∙ c .before .before .before .before .loop .inv .2
 
--- src/parts.rt:77:9
 skip-requires : tie.Need-skip-requires Inv-loop μ-loop
 skip-requires c κs = fine _ _ (c .before .before .loop-test .taken) (c .before .before .before .loop .inv .0) .header
 
--- src/parts.rt:70:5
 loop-less : tie.Need-loop-less Inv-loop μ-loop
 loop-less c = omega (arith, c .skip .ensures)
 
--- src/parts.rt:70:5
 loop-again : tie.Need-loop-again Inv-loop μ-loop
 loop-again c =
     let l = c .before .before .before .before .loop in
-    let n = front-next _ _ (c .before .before .before .loop-test .taken) (l .inv .0) (l .inv .1) _ (c .before .before .be32-at .ensures .0) (c .before .if1 .left) in
+    let n = front-next _ _ (c .before .before .before .loop-test .taken) (l .inv .0) (l .inv .1) _ (c .before .before .be32-at .ensures .0)
+    (c .before .if1 .left) in
     rw (c .skip .ensures) (walked _ _ (c .before .before .before .loop-test .taken) (l .inv .0), n .0, n .1 ∙ l .inv .2)
 
--- src/parts.rt:65:1
 returns-2 : tie.Need-returns-2 Inv-loop μ-loop
 returns-2 c = front-end _ _ (c .loop-test .left) ∙ c .before .loop .inv .2
 

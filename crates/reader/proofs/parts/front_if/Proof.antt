@@ -7,23 +7,18 @@ use Rattle.reader.proofs.parts.front_if.Reads as reads
 use Rattle.reader.proofs.parts.front_if.Lts as lts
 use Rattle.reader.proofs.parts.front_from.Reads as front-from-reads
 
--- src/parts.rt:88:9
 returns : tie.Need-returns
 returns c = front-ordinary _ _ (c .before .before .pre .1 (c .if1 .taken))
 
--- src/parts.rt:90:24
 mul-front-from : tie.Need-mul-front-from
 mul-front-from c = search needs
 
--- src/parts.rt:90:19
 add-front-from : tie.Need-add-front-from
 add-front-from c = search needs
 
--- src/parts.rt:90:5
 front-from-requires : tie.Need-front-from-requires
 front-from-requires c κs = (c .before .before .pre .0 .short, c .before .before .pre .0 .judged .walks, passed-fronts _ _ (c .before .before .pre .0))
 
--- src/parts.rt:83:1
 returns-2 : tie.Need-returns-2
 returns-2 c = c .front-from .ensures ∙ front-is _ _
 

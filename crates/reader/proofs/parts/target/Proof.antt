@@ -8,19 +8,16 @@ use Rattle.reader.proofs.parts.target.Lts as lts
 use Rattle.index.proofs.entries.find_place.Reads as find-place-reads
 use Rattle.reader.proofs.parts.piece.Reads as piece-reads
 
--- src/parts.rt:57:9
 find-place-requires : tie.Need-find-place-requires
 find-place-requires c κs = search needs
 
--- src/parts.rt:59:27
 piece-requires : tie.Need-piece-requires
 piece-requires c κs = search needs
 
--- src/parts.rt:59:9
 returns : tie.Need-returns
-returns c = target-there (now (c .before .before .before .before .args .s)) _ _ _ _ (c .before .before .find-place .ensures) (c .before .if1 .taken) _ (c .piece .ensures)
+returns c = target-there (now (c .before .before .before .before .args .s)) _ _ _ _ (c .before .before .find-place .ensures) (c .before .if1 .taken) _
+    (c .piece .ensures)
 
--- src/parts.rt:53:1
 returns-2 : tie.Need-returns-2
 returns-2 c = target-none (now (c .before .before .before .args .s)) _ _ _ _ (c .before .find-place .ensures) (c .if1 .left)
 

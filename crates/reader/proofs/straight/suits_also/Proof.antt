@@ -24,9 +24,14 @@ returns-2 c = suits-not _ _ _
 returns-3 : tie.Need-returns-3
 returns-3 c = λ e.
     suits-good _ _ _ _ _ _ _ (c .before .before .before .before .before .before .before .before .before .be32-at .ensures .0) (sym
-    (c .before .before .before .before .before .before .before .before .of-code .ensures) ∙ c .before .before .before .before .before .before .usage .given .1) (sym
+    (c .before .before .before .before .before .before .before .before .of-code .ensures)
+    ∙ c .before .before .before .before .before .before .usage .given .1) (sym
     (c .before .before .before .before .before .before .before .before .before .before .before .pre .3))
-    (typed-also (c .before .before .before .before .before .before .before .before .before .before .before .args .profile) (now (c .before .before .before .before .before .before .before .before .before .before .before .args .s)) _ (c .before .before .before .before .before .before .before .before .before .before .before .args .start) _ (c .before .before .before .before .be32-at2 .ensures .0) _ (c .before .before .before .also-allows .ensures) (not-false (c .before .before .before .also-allows .result) (c .before .before .if1 .left)))
+    (typed-also (c .before .before .before .before .before .before .before .before .before .before .before .args .profile)
+    (now (c .before .before .before .before .before .before .before .before .before .before .before .args .s)) _
+    (c .before .before .before .before .before .before .before .before .before .before .before .args .start) _
+    (c .before .before .before .before .be32-at2 .ensures .0) _ (c .before .before .before .also-allows .ensures)
+    (not-false (c .before .before .before .also-allows .result) (c .before .before .if1 .left)))
     (c .before .be32-at3 .ensures .0) (sym (c .numbered .ensures) ∙ e)
 
 be32-at-requires-2 : tie.Need-be32-at-requires-2

@@ -26,7 +26,9 @@ returns-3 c = λ profile e.
     suits-good profile _ _ _ _ _ _ (c .before .before .before .before .before .before .before .before .be32-at .ensures .0) (sym
     (c .before .before .before .before .before .before .before .of-code .ensures) ∙ c .before .before .before .before .before .usage .given .1) (sym
     (c .before .before .before .before .before .before .before .before .before .before .pre .3))
-    (typed-plain profile (now (c .before .before .before .before .before .before .before .before .before .before .args .s)) _ (c .before .before .before .before .before .before .before .before .before .before .args .start) _ (c .before .before .before .plainly-typed .ensures) (not-false (c .before .before .before .plainly-typed .result) (c .before .before .if1 .left)))
+    (typed-plain profile (now (c .before .before .before .before .before .before .before .before .before .before .args .s)) _
+    (c .before .before .before .before .before .before .before .before .before .before .args .start) _
+    (c .before .before .before .plainly-typed .ensures) (not-false (c .before .before .before .plainly-typed .result) (c .before .before .if1 .left)))
     (c .before .be32-at2 .ensures .0) (sym (c .numbered .ensures) ∙ e)
 
 pub suits-plainly-spec : {M : Type 1} → statement M

@@ -68,7 +68,8 @@ cast-t22 c = search needs
 returns : tie.Need-returns
 unfolding recordAt
 returns c = λ i. record {
-  kind = getD (now (c .before .before .before .before .before .before .before .before .args .jrn)) (c .before .before .before .before .before .before .before .before .args .at) 0;
+  kind = getD (now (c .before .before .before .before .before .before .before .before .args .jrn))
+      (c .before .before .before .before .before .before .before .before .args .at) 0;
   usage = c .before .before .before .before .before .be32-at .ensures .0 i;
   number = c .before .before .before .before .be32-at2 .ensures .0 i;
   place = c .before .before .before .be32-at3 .ensures .0 i;
