@@ -7,25 +7,26 @@ use mathlib.Core.Bool.{Bool, true, false, _&&_, _||_, not, and-true, and-assoc}
 use native.Mathlib.Omega.{arith}
 use lib.ListN.{length, drop}
 use lib.Dec.{eqb}
-use borrow.Author.Tests.{eq-eqb, ne-eqb, eqb-true, eqb-false}
-use Rattle.blorb.specs.Tags.{RIdx}
+use borrow.Author.Tests.{eq-eqb, ne-eqb, eqb-true, eqb-false, not-true}
+use Rattle.blorb.specs.Tags.{RIdx, Rect, FORM}
 use Rattle.blorb.specs.Bytes.{rd32}
-use Rattle.blorb.specs.Format.{chunkIn, isStart}
+use Rattle.blorb.specs.Format.{chunkOf, chunkIn, isStart}
+use Rattle.blorb.specs.Rules.{plainAllows, allows}
 use Rattle.blorb.specs.Usages.{codeOf, usageOf}
 use Rattle.blorb.specs.Verdict.{accept, headFault, chunkFault, secondIndex, pairIn}
 use Rattle.blorb.specs.declared.Usage.{Usage}
 use Rattle.blorb.specs.declared.Usage.the-variants.{Exec}
 use Rattle.blorb.specs.declared.Known.the-variants.{Is}
-use Rattle.blorb.proofs.Checks.{pass, and-both}
+use Rattle.blorb.proofs.Checks.{pass, holds-last, then-accept, check-accept, and-both}
 use Rattle.reader.specs.declared.Judgement.the-variants as judgement
 use Rattle.reader.specs.declared.straight.Step.the-variants.{To}
 use Rattle.reader.specs.declared.straight.Straight.{Straight}
 use Rattle.reader.specs.declared.straight.Straight.the-variants.{Good, Unsure}
-use Rattle.chunks.specs.Walk.{chunksFrom, walkFrom, skipAt, Reached}
+use Rattle.chunks.specs.Walk.{chunkFrom, chunksFrom, walkFrom, skipAt, Reached}
 use Rattle.chunks.specs.Ordinary.{ordinaryType, allOrdinary}
 use Rattle.index.specs.Entries.{usageAt, numberAt, startAt, place, typedAt, entryFault, earlier, entriesFrom}
 use Rattle.reader.specs.Passed.{JudgesEntries}
-use Rattle.reader.specs.Straight.{CameTo, ChunkAt, Stands, Stepped, Suits, SoFar, Alongside, Straightly}
+use Rattle.reader.specs.Straight.{CameTo, ChunkAt, Stands, Stepped, Suits, Allowed, Remembered, SoFar, Alongside, Straightly}
 use Rattle.chunks.proofs.ChunkLaws.{whole, walk-end, walk-next, chunk-even, chunks-end, ordinary-end, second-end, along-next, first-good, chunks-on}
 use Rattle.index.proofs.EntryLaws.{by-good, judged-at, entries-next, entries-end, before-next, before-none}
 use Rattle.index.proofs.IndexLaws.{shape-good}
@@ -114,6 +115,39 @@ suits-good profile f p u x n k eu e ex t en h base b = judged-at _ _ _ (sym (by-
 
 pub suits-not : (profile : ℕ) (f : List ℕ) (p : ℕ) → Suits profile false f p
 suits-not profile f p e = let z : _≡_ {A = ℕ} 0 1 = cc in absurd (omega arith)
+
+-- a type other than 'Rect' and 'FORM' is allowed whatever the data
+same-typed : (profile u t : ℕ) (b d : List ℕ) → eqb t Rect ≡ false → eqb t FORM ≡ false → allows profile u (chunkOf t b) ≡ allows profile u (chunkOf t d)
+unfolding allows plainAllows
+same-typed profile u t b d r s = rw (r, s) refl
+
+-- an entry of usage u, on a chunk of type t: like the remembered one, or to be remembered itself
+module _ (profile : ℕ) (f : List ℕ) (p x u t : ℕ) (eu : u ≡ usageAt f p) (et : t ≡ rd32 (drop x f)) (ex : startAt f p ≡ x) where
+  typed-is : typedAt profile f (usageAt f p) (startAt f p) ≡ allows profile u (chunkOf t (chunkFrom f x .body))
+  unfolding chunkIn
+  typed-is = rw (ex, ← eu, ← et) refl
+
+  pub suits-again : (usage kind : ℕ) → u < 4294967296 → eqb u usage && eqb t kind ≡ true → Remembered profile usage kind → Suits profile true f p
+  unfolding entryFault
+  suits-again usage kind l e m =
+      let q = and-both _ _ e in
+      let a : Allowed profile u t = rw (← eqb-true u usage (q .0), ← eqb-true t kind (q .1)) at m l in
+      λ z base b. pass _ _ _ _ (rw (← eu) (a .known)) ∙ pass _ _ _ _ b ∙ pass _ _ _ _ (typed-is ∙ a .typed _) ∙ holds-last _ _ _ (rw (← eu, a .numbered))
+
+  pub suits-lasting : x < length f → chunkFault x (drop x f) ≡ accept → not (eqb t Rect) && (not (eqb t FORM) && not (eqb u (codeOf Exec))) ≡ true
+      → Suits profile true f p → Remembered profile u t
+  unfolding entryFault isStart
+  suits-lasting h good e s =
+      let q = and-both _ _ e in
+      let r = and-both _ _ (q .1) in
+      let b : isStart (startAt f p) x (chunksFrom f x) ≡ true = rw (ex, whole f x h good .chunks, eq-eqb x x refl) in
+      let a = then-accept _ _ (s refl x b) in
+      let y = check-accept _ _ _ (then-accept _ _ (then-accept _ _ (a .1) .1) .0) in
+      λ l. record {
+        known = rw eu (check-accept _ _ _ (a .0));
+        typed = λ body. same-typed profile u t body _ (not-true _ (q .0)) (not-true _ (r .0)) ∙ sym typed-is ∙ y;
+        numbered = r .1;
+      }
 
 -- before the first entry
 pub sofar-none : (profile : ℕ) (f : List ℕ) (base count found : ℕ) → (found < 4294967296 → ⊥) → SoFar profile f base count 0 found base

@@ -2,15 +2,21 @@
 use Prim.Native.Nat.{ℕ, _+_, _-_, _≤_, _<_}
 use mathlib.Core.Path.{_≡_}
 use mathlib.Core.List.{List}
-use mathlib.Core.Bool.{Bool, true, _&&_}
+use mathlib.Core.Bool.{Bool, true, _&&_, not}
 use lib.ListN.{length, drop}
-use Rattle.blorb.specs.Format.{isStart}
-use Rattle.blorb.specs.Verdict.{accept, chunkFault, secondIndex}
+use lib.Dec.{eqb}
+use Rattle.blorb.specs.Format.{isStart, chunkOf}
+use Rattle.blorb.specs.Usages.{codeOf}
+use Rattle.blorb.specs.Rules.{allows}
+use Rattle.blorb.specs.Verdict.{accept, chunkFault, secondIndex, knownUsage}
+use Rattle.blorb.specs.declared.Usage.the-variants.{Exec}
 use Rattle.chunks.specs.Walk.{chunksFrom, walkFrom, Reached}
 use Rattle.chunks.specs.Ordinary.{allOrdinary, Along}
 use Rattle.index.specs.Entries.{startAt, place, entryFault, entriesFrom, Before}
 use Rattle.reader.specs.Passed.{JudgesEntries}
 use Rattle.reader.specs.declared.Judgement.the-variants as judgement
+use Rattle.reader.specs.declared.straight.Fit.{Fit}
+use Rattle.reader.specs.declared.straight.Fit.the-variants.{Suited, Unfit}
 use Rattle.reader.specs.declared.straight.Step.{Step}
 use Rattle.reader.specs.declared.straight.Step.the-variants.{To, Away}
 use Rattle.reader.specs.declared.straight.Straight.{Straight}
@@ -43,6 +49,20 @@ Stepped Away f base found at start q = Unit {0}
 -- 12, 14 and 15 are ruled out, so that only 13 is left to judge
 abbrev pub Suits : (profile : ℕ) → Bool → List ℕ → ℕ → Type 0
 Suits profile r f p = r ≡ true → (base : ℕ) → isStart (startAt f p) base (chunksFrom f base) ≡ true → entryFault profile f base p ≡ accept
+
+-- 12, 14 and 15 are ruled out for this usage on every chunk of this type, whatever its data and the entry's number
+pub record Allowed (profile usage kind : ℕ) : Type 0 where
+  pub known : knownUsage usage ≡ true
+  pub typed : (body : List ℕ) → allows profile usage (chunkOf kind body) ≡ true
+  pub numbered : not (eqb usage (codeOf Exec)) ≡ true
+
+-- what the pass remembers; nothing yet where the usage is no number of 32 bits
+abbrev pub Remembered : (profile usage kind : ℕ) → Type 0
+Remembered profile usage kind = usage < 4294967296 → Allowed profile usage kind
+
+abbrev pub Fitted : (profile : ℕ) → Fit → List ℕ → ℕ → Type 0
+Fitted profile (Suited usage kind) f p = Suits profile true f p × Remembered profile usage kind
+Fitted profile Unfit f p = Unit {0}
 
 -- of an accepted walk: what the first j of count entries leave to judge
 pub record SoFar (profile : ℕ) (f : List ℕ) (base count j found at : ℕ) : Type 0 where

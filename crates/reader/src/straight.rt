@@ -5,11 +5,15 @@ use chunks::Check;
 use index::entries;
 ghost use mathlib.Core.Path.{_≡_};
 ghost use Prim.Native.Nat.{ℕ, _+_, _≤_, _<_};
-ghost use mathlib.Core.Bool.{Bool, true, false};
+ghost use mathlib.Core.Bool.{Bool, true, false, _&&_, not};
 ghost use lib.ListN.{length, drop};
+ghost use lib.Dec.{eqb};
+ghost use Rattle.blorb.specs.Tags.{Rect, FORM};
+ghost use Rattle.blorb.specs.Usages.{codeOf};
+ghost use Rattle.blorb.specs.declared.Usage.the-variants.{Exec};
 ghost use Rattle.blorb.specs.Verdict.{accept, chunkFault, pairIn};
 ghost use Rattle.index.specs.Entries.{usageAt, numberAt, startAt, place, earlier, Topped};
-ghost use Rattle.reader.specs.Straight.{CameTo, Suits, Stands, Stepped, Alongside, Straightly};
+ghost use Rattle.reader.specs.Straight.{CameTo, Suits, Remembered, Fitted, Stands, Stepped, Alongside, Straightly};
 
 // How far a walk came; `ordinary` is true only where it met ordinary chunks alone.
 pub struct Came {
@@ -17,10 +21,16 @@ pub struct Came {
     pub ordinary: bool,
 }
 
-// The way to an entry's chunk: where the chunk behind it begins.
+// The way to an entry's chunk: where the chunk behind it begins, and whether only ordinary chunks were met.
 pub enum Step {
-    To { behind: usize, ordinary: bool },
+    To(usize, bool),
     Away,
+}
+
+// An entry that suits its chunk, with the usage and type to remember behind it.
+pub enum Fit {
+    Suited(u64, u64),
+    Unfit,
 }
 
 // `Unsure`: the file has to be judged in turn.
@@ -60,10 +70,7 @@ fn step_to(s: &[u8], found: usize, at: usize, start: usize) -> Step
     ensures { λ r. ⌜ ((base : ℕ) (q : Bool) → Stands (now (s .entry)) base found at q → Stepped r (now (s .entry)) base found at start q) ⌝ }
 {
     if start == found {
-        return Step::To {
-            behind: at,
-            ordinary: true,
-        };
+        return Step::To(at, true);
     }
     let came = pass_over(s, at, start);
     if came.at != start {
@@ -82,10 +89,10 @@ fn step_to(s: &[u8], found: usize, at: usize, start: usize) -> Step
     if kind == blorb::RIDX {
         return Step::Away;
     }
-    Step::To {
-        behind: chunks::skip(s, start),
-        ordinary: came.ordinary & chunks::is_ordinary(kind),
-    }
+    Step::To(
+        chunks::skip(s, start),
+        came.ordinary & chunks::is_ordinary(kind),
+    )
 }
 
 // Whether the entry at `p`, whose chunk begins at `start`, gives no cause for 12, 14 and 15, its type being a plain one.
@@ -127,6 +134,34 @@ fn suits(s: &[u8], profile: u32, p: usize, start: usize) -> bool
         return true;
     }
     suits_also(s, profile, p, start)
+}
+
+// Whether each entry of this usage suits each chunk of this type once one has: rule 5 looks at the data of a 'Rect' and a 'FORM' too, rule 6 at an
+// Exec's number.
+fn lasts(usage: u64, kind: u64) -> bool
+    ensures { λ r. ⌜ r ≡ (not (eqb kind Rect) && (not (eqb kind FORM) && not (eqb usage (codeOf Exec)))) ⌝ }
+{
+    (kind != blorb::RECT) & ((kind != blorb::FORM) & (usage != Usage::EXEC))
+}
+
+// The same as `suits`, where an entry of the remembered usage, on a chunk of the remembered type, is not asked again.
+fn suits_like(s: &[u8], profile: u32, p: usize, start: usize, usage: u64, kind: u64) -> Fit
+    requires { ⌜ (p + 12 ≤ length (now s)) × (start < length (now s)) × (chunkFault start (drop start (now s)) ≡ accept) × (startAt (now s) p ≡ start)
+        × Remembered profile usage kind ⌝ }
+    ensures { λ r. ⌜ Fitted profile r (now (s .entry)) p ⌝ }
+{
+    let own_usage = blorb::be32_at(s, p);
+    let own_kind = blorb::be32_at(s, start);
+    if (own_usage == usage) & (own_kind == kind) {
+        return Fit::Suited(usage, kind);
+    }
+    if !suits(s, profile, p, start) {
+        return Fit::Unfit;
+    }
+    if lasts(own_usage, own_kind) {
+        return Fit::Suited(own_usage, own_kind);
+    }
+    Fit::Suited(usage, kind)
 }
 
 // Whether an entry before entry j has its usage and number.
@@ -176,20 +211,18 @@ fn side_by_side(s: &[u8], profile: u32, count: usize) -> Straight
     let mut found: usize = 4294967296;
     let mut at = 24 + 12 * count;
     let mut ordinary = true;
+    let mut usage: u64 = 4294967296;
+    let mut kind: u64 = 4294967296;
     let mut j: usize = 0;
     while j < count {
         let p = 24 + 12 * j;
         let start = blorb::be32_at(s, p + 8) as usize;
-        let Step::To {
-            behind,
-            ordinary: also,
-        } = step_to(s, found, at, start)
-        else {
+        let Step::To(behind, also) = step_to(s, found, at, start) else {
             return Straight::Unsure;
         };
-        if !suits(s, profile, p, start) {
+        let Fit::Suited(new_usage, new_kind) = suits_like(s, profile, p, start, usage, kind) else {
             return Straight::Unsure;
-        }
+        };
         let k = entries::slot(blorb::be32_at(s, p));
         let top = tops[k];
         if !is_fresh(s, j, top) {
@@ -199,6 +232,8 @@ fn side_by_side(s: &[u8], profile: u32, count: usize) -> Straight
         found = start;
         at = behind;
         ordinary = ordinary & also;
+        usage = new_usage;
+        kind = new_kind;
         j += 1;
     }
     let rest = pass_over(s, at, s.len());

@@ -1,4 +1,5 @@
--- Every entry on the chunk that the walk has come to leaves the index's faults to the entries behind it, and at the end none is left.
+-- Every entry on the chunk that the walk has come to leaves the index's faults to the entries behind it, and at the end none is left. What is
+-- remembered is allowed whatever comes, so an entry like it suits too.
 use borrow.Author.Needs.{needs}
 use native.Mathlib.Omega.{arith}
 use Prim.Native.Nat.{ℕ, _+_, _-_, _≤_, _<_}
@@ -10,7 +11,7 @@ use borrow.Author.Tests.{not-false}
 use Rattle.blorb.specs.Verdict.{accept}
 use Rattle.chunks.specs.Walk.{walkFrom}
 use Rattle.index.specs.Entries.{usageAt, numberAt, startAt, place, Below, slotOf}
-use Rattle.reader.specs.Straight.{Stands, SoFar}
+use Rattle.reader.specs.Straight.{Stands, Remembered, SoFar}
 use Rattle.index.proofs.EntryLaws.{topped, below-next}
 use Rattle.reader.proofs.StraightLaws.{came-none, came-then, came-end, sofar-none, sofar-next, sofar-end}
 use Rattle.reader.proofs.straight.side_by_side.Statement.{statement}
@@ -23,15 +24,15 @@ use Rattle.reader.proofs.straight.above.Reads as above-reads
 use Rattle.reader.proofs.straight.is_fresh.Reads as is-fresh-reads
 use Rattle.reader.proofs.straight.pass_over.Reads as pass-over-reads
 use Rattle.reader.proofs.straight.step_to.Reads as step-to-reads
-use Rattle.reader.proofs.straight.suits.Reads as suits-reads
+use Rattle.reader.proofs.straight.suits_like.Reads as suits-like-reads
 
 abbrev Inv-loop : tie.InvT-loop
-Inv-loop s profile count tops₀ found₀ at₀ ordinary₀ j₀ tops found at ordinary j = (j ≤ count) × (length tops ≡ 8) × Stands s (place count) found at ordinary
-    × Below s tops j
-    × (walkFrom s (place count) ≡ accept → SoFar profile s (place count) count j found at)
+Inv-loop s profile count tops₀ found₀ at₀ ordinary₀ usage₀ kind₀ j₀ tops found at ordinary usage kind j =
+    (j ≤ count) × (length tops ≡ 8) × Stands s (place count) found at ordinary × Below s tops j
+    × (walkFrom s (place count) ≡ accept → SoFar profile s (place count) count j found at) × Remembered profile usage kind
 
 abbrev μ-loop : tie.MeasureT-loop
-μ-loop s profile count tops₀ found₀ at₀ ordinary₀ j₀ tops found at ordinary j = count - j
+μ-loop s profile count tops₀ found₀ at₀ ordinary₀ usage₀ kind₀ j₀ tops found at ordinary usage kind j = count - j
 
 mul-at : tie.Need-mul-at Inv-loop μ-loop
 mul-at c = search needs
@@ -46,7 +47,8 @@ loop-holds c = (
   record { came = came-none _ _; chunk = λ l. absurd (omega arith) },
   (λ i h. absurd
       (omega arith)),
-  λ w. sofar-none _ _ _ _ _ (λ l. omega arith),
+  (λ w. sofar-none _ _ _ _ _ (λ l. omega arith)),
+  λ l. absurd (omega arith),
 )
 
 mul-p : tie.Need-mul-p Inv-loop μ-loop
@@ -87,15 +89,22 @@ arrived c =
     let r = rw (c .before .behind .given .1) at (c .before .before .before .step-to .ensures (place (a .count)) (l .ordinary) (l .inv .2)) in
     (r .0 (c .before .before .before .before .be32-at .ensures .1), r .1)
 
-suits-requires : tie.Need-suits-requires Inv-loop μ-loop
-suits-requires c κs =
+suits-like-requires : tie.Need-suits-like-requires Inv-loop μ-loop
+suits-like-requires c κs =
     let t = arrived c .0 .chunk (c .before .before .before .before .be32-at .ensures .1) .0 in (
       omega (arith, c .before .before .before .before .before .before .before .before .pre .1),
       t .inside,
       t .good,
       sym
           (c .before .before .before .before .be32-at .ensures .0),
+      c .before .before .before .before .before .before .loop .inv .5,
     )
+
+enum-known-new-usage : tie.Need-enum-known-new-usage Inv-loop μ-loop
+enum-known-new-usage c = search needs
+
+enum-told-2 : tie.Need-enum-told-2 Inv-loop μ-loop
+enum-told-2 c = search needs
 
 returns-2 : tie.Need-returns-2 Inv-loop μ-loop
 returns-2 c = search needs
@@ -114,15 +123,11 @@ array-read-top c = search needs
 
 is-fresh-requires : tie.Need-is-fresh-requires Inv-loop μ-loop
 is-fresh-requires c κs =
-    let l = c .before .before .before .before .before .before .before .before .before .before .loop in
-    let q = c .slot .ensures .0 ∙ ap slotOf (c .before .be32-at2 .ensures .0) in (
-      omega (arith, c .before .before .before .before .before .before .before .before .before .before .before .before .pre .0),
-      omega
-          (arith, c .before .before .before .before .before .before .before .before .before .before .before .before .pre .1),
-      topped (now
-          (c .before .before .before .before .before .before .before .before .before .before .before .before .args .s)) (l .tops) (l .j) (c .slot .result)
-          (l .inv .3) q,
-    )
+    let d = c .before .before in
+    let a = d .before .before .before .before .before .before .before .before .before .before .before .before in
+    let l = d .before .before .before .before .before .before .before .before .before .before .loop in
+    let q = c .slot .ensures .0 ∙ ap slotOf (c .before .be32-at2 .ensures .0) in
+    (omega (arith, a .pre .0), omega (arith, a .pre .1), topped (now (a .args .s)) (l .tops) (l .j) (c .slot .result) (l .inv .3) q)
 
 returns-3 : tie.Need-returns-3 Inv-loop μ-loop
 returns-3 c = search needs
@@ -150,26 +155,27 @@ loop-less c = search needs
 
 loop-again : tie.Need-loop-again Inv-loop μ-loop
 loop-again c =
-    let a = c .before .before .before .before .before .before .before .before .before .before .before .before .before .before .before .before .args in
+    let d = c .before .before .before .before .before .before in
+    let a = d .before .before .before .before .before .before .before .before .before .before .before .before .args in
     let s = now (a .s) in
     let base : ℕ = place (a .count) in
-    let l = c .before .before .before .before .before .before .before .before .before .before .before .before .before .before .loop in
-    let b = c .before .before .before .before .before .before .before .before .before .before .before .before .be32-at in
-    let st = arrived (c .before .before .before .before .before .before .before .before) in
+    let l = d .before .before .before .before .before .before .before .before .before .before .loop in
+    let b = d .before .before .before .before .before .before .before .before .be32-at in
+    let st = arrived (d .before .before .before .before) in
     let t = st .0 .chunk (b .ensures .1) in
-    let good = c .before .before .before .before .before .before .before .suits .ensures (not-false
-    (c .before .before .before .before .before .before .before .suits .result) (c .before .before .before .before .before .before .if1 .left)) base (rw
-    (b .ensures .0) at (t .0 .begins)) in
-    let fresh = c .before .before .before .is-fresh .ensures (not-false (c .before .before .before .is-fresh .result) (c .before .before .if2 .left)) base in
+    let fit = rw (d .before .new-usage .given .1) at (d .before .before .before .suits-like .ensures) in
+    let good = fit .0 refl base (rw (b .ensures .0) at (t .0 .begins)) in
+    let fresh = c .before .before .before .is-fresh .ensures (not-false (c .before .before .before .is-fresh .result) (c .before .before .if1 .left)) base in
     let q = c .before .before .before .before .slot .ensures .0 ∙ ap slotOf (c .before .before .before .before .before .be32-at2 .ensures .0) in (
       omega arith,
       simp length-set (l .inv .1),
       st .0,
       below-next s (l .tops) (l .j) _ _ (l .inv .3) q (omega (arith, c .before .before .before .before .slot .ensures .1, l .inv .1)) (omega
           (arith, c .before .be32-at3 .ensures .0, c .above .ensures .0)) (c .above .ensures .1),
-      λ w. sofar-next _ s base (a .count) (l .j) _ _ (b .result) _ w
-          (c .before .before .before .before .before .before .before .before .before .before .before .before .before .loop-test .taken) good fresh (sym
-          (b .ensures .0)) (b .ensures .1) (st .1) (t .1) (l .inv .4 w),
+      (λ w. sofar-next _ s base (a .count) (l .j) _ _ (b .result) _ w
+          (d .before .before .before .before .before .before .before .before .before .loop-test .taken) good fresh (sym (b .ensures .0))
+          (b .ensures .1) (st .1) (t .1) (l .inv .4 w)),
+      fit .1,
     )
 
 pass-over-requires : tie.Need-pass-over-requires Inv-loop μ-loop
@@ -182,7 +188,7 @@ returns-5 : tie.Need-returns-5 Inv-loop μ-loop
 returns-5 c =
     let a = c .before .before .before .before .before .before .before .args in
     let l = c .before .before .before .before .before .loop in
-    let e = came-end _ _ _ _ (c .before .if3 .left) (came-then _ _ _ _ _ _ (l .inv .2 .came) (c .before .before .before .pass-over .ensures)) in
+    let e = came-end _ _ _ _ (c .before .if2 .left) (came-then _ _ _ _ _ _ (l .inv .2 .came) (c .before .before .before .pass-over .ensures)) in
     (refl, e .0, e .1, e .2, sofar-end _ (now (a .s)) (place (a .count)) (a .count) (l .j) _ _ (e .0) (omega (arith, l .inv .0)) (l .inv .4 (e .0)))
 
 pub side-by-side-spec : {M : Type 1} → statement M
@@ -202,7 +208,9 @@ side-by-side-spec =
     enum-known-behind
     enum-told
     returns
-    suits-requires
+    suits-like-requires
+    enum-known-new-usage
+    enum-told-2
     returns-2
     be32-at-requires-2
     slot-requires
