@@ -2,8 +2,8 @@
  * blorb.h: the C interface of the Blorb library.
  *
  * A Blorb file is one IFF file with the pictures, sounds, data and code of a text adventure. These calls read it, look a
- * resource up, edit it in place, take edits back, and keep a finding table beside it. docs/RULES.md of the library's source says what a
- * file must keep and what each call makes of it.
+ * resource up, tell how long a sound plays, edit the file in place, take edits back, and keep a finding table beside it. docs/RULES.md of the
+ * library's source says what a file must keep and what each call makes of it.
  *
  * Each call that takes a Blorb file takes a profile as well: BLORB_PLAIN, or BLORB_ADRIFT for files of the ADRIFT house, which may have a few
  * types more. Whoever edits in C is best served by the functions over blorb_editor at the end, which keep the lengths and the profile.
@@ -28,10 +28,10 @@
  *   - Buffers that a call may write (no const) overlap no other buffer of the same call.
  *   - `usage` and `type` point at four bytes, such as "Pict" or "TEXT". No closing zero is needed.
  *
- * Every call that takes a profile judges the whole file first, each time. It looks at no data, so the time does not depend on the size of the
- * resources. It is proportional to entries + chunks where the numbers of each usage rise from entry to entry. Where they do not, earlier
- * pairs are looked through as well, and the time can grow to chunks + entries * entries. This holds for refused files too. An edit besides
- * moves the bytes behind what it changes, once.
+ * Every call that takes a profile judges the whole file first, each time. It looks at four bytes of a chunk's data at most, so the time
+ * does not depend on the size of the resources. It is proportional to entries + chunks where the numbers of each usage rise from entry to
+ * entry. Where they do not, earlier pairs are looked through as well, and the time can grow to chunks + entries * entries. This holds for
+ * refused files too. An edit besides moves the bytes behind what it changes, once.
  *
  * To go through an index, call blorb_read once: in an accepted file entry i stands at 24 + BLORB_ENTRY_SIZE * i, as usage, number and
  * start of its chunk, each of four bytes, the first one highest. Starts never fall from entry to entry, so a file can be played from front
@@ -56,10 +56,10 @@ extern "C" {
 
 /* The version of this header, as one number major * 1000000 + minor * 1000 + patch. A major version may change what a call takes. */
 #define BLORB_VERSION_MAJOR 2
-#define BLORB_VERSION_MINOR 0
+#define BLORB_VERSION_MINOR 1
 #define BLORB_VERSION_PATCH 0
 #define BLORB_VERSION (BLORB_VERSION_MAJOR * 1000000 + BLORB_VERSION_MINOR * 1000 + BLORB_VERSION_PATCH)
-#define BLORB_VERSION_TEXT "2.0.0"
+#define BLORB_VERSION_TEXT "2.1.0"
 
 /* The version of the archive that the program is linked with: BLORB_VERSION, where header and archive belong together. */
 uint32_t blorb_version(void);
@@ -147,6 +147,11 @@ enum {
     BLORB_TABLE_ROOM = 34,      /* the slice is too small for the table, or for the table turned; place 0 */
     BLORB_TABLE_STALE = 35,     /* the table is not this file's; place: the first differing row from 0, or the smaller row count */
 
+    /* The sound; place 0. */
+    BLORB_NOT_AIFF = 49,        /* not one 'FORM' of type 'AIFF' and of just these bytes, filled by whole chunks with their padding */
+    BLORB_COMMON = 50,          /* no 'COMM' chunk, more than one, or one whose length is not 18 */
+    BLORB_RATE = 51,            /* the rate is not a whole number from 1 to 4,294,967,295 */
+
     /* The file that the edit would make; place as in that file. */
     BLORB_RESULT = 100,         /* 100 + k: it would be refused with k. These can occur: */
     BLORB_RESULT_TOO_LONG = BLORB_RESULT + BLORB_TOO_LONG,
@@ -207,6 +212,26 @@ typedef struct blorb_lookup_answer {
  * The file's refusals, then 22 exactly where the index has no such entry.
  */
 blorb_lookup_answer blorb_lookup(const uint8_t *file, size_t size, uint32_t profile, const char usage[4], uint32_t number);
+
+/* Of a refused call: all but the refusal 0. */
+typedef struct blorb_aiff_answer {
+    uint64_t refusal;
+    uint64_t place;
+    uint32_t channels;
+    uint32_t frames;      /* a frame has one sample for each channel */
+    uint32_t sample_size; /* bits of a sample */
+    uint32_t rate;        /* frames in a second, exactly */
+    uint32_t seconds;     /* frames / rate, rounded down */
+} blorb_aiff_answer;
+
+/*
+ * What the 'COMM' chunk of an AIFF sound says, and how long the sound plays. `bytes` are the whole sound as blorb_lookup gives it for type 'FORM':
+ * its first byte to its last, without the padding behind it. A sound from anywhere else will do as well, of any size; no Blorb file is needed. AIFF-C is
+ * refused with 49. The rate is a number of 80 bits in the file; one that is no whole number, as 22,254.54 of old sounds, is refused with 51.
+ * Channels, frames and sample size are not judged. The time is proportional to the sound's chunks, of which there are few; no sample is looked at.
+ * Refusals 49, 50, 51.
+ */
+blorb_aiff_answer blorb_aiff_length(const uint8_t *bytes, size_t size);
 
 /*
  * The finding table. Three numbers of 32 bits to a row: usage (BLORB_PICT .. BLORB_EXEC), number, start of the chunk; a row for each

@@ -5,6 +5,7 @@
  *     places in their tables; the calls are the four questions, then the edits.
  */
 #include "check.h"
+#include "sounds.h"
 #include "tables.h"
 #include "timing.h"
 
@@ -192,6 +193,8 @@ static int print_times(void)
     print_tables();
     puts("\n## Finding tables in columns");
     print_columns();
+    puts("\n## Sounds\n");
+    print_sounds();
     return 0;
 }
 

@@ -111,6 +111,33 @@ void time_question(const struct sample *s, enum question q, struct times *t)
     sum_up(t, rounds, LIBRARIES);
 }
 
+static double time_calls(timed *function, const void *given, unsigned batch)
+{
+    double from = now();
+
+    for (unsigned i = 0; i < batch; i++)
+        sink = function(given);
+    return (now() - from - clock_cost) / batch;
+}
+
+void time_functions(timed *const *functions, unsigned count, const void *given, struct times *t)
+{
+    unsigned batch[COMPARED], rounds = 0;
+    double begun = now();
+
+    for (unsigned k = 0; k < count; k++) {
+        time_calls(functions[k], given, 1);
+        double once = time_calls(functions[k], given, 1);
+        batch[k] = 1 + (unsigned)(BATCH_TIME / (once < 20 ? 20 : once));
+    }
+    for (; goes_on(rounds, begun); rounds++)
+        for (unsigned i = 0; i < count; i++) {
+            unsigned k = (i + rounds) % count;
+            t->all[k][rounds] = time_calls(functions[k], given, batch[k]);
+        }
+    sum_up(t, rounds, count);
+}
+
 static void time_pair(const struct library *l, const struct sample *s, const struct edit *e, double *edit, double *undo)
 {
     double t0 = now();

@@ -26,6 +26,11 @@ void time_clock(void);
 
 void time_question(const struct sample *s, enum question q, struct times *t);
 
+/* Functions that only read what they are given, in batches by turns: times of the first `count`, at most COMPARED. Each gives a number that depends on
+ * what it has done. */
+typedef uint64_t timed(const void *given);
+void time_functions(timed *const *functions, unsigned count, const void *given, struct times *t);
+
 /* An edit and its undo, which leaves the file as it was; both are timed each by itself. */
 void time_edit(const struct sample *s, const struct edit *e, struct times *edit, struct times *undo);
 

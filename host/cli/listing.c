@@ -92,6 +92,8 @@ typedef struct resource {
     uint32_t width, height;
     const char *told; /* what the data is by its first bytes, or null */
     int suits;        /* nothing speaks against the type */
+    int is_aiff;
+    blorb_aiff_answer sound; /* of an AIFF sound */
 } resource;
 
 static resource resource_at(const contents *c, const overview *o, size_t i)
@@ -106,12 +108,26 @@ static resource resource_at(const contents *c, const overview *o, size_t i)
     r.has_size = size_told(r.type, r.held, &r.width, &r.height);
     r.told = k == NULL ? NULL : k->what;
     r.suits = !contradicts(r.type, r.held, why);
+    /* In an accepted file every FORM that has an entry is one. */
+    r.is_aiff = memcmp(r.type, "FORM", 4) == 0;
+    if (r.is_aiff)
+        r.sound = blorb_aiff_length(r.held.at, r.held.length);
     return r;
 }
 
 static uint32_t release_in(const overview *o)
 {
     return (uint32_t)o->release[0] << 8 | o->release[1];
+}
+
+/* Rate, channels, bits and the time as minutes and seconds; of a refused sound which refusal it is. */
+static void print_sound(const blorb_aiff_answer *s)
+{
+    if (s->refusal != BLORB_DONE)
+        printf(", length not known, refused %" PRIu64 ": %s", s->refusal, blorb_sentence(s->refusal));
+    else
+        printf(", %" PRIu32 " Hz, %" PRIu32 " channel%s, %" PRIu32 " bits, %" PRIu32 ":%02" PRIu32, s->rate, s->channels,
+               s->channels == 1 ? "" : "s", s->sample_size, s->seconds / 60, s->seconds % 60);
 }
 
 static void print_resource(const resource *r)
@@ -123,6 +139,8 @@ static void print_resource(const resource *r)
         printf(", %s", r->told);
     if (!r->suits)
         fputs(", not what its type stands for", stdout);
+    if (r->is_aiff)
+        print_sound(&r->sound);
     if (r->sharers > 1)
         printf(", one chunk for %zu resources", r->sharers);
     puts(r->is_frontispiece ? ", frontispiece" : "");
@@ -168,6 +186,22 @@ static void print_number(const char *name, int known, uint32_t number)
         printf("\"%s\": null", name);
 }
 
+static void print_json_sound(const resource *r)
+{
+    int known = r->is_aiff && r->sound.refusal == BLORB_DONE;
+    const struct {
+        const char *name;
+        uint32_t number;
+    } figures[] = {{"rate", r->sound.rate}, {"channels", r->sound.channels}, {"sample_size", r->sound.sample_size},
+                   {"frames", r->sound.frames}, {"seconds", r->sound.seconds}};
+    for (size_t i = 0; i < sizeof figures / sizeof *figures; i++) {
+        fputs(", ", stdout);
+        print_number(figures[i].name, known, figures[i].number);
+    }
+    fputs(", ", stdout);
+    print_number("sound_refused", r->is_aiff && !known, (uint32_t)r->sound.refusal);
+}
+
 static void print_json_resource(const resource *r)
 {
     fputs("\n    {", stdout);
@@ -183,7 +217,9 @@ static void print_json_resource(const resource *r)
     print_number("height", r->has_size, r->height);
     const char *quote = r->told != NULL ? "\"" : "";
     printf(", \"data\": %s%s%s", quote, r->told != NULL ? r->told : "null", quote);
-    printf(", \"suits\": %s}", r->suits ? "true" : "false");
+    printf(", \"suits\": %s", r->suits ? "true" : "false");
+    print_json_sound(r);
+    putchar('}');
 }
 
 static void print_other_chunks(const contents *c, const overview *o)

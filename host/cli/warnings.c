@@ -7,6 +7,17 @@
 #include "kinds.h"
 #include "words.h"
 
+/* An AIFF sound whose length nobody can tell is likely not to be played either. */
+static void warn_of_sound(const contents *c, const char *shown, const entry *e, const char *pair)
+{
+    bytes sound = found_at(c->file, e->start);
+    if (memcmp(type_at(c->file, e->start), "FORM", 4) != 0)
+        return;
+    blorb_aiff_answer answer = blorb_aiff_length(sound.at, sound.length);
+    if (answer.refusal != BLORB_DONE)
+        say_doubt(shown, pair, answer.refusal);
+}
+
 static void warn_of_entry(const contents *c, const char *shown, const entry *e)
 {
     char pair[PAIR_SIZE], why[WHY_SIZE];
@@ -16,6 +27,7 @@ static void warn_of_entry(const contents *c, const char *shown, const entry *e)
         say_warning(shown, pair, why);
     if (held.length == 0)
         say_warning(shown, pair, "it has no data, and ScummVM ends with an error there");
+    warn_of_sound(c, shown, e, pair);
 }
 
 /* Frotz subtracts numbers of 32 bits with a sign to put the entries in order. */

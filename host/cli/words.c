@@ -48,6 +48,10 @@ static const remedy remedies[] = {
      "Past edits are kept in FILE.undo. If FILE was moved or renamed, move that along under the same new name."},
     {BLORB_WHOLE_FORM, "Give the whole AIFF file as it was saved, its first eight bytes included and nothing behind its end, or another type.\n  " TYPES},
     {BLORB_TABLE_STALE, "`blorb table FILE` writes it anew."},
+    {BLORB_NOT_AIFF, "Save the sound again as plain AIFF. Some programs (SoX is one) leave out the last padding byte where the samples have an odd\n"
+     "  number of bytes: 16 bits to a sample help there."},
+    {BLORB_COMMON, "Save the sound again as plain AIFF with another program."},
+    {BLORB_RATE, "Convert the sound to a whole number of samples in a second, as 22050 or 44100."},
     {BLORB_RESULT_TOO_LONG, "Use smaller data, or remove another resource first."},
     {BLORB_RESULT_SECOND_INDEX, TYPES},
     {BLORB_RESULT_TOO_MANY, "Remove another resource first."},
@@ -136,6 +140,13 @@ void say_warning(const char *file, const char *about, const char *sentence)
     fprintf(stderr, ": warning: %s%s", about, about[0] != '\0' ? ": " : "");
     say_safely(sentence);
     fputs(".\n", stderr);
+}
+
+void say_doubt(const char *file, const char *about, uint64_t number)
+{
+    say_file(file);
+    fprintf(stderr, ": warning: %s: refused %" PRIu64 ": %s.\n", about, number, blorb_sentence(number));
+    say_advice(remedy_for(number));
 }
 
 void say_waiting(const char *file)

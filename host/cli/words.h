@@ -44,6 +44,9 @@ int say_meaning(const char *file, uint64_t number, const char *about, const char
 /* Something about a resource (or, where `about` is "", about the file) that no rule forbids. */
 void say_warning(const char *file, const char *about, const char *sentence);
 
+/* A resource that the library refuses to tell something of, though the file keeps every rule; with the number's sentence and advice. */
+void say_doubt(const char *file, const char *about, uint64_t number);
+
 /* That another run of this program is being waited for. */
 void say_waiting(const char *file);
 

@@ -75,6 +75,12 @@ const char *blorb_sentence(uint64_t refusal)
         return "there is no room for the finding table";
     case BLORB_TABLE_STALE:
         return "the finding table is not this file's, from that row on; it may be of an older file, of another one, or damaged";
+    case BLORB_NOT_AIFF:
+        return "the sound is not a single 'FORM' of type 'AIFF' that its chunks fill exactly";
+    case BLORB_COMMON:
+        return "the 'COMM' chunk of the sound is missing, is not the only one, or is not 18 bytes long";
+    case BLORB_RATE:
+        return "the rate of the sound is not a whole number from 1 to 4,294,967,295";
     case BLORB_RESULT_TOO_LONG:
         return "the file would be longer than 16,777,216 bytes";
     case BLORB_RESULT_SECOND_INDEX:

@@ -61,6 +61,17 @@ mod raw {
         pub probes: u64,
     }
 
+    #[repr(C)]
+    pub struct Aiff {
+        pub refusal: u64,
+        pub place: u64,
+        pub channels: u32,
+        pub frames: u32,
+        pub sample_size: u32,
+        pub rate: u32,
+        pub seconds: u32,
+    }
+
     #[rustfmt::skip]
     extern "C" {
         pub fn blorb_version() -> u32;
@@ -74,6 +85,7 @@ mod raw {
         pub fn blorb_read(file: *const u8, size: usize, profile: u32) -> Read;
         pub fn blorb_entry(file: *const u8, size: usize, profile: u32, i: usize) -> Entry;
         pub fn blorb_lookup(file: *const u8, size: usize, profile: u32, usage: *const u8, number: u32) -> Lookup;
+        pub fn blorb_aiff_length(bytes: *const u8, size: usize) -> Aiff;
         pub fn blorb_blank(file: *mut u8, size: usize) -> Edit;
         pub fn blorb_add(file: *mut u8, size: usize, length: usize, journal: *mut u8, journal_size: usize, used: usize,
             profile: u32, usage: *const u8, number: u32, tag: *const u8, data: *const u8, data_size: usize) -> Edit;
@@ -219,6 +231,12 @@ pub fn lookup(file: &mut Lent, profile: u32, usage: &Tag, number: u32) -> Readin
     reading(answer.refusal, answer.place, [answer.tag as u64, answer.start, answer.length])
 }
 
+pub fn aiff_length(bytes: &mut Lent) -> Reading<5> {
+    let answer = unsafe { raw::blorb_aiff_length(bytes.pointer(), bytes.size) };
+    let values = [answer.channels, answer.frames, answer.sample_size, answer.rate, answer.seconds];
+    reading(answer.refusal, answer.place, values.map(u64::from))
+}
+
 /// A table's slice as it is lent: numbers of four bytes each.
 fn numbers(table: &mut Lent) -> *mut u32 {
     let pointer = table.pointer() as *mut u32;
@@ -352,6 +370,19 @@ pub fn on_huge_arrays(zeros: &mut [u8]) -> Vec<(&'static str, String, String)> {
         check("remove from a huge file", numbers(remove), [1, 0, huge as u64, 0]);
         let remove = raw::blorb_remove(z, huge, huge, j, 100, 0, unknown, usage, 7);
         check("remove from a huge file, unknown profile", numbers(remove), [52, 0, huge as u64, 0]);
+        // A sound whose length agrees with the size less 8 only where 32 bits are looked at.
+        zeros[..4].copy_from_slice(b"FORM");
+        zeros[4..8].copy_from_slice(&((huge - 8) as u32).to_be_bytes());
+        zeros[8..12].copy_from_slice(b"AIFF");
+        let sound = raw::blorb_aiff_length(z, huge);
+        check("length of a huge sound", [sound.refusal, sound.place, sound.rate as u64, sound.seconds as u64], [49, 0, 0, 0]);
+        // The longest that there can be: 4,294,967,302 bytes, a 'COMM' of 18 and samples up to the end.
+        zeros[4..8].copy_from_slice(&0xFFFF_FFFE_u32.to_be_bytes());
+        zeros[12..38].copy_from_slice(b"COMM\0\0\0\x12\0\x01\0\0\x3E\x80\0\x08\x40\x0B\xFA\0\0\0\0\0\0\0");
+        zeros[38..46].copy_from_slice(b"SSND\xFF\xFF\xFF\xD8");
+        let sound = raw::blorb_aiff_length(z, (1 << 32) + 6);
+        check("length of the longest sound", [sound.refusal, sound.place, sound.rate as u64, sound.seconds as u64], [0, 0, 8_000, 2]);
+        zeros[..46].fill(0);
         raw::blorb_blank(f, 100);
         let add = raw::blorb_add(f, 100, 24, j, 100, 0, p, usage, 7, tag, z, huge);
         check("add of huge data", numbers(add), [101, 0, 24, 0]);

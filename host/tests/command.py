@@ -1,4 +1,4 @@
-"""Tests of the command line program: command.py PROGRAM SHIM. Started by host/tests/command, which builds both."""
+"""Tests of the command line program: command.py PROGRAM SHIM SOUND_LENGTH. Started by host/tests/command, which builds all three."""
 import os
 import shutil
 import tempfile
@@ -12,6 +12,7 @@ import command_data
 import command_journal
 import command_profile
 import command_scripts
+import command_sounds
 import command_table
 import command_use
 
@@ -37,7 +38,7 @@ def run_parts(parts, where):
 def main():
     begun = time.time()
     print(f"command: {command_kit.PROGRAM}; seeds are fixed (7, 2004, 15, 2611)")
-    run_parts(command_use.PARTS + command_data.PARTS + command_scripts.PARTS + command_card.PARTS, None)
+    run_parts(command_use.PARTS + command_data.PARTS + command_scripts.PARTS + command_sounds.PARTS + command_card.PARTS, None)
     run_parts(command_journal.PARTS + command_crash.PARTS + command_table.PARTS + command_profile.PARTS, MEMORY)
     print(f"{command_kit.checks} checks in {time.time() - begun:.0f} s")
     print("command: ok")

@@ -14,6 +14,12 @@ NAMES = {"Pict-1.PNG": png(), "Pict-2.PNG": png(), "Snd-3.FORM": aiff(b"odd"), "
          "Pict-4294967295.JPEG": jpeg(), "Pict-5.Rect": be(320) + be(200), "Snd-6.OGGV": ogg(), "Snd-7.MOD": mod(), "Data-8.BINA": b""}
 
 
+def sound_of(kind):
+    """What is told of a sound: aiff(b"odd") has three samples of one channel."""
+    fields = ("rate", "channels", "sample_size", "frames", "seconds", "sound_refused")
+    return dict(zip(fields, (8000, 1, 8, 3, 0, None) if kind == b"FORM" else (None,) * 6))
+
+
 def json_listing(work):
     """Every field, compared with the file itself."""
     file, held = work / "game.blb", blorb(ENTRIES, CHUNKS)
@@ -31,7 +37,7 @@ def json_listing(work):
         same(got, {"usage": usage.decode(), "number": number, "type": kind.decode(), "start": start, "data_start": start + 8 - head,
                    "length": len(body) + head, "file_length": len(body) + head, "sharers": 2 if k == 0 else 1,
                    "frontispiece": (usage, number) == (b"Pict", 2), "width": width, "height": height, "data": what.get(kind),
-                   "suits": True}, f"{usage} {number}")
+                   "suits": True, **sound_of(kind)}, f"{usage} {number}")
         same(done("get", file, usage, str(number)), held[got["data_start"]:got["data_start"] + got["length"]], f"what get writes of {usage} {number}")
     others = [(c["type"].encode("latin-1"), c["length"]) for c in told["other_chunks"]]
     same(others, [(kind, len(body)) for kind, body in CHUNKS[9:]], "chunks without an entry")
@@ -56,6 +62,7 @@ def long_listing(work):
     for line, r in zip(lines[2:], told["resources"]):
         expect(line.startswith(f"{r['usage']} {r['number']}: {r['type']}, {r['length']} bytes from {r['data_start']}"), f"{line} for {r}")
         expect((f", {r['width']} by {r['height']}" in line) == (r["width"] is not None), f"the size in {line}")
+        expect((", 8000 Hz, 1 channel, 8 bits, 0:00" in line) == (r["type"] == "FORM"), f"the sound in {line}")
         expect((", one chunk for 2 resources" in line) == (r["sharers"] == 2), f"sharing in {line}")
         expect(line.endswith(", frontispiece") == r["frontispiece"], f"the frontispiece in {line}")
     same(len(lines), 2 + 10 + 4, "lines")

@@ -8,6 +8,7 @@ mod generate;
 mod large;
 mod reference;
 mod samples;
+mod sounds;
 mod tables;
 mod two_editors;
 
@@ -23,7 +24,8 @@ use std::sync::atomic::Ordering;
 use std::time::{Duration, Instant};
 
 const DEFAULT_SEED: u64 = 20_040_204;
-const DEFAULT_COUNT: u64 = 400_000;
+/// Each hundredth of the Blorb files is 4,000 inputs.
+const DEFAULT_COUNT: u64 = 4_000 * SHARES as u64;
 /// So many inputs are asked to show all that can occur.
 const ENOUGH: u64 = DEFAULT_COUNT / 4;
 /// The type 'FORM' as a lookup gives it.
@@ -370,8 +372,8 @@ pub fn check_call_and_52(tally: &mut Tally, rng: &mut Rng, call: &Call, state: &
 
 type Family = fn(&mut Tally, &mut Rng);
 
-/// How many of 100 cases each family has.
-const FAMILIES: [(usize, Family); 10] = [
+/// The share of the cases that each family has: those of Blorb files make 100, sounds come besides.
+const FAMILIES: [(usize, Family); 11] = [
     (20, valid_files),
     (16, single_faults),
     (12, double_faults),
@@ -382,7 +384,16 @@ const FAMILIES: [(usize, Family); 10] = [
     (10, undos),
     (1, blanks),
     (3, runs),
+    (14, sounds::sounds),
 ];
+const SHARES: usize = shares(&FAMILIES);
+
+const fn shares(families: &[(usize, Family)]) -> usize {
+    match families {
+        [] => 0,
+        [(share, _), rest @ ..] => *share + shares(rest),
+    }
+}
 
 fn some_draft(rng: &mut Rng) -> generate::Draft {
     let count = generate::entry_count(rng);
@@ -681,6 +692,11 @@ fn rows() -> Vec<(&'static str, Vec<u64>)> {
         ("table_to_rows", vec![0, 34]),
         ("columns_search", vec![0, 22]),
         ("blank", vec![0, 24]),
+        ("aiff_length", vec![0, 49, 50, 51]),
+        // Sounds by their faults: 1 of the form, 2 of 'COMM', 4 of the rate, and sums of these; and what adding them as resources was answered.
+        ("aiff faults", (0..8).collect()),
+        ("aiff damaged", vec![0, 49, 50, 51]),
+        ("aiff resource", vec![0, 30, 114]),
         // Both parities of what a lookup of a 'FORM' gives; then 30 with its neighbours, those before it and those behind it.
         ("lookup FORM", vec![0, 1]),
         ("add wrong head", vec![20, 30, 52]),
@@ -734,7 +750,9 @@ fn print_table(tally: &Tally, complete: bool) -> bool {
     println!("ledger: answers in runs, undone: kinds of records; 52 and 30: what 52 and 30 came before; as plain: of what was good under");
     println!("ADRIFT; lookup FORM: whole chunks of even and odd length; wrong head: answers to data of type 'FORM' with a wrong head;");
     println!("link 116: 0 where the new entry is the later one, 1 where the old one is; length after: sums of a run's changes behind an edit of");
-    println!("this kind, 0 behind an undo; either order, later wins: a replacement and an edit of this kind, all four calls carried out):");
+    println!("this kind, 0 behind an undo; either order, later wins: a replacement and an edit of this kind, all four calls carried out;");
+    println!("aiff faults: sums of 1 for the form, 2 for 'COMM', 4 for the rate; aiff damaged: answers to these sounds damaged; aiff resource:");
+    println!("answers to adding them):");
     let mut good = true;
     for (row, numbers) in rows() {
         let seen: BTreeMap<u64, u64> =
@@ -757,14 +775,14 @@ fn print_table(tally: &Tally, complete: bool) -> bool {
 
 /// The family's number for the i-th case.
 fn family_of(i: u64) -> u64 {
-    let mut left = (i % 100) as usize;
+    let mut left = i as usize % SHARES;
     for (family, (share, _)) in FAMILIES.iter().enumerate() {
         if left < *share {
             return family as u64;
         }
         left -= share;
     }
-    unreachable!("the shares make 100")
+    unreachable!("the shares make all")
 }
 
 fn run_case(tally: &mut Tally, case: u64) {

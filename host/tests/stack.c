@@ -75,10 +75,24 @@ static void turned(size_t length, size_t used)
     refused(length, used, BLORB_ORDER);
 }
 
+/* A sound: refused without its 'COMM', with a rate of 0, and told. */
+static void sound(void)
+{
+    uint8_t bytes[38] = "FORM\0\0\0\x1e" "AIFFCOMM\0\0\0\x12\0\1\0\0\x3e\x80\0\x08\x40\x0b\xfa"; /* one channel, 16,000 frames at 8,000 */
+
+    gives(blorb_aiff_length(bytes, 37).refusal, BLORB_NOT_AIFF);
+    gives(blorb_aiff_length(bytes, 38).seconds, 2);
+    bytes[30] = 0;
+    gives(blorb_aiff_length(bytes, 38).refusal, BLORB_RATE);
+    bytes[12] = 'c';
+    gives(blorb_aiff_length(bytes, 38).refusal, BLORB_COMMON);
+}
+
 static void every_call(void)
 {
     gives(blorb_version(), BLORB_VERSION);
     gives(blorb_sentence(BLORB_DONE) == NULL, 0);
+    sound();
     blorb_edit_answer a = blorb_blank(file, ROOM);
     done(a.refusal);
     for (uint32_t i = 0; i < 3; i++) {

@@ -14,6 +14,7 @@ CALLS = [
     ("reading", "blorb_lookup", "reader::lookup"),
     ("reading", None, "reader::data"),
     ("reading", None, "reader::inspect"),
+    ("reading", "blorb_aiff_length", "aiff::length"),
     ("reading", "blorb_table_check", "table::check"),
     ("reading", "blorb_table_search", "table::search"),
     ("reading", "blorb_columns_check", "table::columns_check"),

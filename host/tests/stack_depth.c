@@ -19,7 +19,7 @@
  * In stack_calls.py stand the same calls.
  */
 enum call {
-    READ, ENTRY, LOOKUP, CHECK, SEARCH, COLUMNS_CHECK, COLUMNS_SEARCH, BUILD, TO_COLUMNS, TO_ROWS, BLANK, ADD, REPLACE, REMOVE, LINK, UNDO,
+    READ, ENTRY, LOOKUP, AIFF, CHECK, SEARCH, COLUMNS_CHECK, COLUMNS_SEARCH, BUILD, TO_COLUMNS, TO_ROWS, BLANK, ADD, REPLACE, REMOVE, LINK, UNDO,
     VERSION, SENTENCE, CALLS
 };
 typedef void any(void);
@@ -35,6 +35,7 @@ static struct row {
     [READ] = {"blorb_read", (any *)blorb_read, false, true, {0}, 0, {0}},
     [ENTRY] = {"blorb_entry", (any *)blorb_entry, false, true, {22}, 0, {0}},
     [LOOKUP] = {"blorb_lookup", (any *)blorb_lookup, false, true, {22}, 0, {0}},
+    [AIFF] = {"blorb_aiff_length", (any *)blorb_aiff_length, false, false, {49, 50, 51}, 0, {0}},
     [CHECK] = {"blorb_table_check", (any *)blorb_table_check, true, true, {35}, 0, {0}},
     [SEARCH] = {"blorb_table_search", (any *)blorb_table_search, false, false, {22}, 0, {0}},
     [COLUMNS_CHECK] = {"blorb_columns_check", (any *)blorb_columns_check, true, true, {35}, 0, {0}},
@@ -131,6 +132,7 @@ static uint64_t lookup(const uint8_t *f, size_t n, const char *usage, uint32_t n
 static uint64_t build(const uint8_t *f, size_t n, size_t numbers) { return RUN(BUILD, P(f), n, profile, P(table), numbers); }
 static uint64_t to_columns(size_t numbers, size_t room) { return RUN(TO_COLUMNS, P(table), numbers, P(columns), room); }
 static uint64_t to_rows(size_t numbers, size_t room) { return RUN(TO_ROWS, P(columns), numbers, P(turned), room); }
+static uint64_t aiff(const uint8_t *sound, size_t n) { return RUN(AIFF, P(sound), n); }
 static uint64_t blank(uint8_t *f, size_t size) { return RUN(BLANK, P(f), size); }
 
 /* A table's check and search; `c` tells its form. */
@@ -531,6 +533,44 @@ static void large(void)
     undone(&e);
 }
 
+/* A sound of `n` bytes whose 'COMM' stands last, behind empty chunks: one channel, 16,000 frames, the rate's first two bytes and next eight. */
+static size_t write_sound(uint8_t *f, size_t n, unsigned head, uint64_t significand)
+{
+    uint8_t *common = f + n - 18;
+
+    finish(f, n);
+    memcpy(f + 8, "AIFF", 4);
+    for (size_t at = 12; at < n - 26; at += 8)
+        memcpy(f + at, "NAME\0\0\0", 8);
+    memcpy(common - 8, "COMM\0\0\0\x12\0\1\0\0\x3e\x80\0\x08", 16);
+    common[8] = (uint8_t)(head >> 8), common[9] = (uint8_t)head;
+    put32(common + 10, significand >> 32), put32(common + 14, significand & 0xffffffff);
+    return n;
+}
+
+/* Sounds of two sizes: every refusal, and rates that take the most and the fewest steps. */
+static void sounds(size_t n)
+{
+    const uint64_t top = (uint64_t)1 << 63;
+
+    wants(aiff(file, write_sound(file, n, 16383, top)), BLORB_DONE, "a rate of 1");
+    wants(aiff(file, write_sound(file, n, 16383 + 63, 1)), BLORB_DONE, "a rate of 1, unnormalised");
+    wants(aiff(file, write_sound(file, n, 16383 + 63 + 31, 1)), BLORB_DONE, "a rate of 2,147,483,648, unnormalised");
+    wants(aiff(file, write_sound(file, n, 16383 + 12, (uint64_t)0xfa << 56)), BLORB_DONE, "a rate of 8,000");
+    wants(aiff(file, write_sound(file, n, 16383 + 31, (uint64_t)0xffffffff << 32)), BLORB_DONE, "the largest rate");
+    wants(aiff(file, write_sound(file, n, 16383 + 32, top)), BLORB_RATE, "a rate too large");
+    wants(aiff(file, write_sound(file, n, 0x7fff, top)), BLORB_RATE, "the largest exponent");
+    wants(aiff(file, write_sound(file, n, 0, top)), BLORB_RATE, "the smallest exponent");
+    wants(aiff(file, write_sound(file, n, 16383, 0)), BLORB_RATE, "a rate of 0");
+    wants(aiff(file, write_sound(file, n, 0x8000 + 16383, top)), BLORB_RATE, "a negative rate");
+    memcpy(file + 12, "COMM\0\0\0", 8);
+    wants(aiff(file, n), BLORB_COMMON, "a second 'COMM'");
+    memcpy(file + n - 26, "comm", 4);
+    wants(aiff(file, n), BLORB_COMMON, "a 'COMM' of no bytes");
+    wants(aiff(file, n - 1), BLORB_NOT_AIFF, "a sound cut short");
+    wants(aiff(file, 11), BLORB_NOT_AIFF, "no sound");
+}
+
 /* The two calls that take no buffer. */
 static void plain_calls(void)
 {
@@ -598,6 +638,8 @@ int main(void)
         data[i] = (uint8_t)(i * 7 + i / 251);
     for (profile = BLORB_PLAIN; profile <= BLORB_ADRIFT; profile++)
         under_profile();
+    sounds(46);
+    sounds(BLORB_MAX_SIZE + 6);
     plain_calls();
     check_seen();
     for (enum call c = 0; c < CALLS; c++)

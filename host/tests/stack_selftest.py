@@ -74,6 +74,7 @@ SOURCE = [
     ("an unknown function", "deep", "small[0] as u64", "elsewhere(n)", "reading", "does not find"),
     ("a public function that is in no group", "lib", "fn step", "pub fn step", "reading", "one::step: a public function"),
     ("a public function for C that is in no group", "lib", "fn step", 'pub extern "C" fn step', "reading", "one::step: a public function"),
+    ("a public function for C in a module that is in no group", "deep", "pub fn", 'pub extern "C" fn', "reading", "one::deep::below: a public"),
     ("an unknown method", "deep", "small[0] as u64", "s.sum()", "reading", "does not know"),
     ("a large array in an editing call", "deep", "[0u8; WIDTH]", "[0u8; 2048]", "editing", None),
     ("two arrays at once in an editing call", "deep", "[0u8; WIDTH]", "[[0u8; 2048]; 2]", "editing", "bytes of arrays by one::read"),

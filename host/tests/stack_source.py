@@ -74,7 +74,8 @@ class Source:
     """Every function, structure and constant of the crates, by its path."""
 
     def __init__(self, crates):
-        self.functions, self.types, self.constants, self.uses, self.public = {}, {}, {}, {}, set()
+        self.functions, self.types, self.constants, self.uses = {}, {}, {}, {}
+        self.public = set()                                  # for users: in a crate's root, and for C in any module
         for crate in sorted(p for p in crates.iterdir() if (p / "src").is_dir()):
             for path in sorted((crate / "src").glob("*.rt")):
                 module = crate.name if path.stem in ("lib", "main") else f"{crate.name}::{path.stem}"
@@ -106,7 +107,7 @@ class Source:
                 begin = next(j for j in range(k, len(tokens)) if tokens[j] == "{")
                 end = closing(tokens, begin)
                 self.functions[f"{scope}::{tokens[k + 1]}"] = (module, scope, tokens[k + 2:begin], tokens[begin:end + 1])
-                if tokens[k - 1:k] == ["pub"] or tokens[k - 3:k] == ["pub", "extern", '"C"']:
+                if tokens[k - 1:k] == ["pub"] and "::" not in scope or tokens[k - 3:k] == ["pub", "extern", '"C"']:
                     self.public.add(f"{scope}::{tokens[k + 1]}")
                 k = end
             k += 1
@@ -139,6 +140,10 @@ class Source:
         if (module, first) in self.uses:
             found.insert(0, "::".join([self.uses[module, first], *rest]))
         return found
+
+    def for_c(self, name):
+        """The path of a C function, in the root of the crate capi or in one of its modules."""
+        return next((f for f in self.functions if f.startswith("capi::") and f.endswith("::" + name)), f"capi::{name}")
 
     def find(self, table, path, module, scope):
         return next((m for m in self.meanings(path, module, scope) if m in table), None)
@@ -264,9 +269,9 @@ def checked(root, calls):
         if name is not None:
             wanted[name] = group
             if c is not None:
-                wanted[f"capi::{c}"] = group
+                wanted[source.for_c(c)] = group
     users = {name.split("::")[0] for name in wanted}
-    if missing := {name for name in source.public if name.count("::") == 1 and name.split("::")[0] in users} - wanted.keys():
+    if missing := {name for name in source.public if name.split("::")[0] in users} - wanted.keys():
         raise Breach(f"{', '.join(sorted(missing))}: a public function that stack_calls.py has not")
     for one, group in wanted.items():
         if one not in source.functions:

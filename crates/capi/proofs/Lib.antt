@@ -1,3 +1,4 @@
 pub mod CallLaws
 pub mod Numbered
 pub mod TableNumbered
+pub mod SoundNumbered

@@ -1,5 +1,6 @@
 pub mod Version
 pub mod Numbers
 pub mod TableNumbers
+pub mod SoundNumbers
 pub mod Answered
 pub mod Numbered

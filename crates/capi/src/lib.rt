@@ -1,4 +1,4 @@
-// The calls of reader, editor and table for programs in C; include/blorb.h declares them.
+// The calls of reader, editor and table for programs in C; include/blorb.h declares them. The call on sounds has a module of its own.
 use blorb::Usage;
 use editor::Answer;
 use editor::Outcome;
@@ -9,6 +9,9 @@ use table::Built;
 use table::Checked;
 use table::Found;
 use table::Searched;
+
+mod sounds;
+
 ghost use mathlib.Core.Path.{_≡_};
 ghost use lib.ListN.{length};
 ghost use lib.Dec.{leb};
@@ -82,12 +85,12 @@ pub struct SearchAnswer {
     pub probes: usize,
 }
 
-// The archive's version: 2.0.0.
+// The archive's version: 2.1.0.
 #[no_mangle]
 pub extern "C" fn blorb_version() -> u32
-    ensures { λ r. ⌜ r ≡ versionNumber 2 0 0 ⌝ }
+    ensures { λ r. ⌜ r ≡ versionNumber 2 1 0 ⌝ }
 {
-    2000000
+    2001000
 }
 
 // The verdict under a profile, 0 plain and 1 ADRIFT: the length and the entry count of an accepted file.

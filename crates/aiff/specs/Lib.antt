@@ -1,0 +1,5 @@
+pub mod Rate
+pub mod Common
+pub mod Seeing
+pub mod Length
+pub mod Meaning
