@@ -2,8 +2,8 @@
  * blorb.h: the C interface of the Blorb library.
  *
  * A Blorb file is one IFF file with the pictures, sounds, data and code of a text adventure. These calls read it, look a
- * resource up, tell how long a sound plays, edit the file in place, take edits back, and keep a finding table beside it. docs/RULES.md of the
- * library's source says what a file must keep and what each call makes of it.
+ * resource up, tell how long a sound plays, edit the file in place, take edits back, and keep a finding table beside it. Two more read the artists'
+ * group files, IFF files of another kind. docs/RULES.md of the library's source says what a file must keep and what each call makes of it.
  *
  * Each call that takes a Blorb file takes a profile as well: BLORB_PLAIN, or BLORB_ADRIFT for files of the ADRIFT house, which may have a few
  * types more. Whoever edits in C is best served by the functions over blorb_editor at the end, which keep the lengths and the profile.
@@ -11,8 +11,9 @@
  * What is promised of every call, for all bytes, lengths and numbers that can be given to it:
  *
  *   - It answers. Nothing is allocated, nothing is kept between calls, no lock is taken, and nothing is printed.
- *   - It does not recurse. A call that stands under "Editing" takes at most BLORB_STACK_EDITING bytes of stack, every other one at most
- *     BLORB_STACK_READING (this is checked in the machine code and measured, not proved).
+ *   - It takes little stack: at most BLORB_STACK_EDITING bytes where it stands under "Editing", BLORB_STACK_GROUPS under "Group files", and
+ *     BLORB_STACK_READING elsewhere (this is checked in the machine code and measured, not proved). The calls on group files recurse, once for each
+ *     level of nesting and never deeper than 16 levels, whatever the file says; no other call recurses.
  *   - The answer's `refusal` is 0 where the call was carried out; else it is one of the numbers below, and `place` is where
  *     in the file the reason lies (0 where a number has no place).
  *   - A refused call has written nothing: every lent byte is as it was. The `length` and `used` that a refused edit or undo hands
@@ -56,10 +57,10 @@ extern "C" {
 
 /* The version of this header, as one number major * 1000000 + minor * 1000 + patch. A major version may change what a call takes. */
 #define BLORB_VERSION_MAJOR 2
-#define BLORB_VERSION_MINOR 1
+#define BLORB_VERSION_MINOR 2
 #define BLORB_VERSION_PATCH 0
 #define BLORB_VERSION (BLORB_VERSION_MAJOR * 1000000 + BLORB_VERSION_MINOR * 1000 + BLORB_VERSION_PATCH)
-#define BLORB_VERSION_TEXT "2.1.0"
+#define BLORB_VERSION_TEXT "2.2.0"
 
 /* The version of the archive that the program is linked with: BLORB_VERSION, where header and archive belong together. */
 uint32_t blorb_version(void);
@@ -72,7 +73,10 @@ enum {
     BLORB_ENTRY_SIZE = 12,     /* bytes that an entry takes in the index */
     BLORB_HEADER_SIZE = 8,     /* bytes before a chunk's data */
     BLORB_RECORD_SIZE = 29,    /* bytes of a journal record besides the old data that it keeps */
-    BLORB_ROW_NUMBERS = 3      /* numbers of 32 bits in a row of a finding table */
+    BLORB_ROW_NUMBERS = 3,     /* numbers of 32 bits in a row of a finding table */
+    BLORB_FORM_NUMBERS = 4,    /* numbers of 32 bits in a row of the list of FORMs */
+    BLORB_FORM_SIZE = 12,      /* bytes that a FORM has at least: header and type */
+    BLORB_MAX_DEPTH = 16       /* levels of a group file, at most */
 };
 
 /*
@@ -81,8 +85,9 @@ enum {
  * the figure of each call.
  */
 enum {
-    BLORB_STACK_READING = 768, /* at most, for every call but those that edit; 673 as compiled */
-    BLORB_STACK_EDITING = 1024 /* at most, for editing; 721 as compiled */
+    BLORB_STACK_READING = 768,  /* at most, for every call but those below; 673 as compiled */
+    BLORB_STACK_EDITING = 1024, /* at most, for editing; 721 as compiled */
+    BLORB_STACK_GROUPS = 6144   /* at most, for group files of 16 levels; 4776 as compiled */
 };
 
 /* Usages and types as numbers: the four bytes, the first one highest. */
@@ -146,6 +151,16 @@ enum {
     /* The finding table. */
     BLORB_TABLE_ROOM = 34,      /* the slice is too small for the table, or for the table turned; place 0 */
     BLORB_TABLE_STALE = 35,     /* the table is not this file's; place: the first differing row from 0, or the smaller row count */
+
+    /*
+     * The group file; place: the chunk's start, but of bytes behind the top the first of them. The first place in the file decides, and at one place
+     * the first of these. BLORB_TOO_LONG comes before them.
+     */
+    BLORB_GROUP_SIZE = 41,      /* a header cut short, a size running past what holds the chunk, or a FORM, group or 'PROP' of under 4 data bytes */
+    BLORB_GROUP_DEPTH = 42,     /* a FORM or group deeper than BLORB_MAX_DEPTH */
+    BLORB_GROUP_MEMBER = 43,    /* a chunk that may not stand there, another kind of top, or bytes behind the top */
+    BLORB_GROUP_PADDING = 44,   /* the padding byte of an odd chunk is missing or not zero */
+    BLORB_FORMS_ROOM = 45,      /* the slice is too small for the list of FORMs; place 0 */
 
     /* The sound; place 0. */
     BLORB_NOT_AIFF = 49,        /* not one 'FORM' of type 'AIFF' and of just these bytes, filled by whole chunks with their padding */
@@ -286,6 +301,34 @@ blorb_build_answer blorb_table_to_rows(const uint32_t *columns, size_t numbers, 
 /* As blorb_table_check and blorb_table_search, of a table in columns. A search reads usages and numbers, and one start. */
 blorb_check_answer blorb_columns_check(const uint8_t *file, size_t size, uint32_t profile, const uint32_t *columns, size_t numbers);
 blorb_search_answer blorb_columns_search(const uint32_t *columns, size_t numbers, const char usage[4], uint32_t number);
+
+/*
+ * Group files (EA IFF 85). Artists send many pictures in one file: 'LIST' and 'CAT ' groups that hold FORMs. The file is the whole array of `size`
+ * bytes; it is only read, and no profile is asked for. It is one chunk, the top, which is a FORM or a group at depth 1, with its padding; whatever stands
+ * in a FORM, a group or a 'PROP' is one level deeper. A FORM holds plain chunks, FORMs and groups. A group holds FORMs and groups, and a 'LIST' may
+ * begin with 'PROP's, which hold plain chunks. Every FORM, group and 'PROP' has four bytes of type before what it holds; these are not judged. At most
+ * BLORB_MAX_SIZE bytes and BLORB_MAX_DEPTH levels. A Blorb file and an AIFF sound are FORMs, and can be given to these calls too.
+ *
+ * The time is proportional to the file's chunks, down to the first fault; the data of plain chunks is not looked at.
+ */
+
+/*
+ * The FORMs in the order of the file, at the front of the slice of `numbers` numbers; the numbers behind the last row stay. Four to a row: the FORM's
+ * type (BLORB_TAG), where it starts, its length field, and its depth. FORMs inside of FORMs have rows too, and a top that is a FORM is row 0. A file of
+ * `size` bytes has at most size / BLORB_FORM_SIZE FORMs. The file is walked twice. Refusals 1, 41 to 44, 45.
+ */
+blorb_build_answer blorb_forms_list(const uint8_t *file, size_t size, uint32_t *rows, size_t numbers);
+
+/* Of a refused call: start and length 0. */
+typedef struct blorb_pick_answer {
+    uint64_t refusal;
+    uint64_t place;
+    uint64_t start;  /* where the FORM begins: file + start */
+    uint64_t length; /* its bytes, header in and padding out: the length field + BLORB_HEADER_SIZE */
+} blorb_pick_answer;
+
+/* FORM number i of the list, counted from 0; no list is needed. Refusals 1, 41 to 44, then 22 where i is not below the number of rows. */
+blorb_pick_answer blorb_forms_pick(const uint8_t *file, size_t size, size_t i);
 
 /*
  * Editing. The file is the first `length` bytes of a buffer of `size` bytes; the journal's records are the first `used` bytes of

@@ -5,6 +5,7 @@
  *     places in their tables; the calls are the four questions, then the edits.
  */
 #include "check.h"
+#include "groups.h"
 #include "sounds.h"
 #include "tables.h"
 #include "timing.h"
@@ -195,6 +196,8 @@ static int print_times(void)
     print_columns();
     puts("\n## Sounds\n");
     print_sounds();
+    puts("\n## Group files\n");
+    print_groups();
     return 0;
 }
 

@@ -15,7 +15,9 @@ typedef struct request {
     char type[4];
     const char *data;   /* the path of the data, "-" for standard input */
     uint32_t edits;     /* how many `undo` takes back */
-    const char *out;    /* where `get` writes; null or "-" for standard output */
+    int picks_form;     /* `forms` is given a number, this one */
+    uint32_t form;
+    const char *out;    /* where `get` and `forms` write; null or "-" for standard output */
     const char *folder; /* where `get --all` writes */
     int as_is;          /* data that contradicts its type is taken */
     int no_undo;        /* no journal is kept */
@@ -28,6 +30,7 @@ int run_check(const request *r);
 int run_table(const request *r);
 int run_find(const request *r);
 int run_get(const request *r);
+int run_forms(const request *r);
 int run_new(const request *r);
 int run_add(const request *r);
 int run_replace(const request *r);

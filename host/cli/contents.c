@@ -87,9 +87,9 @@ int say_reason(const contents *c, const char *shown)
     return say_meaning(shown, c->read.refusal, about, advice_for(c));
 }
 
-int load_contents(contents *c, const char *shown, int fd, uint32_t profile)
+int load_bytes(contents *c, const char *shown, int fd)
 {
-    *c = (contents){.profile = profile};
+    *c = (contents){.length = 0};
     if (fd < 0)
         return say_failed(shown, "the file cannot be opened");
     c->file = malloc(BLORB_MAX_SIZE + 1);
@@ -99,8 +99,15 @@ int load_contents(contents *c, const char *shown, int fd, uint32_t profile)
         done = read_all(fd, c->file, BLORB_MAX_SIZE + 1, &c->length);
     int status = done == 0 ? CARRIED_OUT : say_failed(shown, "the file cannot be read");
     close(fd);
+    return status;
+}
+
+int load_contents(contents *c, const char *shown, int fd, uint32_t profile)
+{
+    int status = load_bytes(c, shown, fd);
     if (status != CARRIED_OUT)
         return status;
+    c->profile = profile;
     c->read = blorb_read(c->file, c->length, profile);
     return c->read.refusal == BLORB_DONE ? CARRIED_OUT : REFUSED;
 }

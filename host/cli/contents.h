@@ -17,7 +17,10 @@ typedef struct contents {
     blorb_read_answer read;
 } contents;
 
-/* Reads an open file, closes it and judges it under a profile. What fails is said. Gives the exit status. `c` is to be freed in any case. */
+/* Reads an open file, whatever it holds, and closes it. What fails is said. Gives the exit status. `c` is to be freed in any case. */
+int load_bytes(contents *c, const char *shown, int fd);
+
+/* The same, and judges it under a profile. */
 int load_contents(contents *c, const char *shown, int fd, uint32_t profile);
 
 /* Says why the library refused the file, with number and place or without. Gives REFUSED. */

@@ -33,6 +33,8 @@ static const command commands[] = {
      "check FILE.table, and find the start of a resource's chunk by it", run_find},
     {"get", "fun", "oa", "get FILE USAGE NUMBER [-o OUT], or get FILE --all FOLDER",
      "write a resource's data to OUT; without it, or with -, to standard output; --all writes every resource to FOLDER", run_get},
+    {"forms", "fI", "o", "forms FILE [N] [-o OUT]",
+     "list the FORMs of an artists' group file (IFF with LIST and CAT), from 0; or write FORM N, a whole file, to OUT or standard output", run_forms},
     {"new", "f", "", "new FILE", "make a file with no resources", run_new},
     {"add", "funTd", "sn", "add FILE USAGE NUMBER [TYPE] DATAFILE [--as-is] [--no-undo]",
      "add a resource with the data of DATAFILE; - is standard input", run_add},
@@ -54,7 +56,7 @@ typedef struct operand {
     const char *name;
 } operand;
 
-static const operand operands[] = {{'f', "FILE"}, {'u', "USAGE"}, {'n', "NUMBER"}, {'t', "TYPE"}, {'d', "DATAFILE"}, {'e', "N"},
+static const operand operands[] = {{'f', "FILE"}, {'u', "USAGE"}, {'n', "NUMBER"}, {'t', "TYPE"}, {'d', "DATAFILE"}, {'e', "N"}, {'i', "N"},
                                    {'v', "NEWUSAGE"}, {'m', "NEWNUMBER"}};
 
 typedef struct option {
@@ -145,6 +147,9 @@ static const char *read_operand(char letter, const char *text, request *r)
         return read_tag(text, r->type) == 0 ? NULL : "a type has one to four letters";
     case 'e':
         return read_number(text, &r->edits) == 0 && r->edits > 0 ? NULL : "N is how many edits to take back, from 1, in digits";
+    case 'i':
+        r->picks_form = 1;
+        return read_number(text, &r->form) == 0 ? NULL : "N is the number of a FORM in the list, from 0, in digits";
     default:
         r->data = text;
         return NULL;
@@ -297,6 +302,8 @@ static int run_command(const command *c, uint32_t profile, int count, char **giv
         status = misused(c, "either -o OUT or --all FOLDER", "");
     if (status == CARRIED_OUT)
         status = read_operands(c, r.folder != NULL ? "f" : c->operands, &left, &r);
+    if (status == CARRIED_OUT && c->run == run_forms && r.out != NULL && !r.picks_form)
+        status = misused(c, "-o is for one FORM, whose N is missing", "");
     if (status == CARRIED_OUT)
         status = refuse_own_names(&r);
     return status == CARRIED_OUT ? c->run(&r) : status;

@@ -13,6 +13,7 @@
 #include "commands.h"
 #include "contents.h"
 #include "files.h"
+#include "reading.h"
 #include "tables.h"
 #include "undo_file.h"
 #include "warnings.h"
@@ -87,12 +88,19 @@ static int put(const request *r, const char *out, const contents *c, bytes held)
     if (missing)
         return put_in_file(r, out, NULL, held);
     if (old.st_dev == c->status.st_dev && old.st_ino == c->status.st_ino)
-        return say_cannot(out, "the data would overwrite the Blorb file itself", advice);
+        return say_cannot(out, "the data would overwrite FILE itself", advice);
     if (!S_ISREG(old.st_mode))
         return put_in_device(out, held);
     if (access(out, W_OK) != 0)
         return say_failed(out, "the file may not be overwritten");
     return put_in_file(r, out, &old, held);
+}
+
+int put_where_asked(const request *r, const contents *c, bytes held)
+{
+    if (r->out == NULL || strcmp(r->out, "-") == 0)
+        return put_on_output(held);
+    return put(r, r->out, c, held);
 }
 
 static int get_one(const request *r, const contents *c)
@@ -102,10 +110,7 @@ static int get_one(const request *r, const contents *c)
     show_pair(r->usage, r->number, pair);
     if (found.refusal != BLORB_DONE)
         return say_refused(r->file, found.refusal, found.place, pair, NULL);
-    bytes held = {c->file + found.start, (size_t)found.length};
-    if (r->out == NULL || strcmp(r->out, "-") == 0)
-        return put_on_output(held);
-    return put(r, r->out, c, held);
+    return put_where_asked(r, c, (bytes){c->file + found.start, (size_t)found.length});
 }
 
 /* Four letters for a file's name: without the spaces at the end, and nothing else but letters and digits. */

@@ -48,6 +48,10 @@ static const remedy remedies[] = {
      "Past edits are kept in FILE.undo. If FILE was moved or renamed, move that along under the same new name."},
     {BLORB_WHOLE_FORM, "Give the whole AIFF file as it was saved, its first eight bytes included and nothing behind its end, or another type.\n  " TYPES},
     {BLORB_TABLE_STALE, "`blorb table FILE` writes it anew."},
+    {BLORB_GROUP_SIZE, "It was cut short on its way, or a program wrote a length wrong: get the file again, or have it saved again."},
+    {BLORB_GROUP_DEPTH, "Have the file saved with fewer groups inside of groups."},
+    {BLORB_GROUP_MEMBER, "Have the file saved again, as one FORM, LIST or CAT; or check its name: it may be no IFF file."},
+    {BLORB_GROUP_PADDING, "Have the file saved again with a program that writes a zero byte behind each chunk of odd length."},
     {BLORB_NOT_AIFF, "Save the sound again as plain AIFF. Some programs (SoX is one) leave out the last padding byte where the samples have an odd\n"
      "  number of bytes: 16 bits to a sample help there."},
     {BLORB_COMMON, "Save the sound again as plain AIFF with another program."},

@@ -75,6 +75,16 @@ const char *blorb_sentence(uint64_t refusal)
         return "there is no room for the finding table";
     case BLORB_TABLE_STALE:
         return "the finding table is not this file's, from that row on; it may be of an older file, of another one, or damaged";
+    case BLORB_GROUP_SIZE:
+        return "a chunk of the group file is cut short, runs past what holds it, or lacks the four bytes of its type";
+    case BLORB_GROUP_DEPTH:
+        return "a FORM or group stands deeper than 16 levels";
+    case BLORB_GROUP_MEMBER:
+        return "a chunk stands where it may not, the file is not one FORM, 'LIST' or 'CAT ', or something stands behind that";
+    case BLORB_GROUP_PADDING:
+        return "the padding byte behind a chunk of odd length is missing or not zero, in the group file";
+    case BLORB_FORMS_ROOM:
+        return "there is no room for the list of FORMs";
     case BLORB_NOT_AIFF:
         return "the sound is not a single 'FORM' of type 'AIFF' that its chunks fill exactly";
     case BLORB_COMMON:

@@ -38,6 +38,11 @@ _blorb_types() { # usage, --adrift or nothing
     esac
 }
 
+# The numbers of a group file's FORMs.
+_blorb_forms() { # program, file
+    "$1" forms "$2" 2> /dev/null | sed -n 's/^ *\([0-9][0-9]*\): .*/\1/p'
+}
+
 # The numbers that the file has for a usage.
 _blorb_numbers() { # program, file, usage, --adrift or nothing
     "$1" list "$2" ${4:+"$4"} 2> /dev/null | sed -n "s/^$3 *\([0-9][0-9]*\) at .*/\1/p"
@@ -75,6 +80,10 @@ _blorb() {
         USAGE | NEWUSAGE) mapfile -t COMPREPLY < <(compgen -W 'Pict Snd Data Exec' -- "$now") ;;
         TYPE) mapfile -t COMPREPLY < <(compgen -W "$(_blorb_types "${COMP_WORDS[3]}" "$adrift")" -- "$now"; compgen -f -- "$now") ;;
         NUMBER) mapfile -t COMPREPLY < <(compgen -W "$(_blorb_numbers "$program" "${COMP_WORDS[2]}" "${COMP_WORDS[3]}" "$adrift")" -- "$now") ;;
+        N)
+            COMPREPLY=()
+            [ "${COMP_WORDS[1]}" != forms ] || mapfile -t COMPREPLY < <(compgen -W "$(_blorb_forms "$program" "${COMP_WORDS[2]}")" -- "$now")
+            ;;
         NEWNUMBER) COMPREPLY=() ;;
         COMMAND) mapfile -t COMPREPLY < <(compgen -W "$(_blorb_commands "$program")" -- "$now") ;;
         FOLDER) mapfile -t COMPREPLY < <(compgen -d -- "$now") ;;

@@ -72,6 +72,14 @@ mod raw {
         pub seconds: u32,
     }
 
+    #[repr(C)]
+    pub struct Pick {
+        pub refusal: u64,
+        pub place: u64,
+        pub start: u64,
+        pub length: u64,
+    }
+
     #[rustfmt::skip]
     extern "C" {
         pub fn blorb_version() -> u32;
@@ -85,6 +93,8 @@ mod raw {
         pub fn blorb_read(file: *const u8, size: usize, profile: u32) -> Read;
         pub fn blorb_entry(file: *const u8, size: usize, profile: u32, i: usize) -> Entry;
         pub fn blorb_lookup(file: *const u8, size: usize, profile: u32, usage: *const u8, number: u32) -> Lookup;
+        pub fn blorb_forms_list(file: *const u8, size: usize, rows: *mut u32, numbers: usize) -> Build;
+        pub fn blorb_forms_pick(file: *const u8, size: usize, i: usize) -> Pick;
         pub fn blorb_aiff_length(bytes: *const u8, size: usize) -> Aiff;
         pub fn blorb_blank(file: *mut u8, size: usize) -> Edit;
         pub fn blorb_add(file: *mut u8, size: usize, length: usize, journal: *mut u8, journal_size: usize, used: usize,
@@ -283,6 +293,16 @@ pub fn table_turn(form: Form, table: &mut Lent, count: usize, second: &mut Lent,
     reading(answer.refusal, answer.place, [answer.rows])
 }
 
+pub fn forms_list(file: &mut Lent, rows: &mut Lent, count: usize) -> Reading<1> {
+    let answer = unsafe { raw::blorb_forms_list(file.pointer(), file.size, numbers(rows), count) };
+    reading(answer.refusal, answer.place, [answer.rows])
+}
+
+pub fn forms_pick(file: &mut Lent, i: usize) -> Reading<2> {
+    let answer = unsafe { raw::blorb_forms_pick(file.pointer(), file.size, i) };
+    reading(answer.refusal, answer.place, [answer.start, answer.length])
+}
+
 fn edited(answer: raw::Edit) -> Answer {
     Answer { refusal: answer.refusal, place: answer.place, length: answer.length, used: answer.used }
 }
@@ -370,6 +390,10 @@ pub fn on_huge_arrays(zeros: &mut [u8]) -> Vec<(&'static str, String, String)> {
         check("remove from a huge file", numbers(remove), [1, 0, huge as u64, 0]);
         let remove = raw::blorb_remove(z, huge, huge, j, 100, 0, unknown, usage, 7);
         check("remove from a huge file, unknown profile", numbers(remove), [52, 0, huge as u64, 0]);
+        let listed = raw::blorb_forms_list(z, huge, ptr::null_mut(), 0);
+        check("list of a huge group file", [listed.refusal, listed.place, listed.rows, 0], [1, 0, 0, 0]);
+        let picked = raw::blorb_forms_pick(z, huge, huge);
+        check("pick from a huge group file", [picked.refusal, picked.place, picked.start, picked.length], [1, 0, 0, 0]);
         // A sound whose length agrees with the size less 8 only where 32 bits are looked at.
         zeros[..4].copy_from_slice(b"FORM");
         zeros[4..8].copy_from_slice(&((huge - 8) as u32).to_be_bytes());

@@ -135,10 +135,11 @@ def ended_at_every_step(work):
 
 
 def single_calls(work):
-    """new and get -o: the words, the name of the file written, what it was before, and what it becomes."""
+    """new, get -o and forms -o: the words, the name of the file written, what it was before, and what it becomes."""
     get = "get", work / FILE, "Pict", "1", "-o", work / "out"
+    forms = "forms", work / FILE, "0", "-o", work / "out"      # a Blorb file is a FORM
     return [(("new", work / "n.blb"), "n.blb", None, editing_reference.BLANK),
-            (get, "out", None, jpeg()), (get, "out", b"old", jpeg())]
+            (get, "out", None, jpeg()), (get, "out", b"old", jpeg()), (forms, "out", None, START), (forms, "out", b"old", START)]
 
 
 def single_before(work, name, old):
@@ -146,7 +147,7 @@ def single_before(work, name, old):
 
 
 def single_files(work):
-    """new and get -o, ended at every step: there is the old file or the whole new one."""
+    """new, get -o and forms -o, ended at every step: there is the old file or the whole new one."""
     for words, name, old, wanted in single_calls(work):
         seen = set()
         for n in itertools.count(1):
@@ -158,7 +159,7 @@ def single_files(work):
             if status == 0:
                 break
             same(status, ENDED_BY_SHIM, f"{words} at step {n}")
-            same(done(*words) if left == old or words[0] == "get" else b"", b"", f"{words} once more")
+            same(done(*words) if left == old or words[0] != "new" else b"", b"", f"{words} once more")
             same(contents(work)[name], wanted, f"{words} once more")
         same(seen, {old, wanted}, f"{words}: both were met")
 
@@ -173,7 +174,7 @@ def steps_of(work, *words, **more):
 
 
 def single_files_failing(work):
-    """new and get -o, each step failing instead: what is said about the file is so, and nothing else is left."""
+    """new, get -o and forms -o, each step failing instead: what is said about the file is so, and nothing else is left."""
     for words, name, old, wanted in single_calls(work):
         single_before(work, name, old)
         said = set()

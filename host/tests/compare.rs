@@ -4,6 +4,7 @@
 
 mod archive;
 mod fence;
+mod forms;
 mod generate;
 mod large;
 mod reference;
@@ -188,6 +189,9 @@ pub fn check_file_under(tally: &mut Tally, rng: &mut Rng, file: &[u8], profile: 
         check_reading(tally, ["lookup", "lookup 52"], &arguments, &read, expected, found);
     }
     tables::check(tally, rng, &mut lent, &read);
+    if rng.chance(10) {
+        let _ = forms::check(tally, rng, file);
+    }
     if let Some(complaint) = lent.complaint("file", file) {
         tally.fail(&format!("reading file={}", hex(file)), &complaint);
     }
@@ -372,8 +376,8 @@ pub fn check_call_and_52(tally: &mut Tally, rng: &mut Rng, call: &Call, state: &
 
 type Family = fn(&mut Tally, &mut Rng);
 
-/// The share of the cases that each family has: those of Blorb files make 100, sounds come besides.
-const FAMILIES: [(usize, Family); 11] = [
+/// The share of the cases that each family has: those of Blorb files make 100, sounds and group files come besides.
+const FAMILIES: [(usize, Family); 12] = [
     (20, valid_files),
     (16, single_faults),
     (12, double_faults),
@@ -385,6 +389,7 @@ const FAMILIES: [(usize, Family); 11] = [
     (1, blanks),
     (3, runs),
     (14, sounds::sounds),
+    (14, forms::group_files),
 ];
 const SHARES: usize = shares(&FAMILIES);
 
@@ -692,6 +697,13 @@ fn rows() -> Vec<(&'static str, Vec<u64>)> {
         ("table_to_rows", vec![0, 34]),
         ("columns_search", vec![0, 22]),
         ("blank", vec![0, 24]),
+        ("forms_list", vec![0, 1, 41, 42, 43, 44, 45]),
+        ("forms_pick", vec![0, 1, 22, 41, 42, 43, 44]),
+        ("forms built", vec![0, 41, 42, 43, 44]),
+        ("forms damaged", vec![0, 41, 42, 43, 44]),
+        // 10 j + k where 40 + j decided and 40 + k held at the same place; and the depth of the deepest FORM, 0 for none.
+        ("forms behind", vec![12, 13, 14, 23, 24, 34]),
+        ("forms deepest", (0..=16).collect()),
         ("aiff_length", vec![0, 49, 50, 51]),
         // Sounds by their faults: 1 of the form, 2 of 'COMM', 4 of the rate, and sums of these; and what adding them as resources was answered.
         ("aiff faults", (0..8).collect()),
@@ -752,7 +764,8 @@ fn print_table(tally: &Tally, complete: bool) -> bool {
     println!("link 116: 0 where the new entry is the later one, 1 where the old one is; length after: sums of a run's changes behind an edit of");
     println!("this kind, 0 behind an undo; either order, later wins: a replacement and an edit of this kind, all four calls carried out;");
     println!("aiff faults: sums of 1 for the form, 2 for 'COMM', 4 for the rate; aiff damaged: answers to these sounds damaged; aiff resource:");
-    println!("answers to adding them):");
+    println!("answers to adding them; forms built: by construction; forms behind: 10 j + k where 40 + j decided and 40 + k held at the same place;");
+    println!("forms deepest: depth of the deepest FORM, 0 for none):");
     let mut good = true;
     for (row, numbers) in rows() {
         let seen: BTreeMap<u64, u64> =

@@ -3,6 +3,7 @@
 //! A file is read into a list of chunks and a list of entries. An edit changes the lists, writes them out as a new file and
 //! judges that file like any other. Nothing here aims at speed.
 
+pub mod forms;
 pub mod sounds;
 
 use std::collections::{HashMap, HashSet};

@@ -3,7 +3,7 @@
 use crate::generate::{self, Rng};
 use crate::large::{add, expect, link, remove, replace};
 use crate::reference::{self, Call, Chunk, Entry, File, Record, Refusal, State, Tag, ADRIFT, PLAIN};
-use crate::{check_expected, check_file, sounds, Tally};
+use crate::{check_expected, check_file, forms, sounds, Tally};
 
 pub fn samples(tally: &mut Tally, rng: &mut Rng) {
     for profile in [PLAIN, ADRIFT] {
@@ -12,6 +12,7 @@ pub fn samples(tally: &mut Tally, rng: &mut Rng) {
     }
     profile_samples(tally, rng);
     sounds::samples(tally, rng);
+    forms::samples(tally, rng);
     for profile in [PLAIN, ADRIFT] {
         rng.profile = profile;
         whole_samples(tally, rng);

@@ -13,7 +13,10 @@
 
 enum { PAGE = 4096, STACK = 2 * PAGE, ROOM = 200000, DATA = 40001, WHOLE = 10000 };
 static uint8_t file[ROOM], wrong[ROOM], journal[ROOM], data[DATA], whole[WHOLE];
-static uint32_t table[6], columns[6];
+enum { MANY = 2000000 };
+static uint8_t nested[BLORB_FORM_SIZE * MANY];
+enum { ROWS = BLORB_FORM_NUMBERS * BLORB_MAX_DEPTH };
+static uint32_t table[6], columns[6], rows[ROWS];
 static ucontext_t outside, inside;
 static int calls;
 static uint32_t profile;
@@ -88,11 +91,54 @@ static void sound(void)
     gives(blorb_aiff_length(bytes, 38).refusal, BLORB_COMMON);
 }
 
+/* `count` headers, each chunk in the one before: `name` and `other` by turns, `apart` bytes from each other. Gives the file's length. */
+static size_t nest_apart(const char *name, const char *other, size_t count, size_t apart)
+{
+    for (size_t i = 0; i < count; i++) {
+        uint8_t *to = nested + apart * i;
+        size_t size = apart * (count - i) - BLORB_HEADER_SIZE;
+        memcpy(to, i % 2 == 0 ? name : other, 4);
+        for (int k = 0; k < 4; k++)
+            to[4 + k] = (uint8_t)(size >> (24 - 8 * k));
+        memcpy(to + 8, "ILBM", apart - 8);
+    }
+    return apart * count;
+}
+
+static size_t nest(const char *name, const char *other, size_t count)
+{
+    return nest_apart(name, other, count, BLORB_FORM_SIZE);
+}
+
+/* Group files of 16 levels, which take the most stack, of 17, of as many as there can be, and two million headers, with and without their types. */
+static void groups(void)
+{
+    static const char *const names[][2] = {{"FORM", "FORM"}, {"LIST", "FORM"}, {"FORM", "CAT "}, {"CAT ", "LIST"}};
+
+    for (size_t i = 0; i < 4; i++) {
+        size_t n = nest(names[i][0], names[i][1], BLORB_MAX_DEPTH);
+        done(blorb_forms_list(nested, n, rows, ROWS).refusal);
+        gives(blorb_forms_pick(nested, n, ROWS).refusal, BLORB_NOT_THERE);
+        memcpy(nested + n - 12, "PROP", 4);
+        gives(blorb_forms_list(nested, n, rows, ROWS).refusal, i == 1 ? BLORB_DONE : BLORB_GROUP_MEMBER); /* in a LIST it may stand */
+        n = nest(names[i][0], names[i][1], BLORB_MAX_DEPTH + 1);
+        gives(blorb_forms_list(nested, n, rows, ROWS).refusal, BLORB_GROUP_DEPTH);
+        n = nest(names[i][0], names[i][1], BLORB_MAX_SIZE / BLORB_FORM_SIZE);
+        gives(blorb_forms_list(nested, n, rows, ROWS).refusal, BLORB_GROUP_DEPTH);
+        gives(blorb_forms_pick(nested, n, 0).place, BLORB_FORM_SIZE * BLORB_MAX_DEPTH);
+        n = nest(names[i][0], names[i][1], MANY);
+        gives(blorb_forms_list(nested, n, rows, ROWS).refusal, BLORB_TOO_LONG);
+        n = nest_apart(names[i][0], names[i][1], MANY, BLORB_HEADER_SIZE);
+        gives(blorb_forms_list(nested, n, rows, ROWS).refusal, BLORB_GROUP_SIZE);
+    }
+}
+
 static void every_call(void)
 {
     gives(blorb_version(), BLORB_VERSION);
     gives(blorb_sentence(BLORB_DONE) == NULL, 0);
     sound();
+    groups();
     blorb_edit_answer a = blorb_blank(file, ROOM);
     done(a.refusal);
     for (uint32_t i = 0; i < 3; i++) {

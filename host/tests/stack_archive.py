@@ -1,12 +1,13 @@
 """The stack of each call in the compiled archive, from its machine code: stack_archive.py ARCHIVE HEADER [--figures FILE].
 
 objdump shows the code. Each function is followed along all of its jumps, with the distance of the stack pointer from where it stood at the function's
-entry, and the calls that it makes give the call graph. Refused are: a cycle; a call through a pointer; a stack pointer that moves by an amount
-that is not in the code (alloca); a C function called other than memmove and memset; an array of over 64 bytes in what a reading call
-runs; and a call that takes more than the header's constant of its group.
+entry, and the calls that it makes give the call graph. Refused are: a cycle, but in a grouping call that of NESTED alone; a call through a pointer; a stack
+pointer that moves by an amount that is not in the code (alloca); a C function called other than memmove and memset; an array of over 64 bytes in what a
+reading or grouping call runs; and a call that takes more than the header's constant of its group.
 
 A call's figure is the bytes below its caller's stack pointer: return address, saved registers and locals on the deepest way down, up to the
-return address of a call of memmove or memset. What these two take by themselves belongs to the C library.
+return address of a call of memmove or memset. What these two take by themselves belongs to the C library. The functions of NESTED count LEVELS times: the
+largest distance at which one calls another for all levels but the last, and the deepest of them for that.
 """
 import argparse
 import re
@@ -14,7 +15,7 @@ import subprocess
 import sys
 from pathlib import Path
 
-from stack_calls import CALLS, MOST_ARRAY, groups_of_c, limits_of
+from stack_calls import CALLS, LEVELS, MOST_ARRAY, NESTED, SMALL, groups_of_c, limits_of
 
 OUTSIDE = ("memmove", "memset")
 RETURN = 8                # bytes of a return address
@@ -284,23 +285,33 @@ class Function:
         return largest
 
 
-def deepest(functions):
-    """Name to the bytes below its caller's stack pointer, and the way down; refuses cycles."""
-    depths = {}
+def deepest(functions, nested):
+    """Name to the bytes below its caller's stack pointer, and the way down; refuses cycles but among `nested`, which count as one function."""
+    depths, nested = {}, frozenset(nested) & functions.keys()
+
+    def once(name, above):
+        f = functions[name]
+        best, way = f.own, []
+        for depth, callee in f.calls:
+            if name in nested and callee in nested:
+                continue
+            below, path = of(callee, [*above, name])
+            if depth + below > best:
+                best, way = depth + below, path
+        return RETURN + best, [name, *way]
 
     def of(name, above):
         if name in OUTSIDE:
             return RETURN, [name]
-        if name in above:
-            raise Breach("recursion: " + " calls ".join([*above[above.index(name):], name]))
-        if name not in depths:
-            f = functions[name]
-            best, way = f.own, []
-            for depth, callee in f.calls:
-                below, path = of(callee, [*above, name])
-                if depth + below > best:
-                    best, way = depth + below, path
-            depths[name] = RETURN + best, [name, *way]
+        if again := [one for one in above if one == name or {one, name} <= nested]:
+            raise Breach("recursion: " + " calls ".join([*above[above.index(again[0]):], name]))
+        if name not in depths and name in nested:
+            step = max((RETURN + depth for one in nested for depth, callee in functions[one].calls if callee in nested), default=0)
+            last, way = max(once(one, above) for one in sorted(nested))
+            for one in nested:
+                depths[one] = (LEVELS - 1) * step + last, [f"{LEVELS} levels of up to {step}", *way] if step > 0 else way
+        elif name not in depths:
+            depths[name] = once(name, above)
         return depths[name]
 
     for name in functions:
@@ -320,7 +331,7 @@ def reached(functions, name):
 
 
 def check_arrays(f, call):
-    """What a reading call runs has no array of over 64 bytes, and nothing that fills or copies more at once."""
+    """What a reading or grouping call runs has no array of over 64 bytes, and nothing that fills or copies more at once."""
     if f.largest_array() > MOST_ARRAY:
         raise Breach(f"{f.name}, which {call} runs: an array of up to {f.largest_array()} bytes; {MOST_ARRAY} are allowed")
     outside = [callee for _, callee in f.calls if callee in OUTSIDE]
@@ -328,20 +339,26 @@ def check_arrays(f, call):
         raise Breach(f"{f.name}, which {call} runs: fills or copies bytes in bulk, {outside or 'by an instruction'}")
 
 
-def checked(archive, groups, limits, inner=()):
-    """Figure and way down of each call; raises Breach. `inner` are reading functions that have no C call, where the compiler has kept them apart."""
+def checked(archive, groups, limits, inner=(), nested=NESTED):
+    """
+    Figure and way down of each call; raises Breach. `inner` are reading and grouping functions that have no C call, where the compiler has kept them
+    apart; `nested` are those that may call each other, in grouping calls.
+    """
     code, tables = functions_of(archive), tables_of(archive)
     functions = {name: Function(name, where, lines, tables, code) for name, (where, lines) in code.items()}
-    depths = deepest(functions)
+    depths = deepest(functions, nested)
     for name in inner:
         for below in sorted(reached(functions, name)) if name in functions else []:
             check_arrays(functions[below], name)
     for name, group in groups.items():
         if name not in functions:
             raise Breach(f"the archive has no {name}")
-        if group == "reading":
+        if group in SMALL:
             for below in sorted(reached(functions, name)):
                 check_arrays(functions[below], name)
+        met = {one for one in nested & reached(functions, name) if nested & {callee for _, callee in functions[one].calls}}
+        if group != "grouping" and met:
+            raise Breach(f"recursion: {name}, which runs {', '.join(sorted(met))}")
         if depths[name][0] > limits[group]:
             raise Breach(f"{name}: {depths[name][0]} bytes of stack by {' > '.join(depths[name][1])}; the header allows {limits[group]}")
     return {name: depths[name] for name in groups}
@@ -361,7 +378,7 @@ def main():
     if exported(given.archive) != set(groups):
         sys.exit(f"stack_archive: stack_calls.py has not the archive's calls: {exported(given.archive) ^ set(groups)}")
     try:
-        inner = [source for group, c, source in CALLS if c is None and group == "reading"]
+        inner = [source for group, c, source in CALLS if c is None and group in SMALL]
         figures = checked(given.archive, groups, limits_of(given.header.read_text()), inner)
     except Breach as breach:
         sys.exit(f"stack_archive: {breach}")

@@ -1,8 +1,10 @@
 """The calls that the stack checks go through, by group: a request that adds a call adds its row here and in stack_depth.c.
 
 For each call its function in C, None where it has none, and in the source, None where it is plain C (host/library), which the source's check does not
-read. Of every call: nothing that it runs may recurse. The reading calls may besides hold no array of over 64 bytes. `LIMITS` names the group's
-constant in include/blorb.h, which the stack of its calls may not exceed.
+read. Of every call but the grouping ones: nothing that it runs may recurse. What the grouping calls run may recurse through the functions of `NESTED`
+alone, which are on the stack at most `LEVELS` times in all, whatever the file says (that is proved: the levels that are left fall at each call). The
+reading and grouping calls may besides hold no array of over 64 bytes. `LIMITS` names the group's constant in include/blorb.h, which the stack of its
+calls may not exceed.
 """
 import re
 
@@ -22,6 +24,9 @@ CALLS = [
     ("building", "blorb_table_build", "table::build"),
     ("building", "blorb_table_to_columns", "table::to_columns"),
     ("building", "blorb_table_to_rows", "table::to_rows"),
+    ("grouping", "blorb_forms_list", "groups::list"),
+    ("grouping", "blorb_forms_pick", "groups::pick"),
+    ("grouping", None, "groups::picked"),
     ("editing", "blorb_blank", "editor::blank"),
     ("editing", "blorb_add", "editor::add"),
     ("editing", "blorb_replace", "editor::replace"),
@@ -29,8 +34,11 @@ CALLS = [
     ("editing", "blorb_link", "editor::link"),
     ("editing", "blorb_undo", "editor::undo"),
 ]
-LIMITS = {"reading": "BLORB_STACK_READING", "building": "BLORB_STACK_READING", "editing": "BLORB_STACK_EDITING"}
-MOST_ARRAY = 64           # bytes of an array that a reading call may hold
+LIMITS = {"reading": "BLORB_STACK_READING", "building": "BLORB_STACK_READING", "grouping": "BLORB_STACK_GROUPS", "editing": "BLORB_STACK_EDITING"}
+SMALL = ("reading", "grouping")
+MOST_ARRAY = 64           # bytes of an array that a call of these groups may hold
+NESTED = frozenset({"groups::readers::form_in", "groups::readers::group_in"})
+LEVELS = 16
 MOST_IN_SOURCE = 4096     # bytes of arrays that an editing call may hold at once, if the compiler left all of them in
 
 

@@ -19,7 +19,7 @@
  * In stack_calls.py stand the same calls.
  */
 enum call {
-    READ, ENTRY, LOOKUP, AIFF, CHECK, SEARCH, COLUMNS_CHECK, COLUMNS_SEARCH, BUILD, TO_COLUMNS, TO_ROWS, BLANK, ADD, REPLACE, REMOVE, LINK, UNDO,
+    READ, ENTRY, LOOKUP, AIFF, FORMS, PICK, CHECK, SEARCH, COLUMNS_CHECK, COLUMNS_SEARCH, BUILD, TO_COLUMNS, TO_ROWS, BLANK, ADD, REPLACE, REMOVE, LINK, UNDO,
     VERSION, SENTENCE, CALLS
 };
 typedef void any(void);
@@ -36,6 +36,8 @@ static struct row {
     [ENTRY] = {"blorb_entry", (any *)blorb_entry, false, true, {22}, 0, {0}},
     [LOOKUP] = {"blorb_lookup", (any *)blorb_lookup, false, true, {22}, 0, {0}},
     [AIFF] = {"blorb_aiff_length", (any *)blorb_aiff_length, false, false, {49, 50, 51}, 0, {0}},
+    [FORMS] = {"blorb_forms_list", (any *)blorb_forms_list, false, false, {1, 41, 42, 43, 44, 45}, 0, {0}},
+    [PICK] = {"blorb_forms_pick", (any *)blorb_forms_pick, false, false, {1, 22, 41, 42, 43, 44}, 0, {0}},
     [CHECK] = {"blorb_table_check", (any *)blorb_table_check, true, true, {35}, 0, {0}},
     [SEARCH] = {"blorb_table_search", (any *)blorb_table_search, false, false, {22}, 0, {0}},
     [COLUMNS_CHECK] = {"blorb_columns_check", (any *)blorb_columns_check, true, true, {35}, 0, {0}},
@@ -133,6 +135,8 @@ static uint64_t build(const uint8_t *f, size_t n, size_t numbers) { return RUN(B
 static uint64_t to_columns(size_t numbers, size_t room) { return RUN(TO_COLUMNS, P(table), numbers, P(columns), room); }
 static uint64_t to_rows(size_t numbers, size_t room) { return RUN(TO_ROWS, P(columns), numbers, P(turned), room); }
 static uint64_t aiff(const uint8_t *sound, size_t n) { return RUN(AIFF, P(sound), n); }
+static uint64_t forms(const uint8_t *f, size_t n, size_t numbers) { return RUN(FORMS, P(f), n, P(table), numbers); }
+static uint64_t pick(const uint8_t *f, size_t n, size_t i) { return RUN(PICK, P(f), n, i); }
 static uint64_t blank(uint8_t *f, size_t size) { return RUN(BLANK, P(f), size); }
 
 /* A table's check and search; `c` tells its form. */
@@ -571,6 +575,77 @@ static void sounds(size_t n)
     wants(aiff(file, 11), BLORB_NOT_AIFF, "no sound");
 }
 
+/* `levels` chunks, each in the one before, `names` by turns; `inside` bytes of room in the last. Gives the file's length. */
+static size_t write_nested(uint8_t *f, const char *const names[2], size_t levels, size_t inside)
+{
+    for (size_t i = 0; i < levels; i++) {
+        memcpy(f + BLORB_FORM_SIZE * i, names[i % 2], 4);
+        put32(f + BLORB_FORM_SIZE * i + 4, BLORB_FORM_SIZE * (levels - i) - BLORB_HEADER_SIZE + inside);
+        memcpy(f + BLORB_FORM_SIZE * i + 8, "ILBM", 4);
+    }
+    return BLORB_FORM_SIZE * levels + inside;
+}
+
+/* Both calls on `n` bytes of the file. */
+static void grouping(size_t n, uint64_t refusal, const char *what)
+{
+    wants(forms(file, n, NUMBERS), refusal, what);
+    for (size_t i = 0; i < 20; i++)
+        if (pick(file, n, i) != BLORB_NOT_THERE)
+            wants(answer[0], refusal, what);
+}
+
+/* A file of so many levels: good, and with each fault in the innermost chunk that has room for a member. */
+static void grouped(const char *const names[2], size_t levels)
+{
+    static const struct {
+        const char *header; /* of a chunk of 12 bytes */
+        uint64_t in_form, in_group;
+    } members[] = {
+        {"BODY\0\0\0\4", 0, 43}, {"BODY\0\0\0\5", 41, 41}, {"BODY\0\0\0\3", 44, 43}, {"FORM\0\0\0\3", 41, 41}, {"FORM\0\0\0\4", 0, 0},
+        {"LIST\0\0\0\4", 0, 0}, {"CAT \0\0\0\4", 0, 0}, {"PROP\0\0\0\4", 43, 43}, {"BODY\0\0\0\1", 44, 43},
+    };
+    size_t n = write_nested(file, names, levels, 12), at = n - 12;
+    int last = names[(levels - 1) % 2][0];
+
+    for (size_t i = 0; i < sizeof members / sizeof *members; i++) {
+        const char *header = members[i].header;
+        uint64_t wanted = last == 'F' ? members[i].in_form : members[i].in_group;
+        if (last == 'L' && header[0] == 'P')
+            wanted = 0;
+        if (wanted != 41 && levels == BLORB_MAX_DEPTH && strchr("FLC", header[0]) != NULL)
+            wanted = 42;
+        memcpy(file + at, header, 8);
+        memcpy(file + at + 8, "ILB\1", 4);
+        grouping(n, wanted, header);
+    }
+}
+
+/* Group files by their levels, by what is wrong with the innermost chunk, and at the limits. */
+static void groups(void)
+{
+    static const char *const names[][2] = {{"FORM", "FORM"}, {"LIST", "LIST"}, {"CAT ", "CAT "}, {"FORM", "LIST"}, {"CAT ", "FORM"}, {"LIST", "CAT "}};
+
+    for (size_t i = 0; i < sizeof names / sizeof *names; i++) {
+        for (size_t levels = 1; levels <= BLORB_MAX_DEPTH; levels++)
+            grouped(names[i], levels);
+        grouping(write_nested(file, names[i], BLORB_MAX_DEPTH, 0), BLORB_DONE, "16 levels");
+        grouping(write_nested(file, names[i], BLORB_MAX_SIZE / BLORB_FORM_SIZE, 4), BLORB_GROUP_DEPTH, "1,398,101 levels");
+    }
+    grouping((size_t)BLORB_MAX_SIZE + 1, BLORB_TOO_LONG, "a file too long");
+    grouping(7, BLORB_GROUP_SIZE, "a header cut short");
+    grouping(write_nested(file, names[0], 1, 0) + 1, BLORB_GROUP_MEMBER, "a byte behind the top");
+    wants(forms(file, 12, BLORB_FORM_NUMBERS - 1), BLORB_FORMS_ROOM, "a list with no room");
+    wants(pick(file, 12, 1), BLORB_NOT_THERE, "a FORM that there is not");
+    /* A list that begins with 'PROP's at level 17, each with an odd chunk. */
+    size_t n = write_nested(file, names[1], BLORB_MAX_DEPTH, 48);
+    for (size_t at = n - 48; at < n; at += 24)
+        memcpy(file + at, "PROP\0\0\0\x10ILBMBODY\0\0\0\3eel", 24);
+    grouping(n, BLORB_DONE, "'PROP's at level 17");
+    memcpy(file + n - 12, "FORM\0\0\0\4", 8);
+    grouping(n, BLORB_GROUP_DEPTH, "a FORM in a 'PROP' at level 17");
+}
+
 /* The two calls that take no buffer. */
 static void plain_calls(void)
 {
@@ -640,6 +715,7 @@ int main(void)
         under_profile();
     sounds(46);
     sounds(BLORB_MAX_SIZE + 6);
+    groups();
     plain_calls();
     check_seen();
     for (enum call c = 0; c < CALLS; c++)

@@ -76,9 +76,17 @@ SOURCE = [
     ("a public function for C that is in no group", "lib", "fn step", 'pub extern "C" fn step', "reading", "one::step: a public function"),
     ("a public function for C in a module that is in no group", "deep", "pub fn", 'pub extern "C" fn', "reading", "one::deep::below: a public"),
     ("an unknown method", "deep", "small[0] as u64", "s.sum()", "reading", "does not know"),
+    ("the two that may call each other", "deep", "small[0] as u64", "crate::step(s, n)", "grouping", None),
+    ("one of them by itself", "deep", "small[0] as u64", "below(s, n)", "grouping", None),
+    ("a third one in their cycle", "deep", "small[0] as u64", "crate::read(s)", "grouping", "recursion: one::read"),
+    ("another cycle in a grouping call", "lib", "self.bytes[0] as u64", "self.first()", "grouping", "recursion: one::Kept::first"),
+    ("an array of 65 bytes in a grouping call", "deep", "[0u8; WIDTH]", "[0u8; 65]", "grouping", "array of 65 bytes"),
     ("a large array in an editing call", "deep", "[0u8; WIDTH]", "[0u8; 2048]", "editing", None),
     ("two arrays at once in an editing call", "deep", "[0u8; WIDTH]", "[[0u8; 2048]; 2]", "editing", "bytes of arrays by one::read"),
 ]
+
+# What may recurse in a planted grouping call.
+MAY_RECURSE = frozenset({"one::step", "one::deep::below", "step"})
 
 CODE = """
 typedef unsigned char byte;
@@ -86,12 +94,13 @@ typedef unsigned long u64;
 u64 strange(u64);
 void *memmove(void *, const void *, u64);
 u64 blorb_read(const byte *, u64, u64 (*)(u64));
-static __attribute__((noinline)) u64 step(const byte *s, u64 n, u64 (*f)(u64)) { @BODY@ }
+static __attribute__((noinline, noipa)) u64 step(const byte *s, u64 n, u64 (*f)(u64)) { @BODY@ }
 u64 blorb_read(const byte *s, u64 n, u64 (*f)(u64)) { u64 a = step(s, n, f); return a * 3 + s[n]; }
 """
 NUMBERS = "u64 tops[@N@] = {0}, i; for (i = 0; i < n; i++) if (tops[s[i] % @N@] <= s[i]) tops[s[i] % @N@] = s[i] + n; return tops[s[n] % @N@];"
 BYTES = "volatile byte t[@N@] = {0}; u64 i; for (i = 0; i < n; i++) t[s[i] % @N@] = s[i]; return t[s[n] % @N@];"
 EDITED = "volatile byte t[900] = {0}; u64 i; for (i = 0; i < n; i++) t[s[i]] = s[i]; return t[s[n]];"
+NESTS = "volatile byte t[@N@]; t[n % @N@] = s[0]; return n < 2 ? t[1] : t[s[1] % @N@] ^ step(s, n - 1, f) * 3;"
 CASES = """switch (n) { case 0: return s[1]; case 1: return s[7] * n; case 2: return s[s[2]]; case 3: return s[9] / (n + s[1]); case 4: return n ^ s[3];
 case 5: @LAST@; default: return s[6] + n; }"""
 ARCHIVE = [
@@ -110,6 +119,12 @@ ARCHIVE = [
     ("bytes copied in bulk", "memmove((void *)s, s + 1, n); return s[0];", "reading", ("in bulk",)),
     ("the same in an editing call", "memmove((void *)s, s + 1, n); return s[0];", "editing", None),
     ("more stack than the header allows", EDITED, "editing", ("header allows",)),
+    ("recursion of one that may", NESTS.replace("@N@", "8"), "grouping", None),
+    ("the same in a reading call", NESTS.replace("@N@", "8"), "reading", ("recursion",)),
+    ("the same in an editing call", NESTS.replace("@N@", "8"), "editing", ("recursion",)),
+    ("16 levels of it, more than the header allows", NESTS.replace("@N@", "60"), "grouping", ("header allows",)),
+    ("another one in its cycle", "return n < 2 ? 1 : s[n] ^ blorb_read(s, n - 2, f) * 3;", "grouping", ("recursion",)),
+    ("an array of 72 bytes in a grouping call", NUMBERS.replace("@N@", "9"), "grouping", ("array of", "in bulk")),
 ]
 
 
@@ -137,7 +152,7 @@ def source_plants(folder):
         place.mkdir(parents=True)
         for name, text in files.items():
             (place / f"{name}.rt").write_text(text)
-        found = said(lambda: stack_source.checked(folder / str(k), [(group, None, "one::read")]), stack_source.Breach)
+        found = said(lambda: stack_source.checked(folder / str(k), [(group, None, "one::read")], MAY_RECURSE), stack_source.Breach)
         judged(f"source, {what}", found, None if wanted is None else (wanted,))
 
 
@@ -149,8 +164,8 @@ def archive_plants(folder):
         code.write_text(CODE.replace("@BODY@", body))
         for sections in ("-ffunction-sections", "-fno-function-sections"):
             subprocess.run([*compiler, *flags, sections, "-o", str(built), str(code)], check=True)
-            limits = {"reading": 512, "editing": 768}
-            found = said(lambda: stack_archive.checked(built, {"blorb_read": group}, limits), stack_archive.Breach)
+            limits = {"reading": 512, "editing": 768, "grouping": 1024}
+            found = said(lambda: stack_archive.checked(built, {"blorb_read": group}, limits, nested=MAY_RECURSE), stack_archive.Breach)
             judged(f"archive, {what}, {sections}", found, wanted)
 
 

@@ -1,9 +1,9 @@
 """Recursion and arrays in the source: stack_source.py ROOT.
 
 Reads crates/*/src/*.rt and goes from each call of stack_calls.py, which has every public function of the crates that it names, through all functions
-that the call can reach. Refused are: a cycle; in a reading call an array of over 64 bytes; in an editing call arrays of over 4,096 bytes on one way
-down, counted as if the compiler left all of them in; and what the check cannot judge, as a function that it does not find or an array whose length
-is no plain number.
+that the call can reach. Refused are: a cycle, but in a grouping call that of NESTED alone; in a reading or grouping call an array of over 64 bytes;
+arrays of over 4,096 bytes on one way down, counted as if the compiler left all of them in and those of NESTED on each level; and what the check cannot
+judge, as a function that it does not find or an array whose length is no plain number.
 
 A method is taken to be every method of that name. An array is a type [T; N] or a value [x; N], [a, b] or *b"..", also within a structure that the
 function names; an element whose type is not written counts 8 bytes.
@@ -12,7 +12,7 @@ import re
 import sys
 from pathlib import Path
 
-from stack_calls import CALLS, MOST_ARRAY, MOST_IN_SOURCE
+from stack_calls import CALLS, LEVELS, MOST_ARRAY, MOST_IN_SOURCE, NESTED, SMALL
 
 SIZES = {"u8": 1, "i8": 1, "bool": 1, "u16": 2, "i16": 2, "u32": 4, "i32": 4, "char": 4, "f32": 4,
          "u64": 8, "i64": 8, "usize": 8, "isize": 8, "f64": 8, "u128": 16, "i128": 16}
@@ -242,26 +242,36 @@ class Source:
         return found
 
 
-def walked(source, root, most_array):
-    """Bytes of arrays on the deepest way down from the root, and that way; refuses cycles and, where it is given, a larger array."""
-    known = {}
+def walked(source, root, most_array, nested):
+    """
+    Bytes of arrays on the deepest way down from the root, and that way; refuses cycles and, where it is given, a larger array. The functions of
+    `nested` may call each other: they count as one that holds their arrays on each level.
+    """
+    known, nested = {}, frozenset(nested) & source.functions.keys()
 
     def of(name, above):
-        if name in above:
-            raise Breach("recursion: " + " calls ".join([*above[above.index(name):], name]))
+        if name in nested and above[-1:] and above[-1] in nested:
+            return 0, []                                     # within the one that they count as
+        if again := [one for one in above if one == name or {one, name} <= nested]:
+            raise Breach("recursion: " + " calls ".join([*above[above.index(again[0]):], name]))
         if name not in known:
-            held = source.held(name)
-            if most_array is not None and held and max(held) > most_array:
-                raise Breach(f"{name}, which {root} runs: an array of {max(held)} bytes; {most_array} are allowed")
-            below = [of(callee, [*above, name]) for callee in sorted(source.calls(name))]
+            together = sorted(nested) if name in nested else [name]
+            below, bytes_ = [], 0
+            for one in together:
+                held = source.held(one)
+                if most_array is not None and held and max(held) > most_array:
+                    raise Breach(f"{one}, which {root} runs: an array of {max(held)} bytes; {most_array} are allowed")
+                bytes_ += sum(held) * (LEVELS if name in nested else 1)
+                below += [of(callee, [*above, one]) for callee in sorted(source.calls(one))]
             deepest, way = max(below, key=lambda b: b[0], default=(0, []))
-            known[name] = sum(held) + deepest, [name, *way]
+            for one in together:
+                known[one] = bytes_ + deepest, [name, *way]
         return known[name]
 
     return of(root, []), len(known)
 
 
-def checked(root, calls):
+def checked(root, calls, nested=NESTED):
     """Of each call: its group, the bytes of arrays on its deepest way, that way, and how many functions it can reach."""
     source = Source(root / "crates")
     found, wanted = {}, {}
@@ -276,7 +286,7 @@ def checked(root, calls):
     for one, group in wanted.items():
         if one not in source.functions:
             raise Breach(f"there is no {one}")
-        (held, way), reached = walked(source, one, MOST_ARRAY if group == "reading" else None)
+        (held, way), reached = walked(source, one, MOST_ARRAY if group in SMALL else None, nested if group == "grouping" else frozenset())
         if held > MOST_IN_SOURCE:
             raise Breach(f"{one}: {held} bytes of arrays by {' > '.join(way)}; {MOST_IN_SOURCE} are allowed")
         found[one] = group, held, way, reached

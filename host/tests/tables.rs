@@ -7,11 +7,11 @@ use crate::reference::{self, Form, Refusal, Row};
 use crate::{hex, Read, Tally};
 
 /// The slice's numbers as bytes in the machine's order, as it is lent.
-fn lend(rng: &mut Rng, table: &[u32]) -> Lent {
+pub fn lend(rng: &mut Rng, table: &[u32]) -> Lent {
     Lent::new(&in_memory(table), rng.pick(&[0, 4, 8]))
 }
 
-fn in_memory(table: &[u32]) -> Vec<u8> {
+pub fn in_memory(table: &[u32]) -> Vec<u8> {
     table.iter().flat_map(|number| number.to_ne_bytes()).collect()
 }
 
@@ -48,7 +48,7 @@ fn rearranged(form: Form, table: &[u32]) -> Vec<u32> {
 }
 
 /// A slice with just enough room for so many numbers, up to three too few, room to spare, or any size up to a little more. It holds any numbers.
-fn slice_for(rng: &mut Rng, size: usize) -> Vec<u32> {
+pub fn slice_for(rng: &mut Rng, size: usize) -> Vec<u32> {
     let size = match rng.below(4) {
         0 => size,
         1 => size.saturating_sub(rng.between(1, 3)),

@@ -2,3 +2,4 @@ pub mod CallLaws
 pub mod Numbered
 pub mod TableNumbered
 pub mod SoundNumbered
+pub mod FormNumbered

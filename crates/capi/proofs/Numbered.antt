@@ -27,16 +27,16 @@ none : Numbered accept
 unfolding Numbered
 none = tt
 
-positive : (k p : ℕ) → Numbered (refuse k p) → 0 < k
+pub positive : (k p : ℕ) → Numbered (refuse k p) → 0 < k
 unfolding Numbered
 positive k p h = h
 
-one : (b : Bool) (k p : ℕ) → 0 < k → Numbered (check b k p)
+pub one : (b : Bool) (k p : ℕ) → 0 < k → Numbered (check b k p)
 unfolding check Numbered
 one true k p h = tt
 one false k p h = h
 
-both : (v w : Verdict) → Numbered v → Numbered w → Numbered (v then w)
+pub both : (v w : Verdict) → Numbered v → Numbered w → Numbered (v then w)
 unfolding _then_ Numbered
 both accept w hv hw = hw
 both (refuse k p) w hv hw = hv
@@ -46,7 +46,7 @@ either true v w hv hw = hv
 either false v w hv hw = hw
 
 -- a check, and what comes behind it
-more : (b : Bool) (k p : ℕ) (v : Verdict) → 0 < k → Numbered v → Numbered (check b k p then v)
+pub more : (b : Bool) (k p : ℕ) (v : Verdict) → 0 < k → Numbered v → Numbered (check b k p then v)
 more b k p v h hv = both (check b k p) v (one b k p h) hv
 
 head : (f : List ℕ) → Numbered (headFault f)

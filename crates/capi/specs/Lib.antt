@@ -2,5 +2,6 @@ pub mod Version
 pub mod Numbers
 pub mod TableNumbers
 pub mod SoundNumbers
+pub mod FormNumbers
 pub mod Answered
 pub mod Numbered

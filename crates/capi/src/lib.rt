@@ -1,4 +1,5 @@
-// The calls of reader, editor and table for programs in C; include/blorb.h declares them. The call on sounds has a module of its own.
+// The calls of reader, editor and table for programs in C; include/blorb.h declares them.
+// Sounds and group files have modules of their own.
 use blorb::Usage;
 use editor::Answer;
 use editor::Outcome;
@@ -10,6 +11,7 @@ use table::Checked;
 use table::Found;
 use table::Searched;
 
+mod forms;
 mod sounds;
 
 ghost use mathlib.Core.Path.{_≡_};
@@ -85,12 +87,12 @@ pub struct SearchAnswer {
     pub probes: usize,
 }
 
-// The archive's version: 2.1.0.
+// The archive's version: 2.2.0.
 #[no_mangle]
 pub extern "C" fn blorb_version() -> u32
-    ensures { λ r. ⌜ r ≡ versionNumber 2 1 0 ⌝ }
+    ensures { λ r. ⌜ r ≡ versionNumber 2 2 0 ⌝ }
 {
-    2001000
+    2002000
 }
 
 // The verdict under a profile, 0 plain and 1 ADRIFT: the length and the entry count of an accepted file.

@@ -1,0 +1,4 @@
+pub mod TreeRead
+pub mod TreeBack
+pub mod Grammar
+pub mod Sentences

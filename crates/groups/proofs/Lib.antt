@@ -1,0 +1,5 @@
+pub mod EventLaws
+pub mod ScanLaws
+pub mod TurnLaws
+pub mod FileLaws
+pub mod Order
