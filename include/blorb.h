@@ -2,8 +2,9 @@
  * blorb.h: the C interface of the Blorb library.
  *
  * A Blorb file is one IFF file with the pictures, sounds, data and code of a text adventure. These calls read it, look a
- * resource up, tell how long a sound plays, edit the file in place, take edits back, and keep a finding table beside it. Two more read the artists'
- * group files, IFF files of another kind. docs/RULES.md of the library's source says what a file must keep and what each call makes of it.
+ * resource up, tell how long a sound plays, scale a picture, edit the file in place, take edits back, and keep a finding table beside it.
+ * Two more read the artists' group files, IFF files of another kind. docs/RULES.md of the library's source says what a file must keep
+ * and what each call makes of it.
  *
  * Each call that takes a Blorb file takes a profile as well: BLORB_PLAIN, or BLORB_ADRIFT for files of the ADRIFT house, which may have a few
  * types more. Whoever edits in C is best served by the functions over blorb_editor at the end, which keep the lengths and the profile.
@@ -11,9 +12,10 @@
  * What is promised of every call, for all bytes, lengths and numbers that can be given to it:
  *
  *   - It answers. Nothing is allocated, nothing is kept between calls, no lock is taken, and nothing is printed.
- *   - It takes little stack: at most BLORB_STACK_EDITING bytes where it stands under "Editing", BLORB_STACK_GROUPS under "Group files", and
- *     BLORB_STACK_READING elsewhere (this is checked in the machine code and measured, not proved). The calls on group files recurse, once for each
- *     level of nesting and never deeper than 16 levels, whatever the file says; no other call recurses.
+ *   - It takes little stack: at most BLORB_STACK_EDITING bytes where it stands under "Editing", BLORB_STACK_GROUPS under "Group files",
+ *     BLORB_STACK_LISTS under "Scaled pictures", and BLORB_STACK_READING elsewhere (this is checked in the machine code and measured, not
+ *     proved). The calls on group files recurse, once for each level of nesting and never deeper than 16 levels, whatever the file says;
+ *     no other call recurses.
  *   - The answer's `refusal` is 0 where the call was carried out; else it is one of the numbers below, and `place` is where
  *     in the file the reason lies (0 where a number has no place).
  *   - A refused call has written nothing: every lent byte is as it was. The `length` and `used` that a refused edit or undo hands
@@ -29,10 +31,10 @@
  *   - Buffers that a call may write (no const) overlap no other buffer of the same call.
  *   - `usage` and `type` point at four bytes, such as "Pict" or "TEXT". No closing zero is needed.
  *
- * Every call that takes a profile judges the whole file first, each time. It looks at four bytes of a chunk's data at most, so the time
+ * Every call that takes a profile judges the whole file first, each time. That looks at four bytes of a chunk's data at most, so the time
  * does not depend on the size of the resources. It is proportional to entries + chunks where the numbers of each usage rise from entry to
  * entry. Where they do not, earlier pairs are looked through as well, and the time can grow to chunks + entries * entries. This holds for
- * refused files too. An edit besides moves the bytes behind what it changes, once.
+ * refused files too. An edit besides moves the bytes behind what it changes, once; what blorb_scaled takes besides stands with it.
  *
  * To go through an index, call blorb_read once: in an accepted file entry i stands at 24 + BLORB_ENTRY_SIZE * i, as usage, number and
  * start of its chunk, each of four bytes, the first one highest. Starts never fall from entry to entry, so a file can be played from front
@@ -57,10 +59,10 @@ extern "C" {
 
 /* The version of this header, as one number major * 1000000 + minor * 1000 + patch. A major version may change what a call takes. */
 #define BLORB_VERSION_MAJOR 2
-#define BLORB_VERSION_MINOR 2
+#define BLORB_VERSION_MINOR 3
 #define BLORB_VERSION_PATCH 0
 #define BLORB_VERSION (BLORB_VERSION_MAJOR * 1000000 + BLORB_VERSION_MINOR * 1000 + BLORB_VERSION_PATCH)
-#define BLORB_VERSION_TEXT "2.2.0"
+#define BLORB_VERSION_TEXT "2.3.0"
 
 /* The version of the archive that the program is linked with: BLORB_VERSION, where header and archive belong together. */
 uint32_t blorb_version(void);
@@ -87,7 +89,8 @@ enum {
 enum {
     BLORB_STACK_READING = 768,  /* at most, for every call but those below; 673 as compiled */
     BLORB_STACK_EDITING = 1024, /* at most, for editing; 721 as compiled */
-    BLORB_STACK_GROUPS = 6144   /* at most, for group files of 16 levels; 4776 as compiled */
+    BLORB_STACK_GROUPS = 6144,  /* at most, for group files of 16 levels; 4776 as compiled */
+    BLORB_STACK_LISTS = 8192    /* at most, for blorb_scaled, which marks the rows of a list; 7697 as compiled */
 };
 
 /* Usages and types as numbers: the four bytes, the first one highest. */
@@ -166,6 +169,11 @@ enum {
     BLORB_NOT_AIFF = 49,        /* not one 'FORM' of type 'AIFF' and of just these bytes, filled by whole chunks with their padding */
     BLORB_COMMON = 50,          /* no 'COMM' chunk, more than one, or one whose length is not 18 */
     BLORB_RATE = 51,            /* the rate is not a whole number from 1 to 4,294,967,295 */
+
+    /* The 'Reso' chunk. */
+    BLORB_SECOND_RESO = 31,     /* a second 'Reso'; place: its start */
+    BLORB_RESO_LENGTH = 32,     /* the length of the 'Reso' is not 24 plus a multiple of 28; place: its start */
+    BLORB_RESO_NUMBER = 33,     /* a number of the 'Reso', or a side given, may not be; blorb_scaled says which may not; place 0 */
 
     /* The file that the edit would make; place as in that file. */
     BLORB_RESULT = 100,         /* 100 + k: it would be refused with k. These can occur: */
@@ -329,6 +337,40 @@ typedef struct blorb_pick_answer {
 
 /* FORM number i of the list, counted from 0; no list is needed. Refusals 1, 41 to 44, then 22 where i is not below the number of rows. */
 blorb_pick_answer blorb_forms_pick(const uint8_t *file, size_t size, size_t i);
+
+/*
+ * Scaled pictures. A 'Reso' chunk (Blorb 2.0.4, section 11.2) says how large the pictures of a Z-code game are shown in a window of any size: it
+ * has a standard window, and a row for each picture that is scaled, with its number and three ratios: standard, least and greatest.
+ */
+
+/* Of a refused call: width and height 0. */
+typedef struct blorb_scaled_answer {
+    uint64_t refusal;
+    uint64_t place;
+    uint64_t width;
+    uint64_t height;
+} blorb_scaled_answer;
+
+/*
+ * How large a picture of this number, `width` by `height` pixels by its own data, is shown in a window of window_width by window_height pixels.
+ * The smaller of window over standard window, in width and in height, times the standard ratio is raised to the least ratio and lowered to the
+ * greatest one (one with numerator zero is no limit). Each side is multiplied by that exactly and rounded down once, at the end. Where the file
+ * has no 'Reso', or that no row for this number, the picture keeps its size. Sides can be as large as 281,462,092,005,375 (65,535 to the power
+ * of three), so they have 64 bits.
+ *
+ * The index is not asked: the number may be that of any picture, also of one that the file does not have. The whole 'Reso' is judged by each
+ * call, the rows of other pictures too. Refused with 33 are, in the 'Reso', a number over 65,535 that is no picture's, a standard window of
+ * width or height zero, a denominator zero in a standard ratio or under a numerator that is not zero, a least ratio over the greatest where both
+ * are limits, and a picture with two rows; and window_width, window_height, width or height over 65,535, also in a file without a 'Reso'.
+ *
+ * Beside the judging of the file it takes a few passes over the 'Reso' where the picture numbers rise from row to row. Where they do not, a repeated
+ * one is looked for among the earlier rows, and the time grows with the square of the rows. Nothing limits them but the file's size: 599,184
+ * rows at most. The worst 'Reso' that was found, of that many, took 0.7 s (docs/BENCHMARK.md).
+ *
+ * The file's refusals, then 31, 32, 33.
+ */
+blorb_scaled_answer blorb_scaled(const uint8_t *file, size_t size, uint32_t profile, uint64_t window_width, uint64_t window_height,
+                                 uint32_t picture, uint64_t width, uint64_t height);
 
 /*
  * Editing. The file is the first `length` bytes of a buffer of `size` bytes; the journal's records are the first `used` bytes of

@@ -198,6 +198,8 @@ static int print_times(void)
     print_sounds();
     puts("\n## Group files\n");
     print_groups();
+    puts("\n## Scaled pictures\n");
+    print_scaling();
     return 0;
 }
 

@@ -1,4 +1,4 @@
-/* The finding table's times. */
+/* The times of the finding table and of calls that came after it. */
 #ifndef TABLES_H
 #define TABLES_H
 
@@ -7,5 +7,8 @@ void print_tables(void);
 
 /* And those of a search in columns beside one in rows. */
 void print_columns(void);
+
+/* Those of scaled pictures. */
+void print_scaling(void);
 
 #endif

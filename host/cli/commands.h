@@ -17,6 +17,9 @@ typedef struct request {
     uint32_t edits;     /* how many `undo` takes back */
     int picks_form;     /* `forms` is given a number, this one */
     uint32_t form;
+    uint64_t window[2]; /* of `scale`: width and height */
+    uint64_t size[2];   /* of `scale`: the picture's */
+    int has_size;       /* it was given */
     const char *out;    /* where `get` and `forms` write; null or "-" for standard output */
     const char *folder; /* where `get --all` writes */
     int as_is;          /* data that contradicts its type is taken */
@@ -31,6 +34,7 @@ int run_table(const request *r);
 int run_find(const request *r);
 int run_get(const request *r);
 int run_forms(const request *r);
+int run_scale(const request *r);
 int run_new(const request *r);
 int run_add(const request *r);
 int run_replace(const request *r);

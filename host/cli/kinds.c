@@ -191,17 +191,24 @@ static uint32_t short_number_in(const uint8_t *at)
     return (uint32_t)at[0] << 8 | at[1];
 }
 
+/* Markers that stand alone, without a length. */
+static int stands_alone(uint8_t marker)
+{
+    return marker == 0x01 || (marker >= 0xd0 && marker <= 0xd7);
+}
+
+/* From marker to marker; any number of bytes FF may stand before one. */
 static int jpeg_size(bytes held, uint32_t *width, uint32_t *height)
 {
     size_t at = 2;
     while (held.length >= at + 9 && held.at[at] == 0xff) {
-        uint32_t length = short_number_in(held.at + at + 2);
-        if (is_frame(held.at[at + 1])) {
+        uint8_t marker = held.at[at + 1];
+        if (is_frame(marker)) {
             *height = short_number_in(held.at + at + 5);
             *width = short_number_in(held.at + at + 7);
             return 1;
         }
-        at += 2 + (size_t)length;
+        at += marker == 0xff ? 1 : stands_alone(marker) ? 2 : 2 + (size_t)short_number_in(held.at + at + 2);
     }
     return 0;
 }

@@ -35,6 +35,9 @@ static const command commands[] = {
      "write a resource's data to OUT; without it, or with -, to standard output; --all writes every resource to FOLDER", run_get},
     {"forms", "fI", "o", "forms FILE [N] [-o OUT]",
      "list the FORMs of an artists' group file (IFF with LIST and CAT), from 0; or write FORM N, a whole file, to OUT or standard output", run_forms},
+    {"scale", "fnwS", "", "scale FILE NUMBER WIDTHxHEIGHT [PICTURE_WIDTHxPICTURE_HEIGHT]",
+     "print how large a picture is shown in a window of that size, by the file's 'Reso'; its own size is read from its data where it is left out",
+     run_scale},
     {"new", "f", "", "new FILE", "make a file with no resources", run_new},
     {"add", "funTd", "sn", "add FILE USAGE NUMBER [TYPE] DATAFILE [--as-is] [--no-undo]",
      "add a resource with the data of DATAFILE; - is standard input", run_add},
@@ -57,7 +60,7 @@ typedef struct operand {
 } operand;
 
 static const operand operands[] = {{'f', "FILE"}, {'u', "USAGE"}, {'n', "NUMBER"}, {'t', "TYPE"}, {'d', "DATAFILE"}, {'e', "N"}, {'i', "N"},
-                                   {'v', "NEWUSAGE"}, {'m', "NEWNUMBER"}};
+                                   {'v', "NEWUSAGE"}, {'m', "NEWNUMBER"}, {'w', "WIDTHxHEIGHT"}, {'s', "PICTURE_WIDTHxPICTURE_HEIGHT"}};
 
 typedef struct option {
     char letter;
@@ -113,21 +116,38 @@ static int read_tag(const char *text, char tag[4])
     return 0;
 }
 
-/* Decimal digits only. */
-static int read_number(const char *text, uint32_t *number)
+/* Decimal digits only, up to `end`. */
+static int read_digits(const char *text, const char *end, uint64_t *number)
 {
     uint64_t n = 0;
-    if (text[0] == '\0')
+    if (text == end)
         return -1;
-    for (const char *c = text; *c != '\0'; c++) {
+    for (const char *c = text; c != end; c++) {
         if (*c < '0' || *c > '9')
             return -1;
         n = 10 * n + (uint64_t)(*c - '0');
         if (n > UINT32_MAX)
             return -1;
     }
-    *number = (uint32_t)n;
+    *number = n;
     return 0;
+}
+
+static int read_number(const char *text, uint32_t *number)
+{
+    uint64_t n = 0;
+    int done = read_digits(text, text + strlen(text), &n);
+    *number = (uint32_t)n;
+    return done;
+}
+
+/* Two numbers with an x between them. Which of them are too large the library says. */
+static int read_sides(const char *text, uint64_t sides[2])
+{
+    const char *between = strchr(text, 'x');
+    if (between == NULL || read_digits(text, between, &sides[0]) != 0)
+        return -1;
+    return read_digits(between + 1, between + 1 + strlen(between + 1), &sides[1]);
 }
 
 /* One operand; gives what it should have been where it is wrong. */
@@ -150,6 +170,11 @@ static const char *read_operand(char letter, const char *text, request *r)
     case 'i':
         r->picks_form = 1;
         return read_number(text, &r->form) == 0 ? NULL : "N is the number of a FORM in the list, from 0, in digits";
+    case 'w':
+        return read_sides(text, r->window) == 0 ? NULL : "the window is WIDTHxHEIGHT, in digits, each at most 65535, such as 640x480";
+    case 's':
+        r->has_size = 1;
+        return read_sides(text, r->size) == 0 ? NULL : "the picture's size is WIDTHxHEIGHT, in digits, each at most 65535, such as 320x200";
     default:
         r->data = text;
         return NULL;
@@ -239,7 +264,7 @@ static int may_be_left_out(char letter)
 /* What a command needs from here on, by name. */
 static int say_missing(const command *c, const char *wanted)
 {
-    char names[80] = "";
+    char names[96] = "";
     size_t length = 0, count = 0;
     for (const char *l = wanted; *l != '\0'; l++)
         if (!may_be_left_out(*l)) {

@@ -5,6 +5,7 @@
 #include <string.h>
 
 #include "kinds.h"
+#include "scaling.h"
 #include "words.h"
 
 /* An AIFF sound whose length nobody can tell is likely not to be played either. */
@@ -76,4 +77,5 @@ void warn_of(const contents *c, const char *shown)
     for (size_t i = 0; i < 4; i++)
         warn_of_numbers(c, shown, usages[i]);
     warn_of_data(c, shown);
+    warn_of_scaling(c, shown);
 }

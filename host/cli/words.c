@@ -56,6 +56,11 @@ static const remedy remedies[] = {
      "  number of bytes: 16 bits to a sample help there."},
     {BLORB_COMMON, "Save the sound again as plain AIFF with another program."},
     {BLORB_RATE, "Convert the sound to a whole number of samples in a second, as 22050 or 44100."},
+    {BLORB_SECOND_RESO, "Pack the file again with one of them."},
+    {BLORB_RESO_LENGTH, "Its packer wrote it wrong: it has 24 bytes of window sizes and 28 for each picture. Pack the file again."},
+    {BLORB_RESO_NUMBER,
+     "Give sides of at most 65535. In the 'Reso' all numbers but those of pictures are at most 65535, the standard window's sides and\n"
+     "  the denominators are not 0 (a limit of 0/0 is none), no least ratio is over the greatest, and no picture is listed twice."},
     {BLORB_RESULT_TOO_LONG, "Use smaller data, or remove another resource first."},
     {BLORB_RESULT_SECOND_INDEX, TYPES},
     {BLORB_RESULT_TOO_MANY, "Remove another resource first."},

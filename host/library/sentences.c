@@ -91,6 +91,12 @@ const char *blorb_sentence(uint64_t refusal)
         return "the 'COMM' chunk of the sound is missing, is not the only one, or is not 18 bytes long";
     case BLORB_RATE:
         return "the rate of the sound is not a whole number from 1 to 4,294,967,295";
+    case BLORB_SECOND_RESO:
+        return "there is a second 'Reso' chunk";
+    case BLORB_RESO_LENGTH:
+        return "the length of the 'Reso' chunk is not 24 plus a multiple of 28";
+    case BLORB_RESO_NUMBER:
+        return "the 'Reso' chunk has a number that may not be in it or lists a picture twice, or a width or height given is over 65,535";
     case BLORB_RESULT_TOO_LONG:
         return "the file would be longer than 16,777,216 bytes";
     case BLORB_RESULT_SECOND_INDEX:

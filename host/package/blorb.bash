@@ -48,6 +48,14 @@ _blorb_numbers() { # program, file, usage, --adrift or nothing
     "$1" list "$2" ${4:+"$4"} 2> /dev/null | sed -n "s/^$3 *\([0-9][0-9]*\) at .*/\1/p"
 }
 
+# The usage whose numbers are wanted: the word before, but a picture's where the command takes pictures only.
+_blorb_usage_wanted() { # command, word
+    case $1 in
+        scale) echo Pict ;;
+        *) echo "$2" ;;
+    esac
+}
+
 _blorb_commands() { # program
     "$1" --help 2> /dev/null | sed -n 's/^  blorb \([a-z][a-z-]*\).*/\1/p'
 }
@@ -79,12 +87,15 @@ _blorb() {
     case $(_blorb_operand "$usage") in
         USAGE | NEWUSAGE) mapfile -t COMPREPLY < <(compgen -W 'Pict Snd Data Exec' -- "$now") ;;
         TYPE) mapfile -t COMPREPLY < <(compgen -W "$(_blorb_types "${COMP_WORDS[3]}" "$adrift")" -- "$now"; compgen -f -- "$now") ;;
-        NUMBER) mapfile -t COMPREPLY < <(compgen -W "$(_blorb_numbers "$program" "${COMP_WORDS[2]}" "${COMP_WORDS[3]}" "$adrift")" -- "$now") ;;
+        NUMBER)
+            words=$(_blorb_usage_wanted "${COMP_WORDS[1]}" "${COMP_WORDS[3]}")
+            mapfile -t COMPREPLY < <(compgen -W "$(_blorb_numbers "$program" "${COMP_WORDS[2]}" "$words" "$adrift")" -- "$now")
+            ;;
         N)
             COMPREPLY=()
             [ "${COMP_WORDS[1]}" != forms ] || mapfile -t COMPREPLY < <(compgen -W "$(_blorb_forms "$program" "${COMP_WORDS[2]}")" -- "$now")
             ;;
-        NEWNUMBER) COMPREPLY=() ;;
+        NEWNUMBER | *WIDTHx*) COMPREPLY=() ;;
         COMMAND) mapfile -t COMPREPLY < <(compgen -W "$(_blorb_commands "$program")" -- "$now") ;;
         FOLDER) mapfile -t COMPREPLY < <(compgen -d -- "$now") ;;
         *) mapfile -t COMPREPLY < <(compgen -f -- "$now") ;;

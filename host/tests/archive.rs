@@ -1,6 +1,7 @@
 //! The library's calls through its C interface, on buffers that lie inside larger guarded arrays.
 
 use crate::fence::{self, Fenced};
+use crate::reference::scaling::Asking;
 use crate::reference::{blank_file, Answer, Call, Edit, Form, Refusal, State, Tag, PLAIN};
 use std::ptr;
 
@@ -80,6 +81,14 @@ mod raw {
         pub length: u64,
     }
 
+    #[repr(C)]
+    pub struct Scaled {
+        pub refusal: u64,
+        pub place: u64,
+        pub width: u64,
+        pub height: u64,
+    }
+
     #[rustfmt::skip]
     extern "C" {
         pub fn blorb_version() -> u32;
@@ -96,6 +105,8 @@ mod raw {
         pub fn blorb_forms_list(file: *const u8, size: usize, rows: *mut u32, numbers: usize) -> Build;
         pub fn blorb_forms_pick(file: *const u8, size: usize, i: usize) -> Pick;
         pub fn blorb_aiff_length(bytes: *const u8, size: usize) -> Aiff;
+        pub fn blorb_scaled(file: *const u8, size: usize, profile: u32, window_width: u64, window_height: u64, picture: u32,
+            width: u64, height: u64) -> Scaled;
         pub fn blorb_blank(file: *mut u8, size: usize) -> Edit;
         pub fn blorb_add(file: *mut u8, size: usize, length: usize, journal: *mut u8, journal_size: usize, used: usize,
             profile: u32, usage: *const u8, number: u32, tag: *const u8, data: *const u8, data_size: usize) -> Edit;
@@ -303,6 +314,12 @@ pub fn forms_pick(file: &mut Lent, i: usize) -> Reading<2> {
     reading(answer.refusal, answer.place, [answer.start, answer.length])
 }
 
+pub fn scaled(file: &mut Lent, profile: u32, asking: &Asking) -> Reading<2> {
+    let Asking { window: [across, down], picture, size: [width, height] } = *asking;
+    let answer = unsafe { raw::blorb_scaled(file.pointer(), file.size, profile, across, down, picture, width, height) };
+    reading(answer.refusal, answer.place, [answer.width, answer.height])
+}
+
 fn edited(answer: raw::Edit) -> Answer {
     Answer { refusal: answer.refusal, place: answer.place, length: answer.length, used: answer.used }
 }
@@ -386,6 +403,8 @@ pub fn on_huge_arrays(zeros: &mut [u8]) -> Vec<(&'static str, String, String)> {
         check("read of a huge file", [read.refusal, read.place, read.length, read.count], [1, 0, 0, 0]);
         let read = raw::blorb_read(z, huge, unknown);
         check("read of a huge file, unknown profile", [read.refusal, read.place, read.length, read.count], [52, 0, 0, 0]);
+        let scaled = raw::blorb_scaled(z, huge, p, 640, 480, 1, 2, 2);
+        check("scaled in a huge file", [scaled.refusal, scaled.place, scaled.width, scaled.height], [1, 0, 0, 0]);
         let remove = raw::blorb_remove(z, huge, huge, j, 100, 0, p, usage, 7);
         check("remove from a huge file", numbers(remove), [1, 0, huge as u64, 0]);
         let remove = raw::blorb_remove(z, huge, huge, j, 100, 0, unknown, usage, 7);

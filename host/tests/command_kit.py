@@ -84,6 +84,8 @@ SAID = {
     30: ("must be a whole file", "whole AIFF file"), 41: ("runs past what holds it", "have it saved again"),
     42: ("deeper than 16 levels", "fewer groups"), 43: ("stands where it may not", "as one FORM, LIST or CAT"),
     44: ("is missing or not zero", "zero byte behind each chunk"), 35: ("finding table is not this file's", "blorb table FILE"),
+    31: ("second 'Reso'", "one of them"), 32: ("length of the 'Reso' chunk", "28 for each picture"),
+    33: ("number that may not be in it", "at most 65535"),
     101: ("would be longer", "smaller data"), 109: ("index's type 'RIdx'", "Pict takes"), 111: ("would have more", "Remove"),
     112: ("no such usage", "Pict, Snd, Data or Exec"), 114: ("does not suit the usage", "Pict takes"),
     115: ("number 0 and no other", "number 0"), 116: ("has a resource with this", "blorb replace"),

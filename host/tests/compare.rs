@@ -10,6 +10,7 @@ mod large;
 mod reference;
 mod samples;
 mod sounds;
+mod scaling;
 mod tables;
 mod two_editors;
 
@@ -32,7 +33,7 @@ const ENOUGH: u64 = DEFAULT_COUNT / 4;
 /// The type 'FORM' as a lookup gives it.
 const BLORB_FORM: u64 = u32::from_be_bytes(*b"FORM") as u64;
 /// So many of 100 files and single calls are tried under another profile too.
-const AGAIN: usize = 20;
+pub const AGAIN: usize = 20;
 
 // ---- Reports -------------------------------------------------------------------------------------------------------
 
@@ -192,6 +193,7 @@ pub fn check_file_under(tally: &mut Tally, rng: &mut Rng, file: &[u8], profile: 
     if rng.chance(10) {
         let _ = forms::check(tally, rng, file);
     }
+    scaling::check(tally, rng, &mut lent, &read);
     if let Some(complaint) = lent.complaint("file", file) {
         tally.fail(&format!("reading file={}", hex(file)), &complaint);
     }
@@ -376,8 +378,8 @@ pub fn check_call_and_52(tally: &mut Tally, rng: &mut Rng, call: &Call, state: &
 
 type Family = fn(&mut Tally, &mut Rng);
 
-/// The share of the cases that each family has: those of Blorb files make 100, sounds and group files come besides.
-const FAMILIES: [(usize, Family); 12] = [
+/// The share of the cases that each family has: those of Blorb files make 100; sounds, group files and scaled pictures come besides.
+const FAMILIES: [(usize, Family); 13] = [
     (20, valid_files),
     (16, single_faults),
     (12, double_faults),
@@ -390,6 +392,7 @@ const FAMILIES: [(usize, Family); 12] = [
     (3, runs),
     (14, sounds::sounds),
     (14, forms::group_files),
+    (14, scaling::files),
 ];
 const SHARES: usize = shares(&FAMILIES);
 
@@ -685,6 +688,7 @@ fn rows() -> Vec<(&'static str, Vec<u64>)> {
         taking(["table_build", "table_build 52"], &[34]),
         taking(["table_check", "table_check 52"], &[35]),
         taking(["columns_check", "columns_check 52"], &[35]),
+        taking(["scaled", "scaled 52"], &[31, 32, 33]),
         taking(["add", "add 52"], &[20, 24, 25, 30, 101, 109, 111, 112, 114, 115, 116]),
         taking(["replace", "replace 52"], &[20, 22, 23, 24, 25, 30, 101, 109, 114, 119]),
         taking(["remove", "remove 52"], &[20, 22, 25, 119]),
@@ -732,7 +736,7 @@ fn rows() -> Vec<(&'static str, Vec<u64>)> {
         ("either order", vec![1, 2, 3, 4, 5]),
         ("later wins", vec![2]),
     ];
-    calls.into_iter().flatten().chain(others).collect()
+    calls.into_iter().flatten().chain(others).chain(scaling::rows()).collect()
 }
 
 /// Prints how often LARGE was seen. False where so many inputs must show it more often.
@@ -766,6 +770,7 @@ fn print_table(tally: &Tally, complete: bool) -> bool {
     println!("aiff faults: sums of 1 for the form, 2 for 'COMM', 4 for the rate; aiff damaged: answers to these sounds damaged; aiff resource:");
     println!("answers to adding them; forms built: by construction; forms behind: 10 j + k where 40 + j decided and 40 + k held at the same place;");
     println!("forms deepest: depth of the deepest FORM, 0 for none):");
+    println!("scaled how: 0 neither limit, 1 raised, 2 lowered, 9 not listed; scaled 33: by its reasons in 02's order; scaled 31 and 32: what stood behind):");
     let mut good = true;
     for (row, numbers) in rows() {
         let seen: BTreeMap<u64, u64> =

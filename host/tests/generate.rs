@@ -2,10 +2,12 @@
 
 mod faults;
 mod journals;
+mod resolutions;
 
 use crate::reference::{self, Answer, Call, Edit, State, Tag, ADRIFT, PLAIN, USAGES};
 pub use faults::{faulty, next_in_order, ORDER};
 pub use journals::undo_state;
+pub use resolutions::{damaged as damaged_resolution, with_resolution, Built as BuiltResolution, Resolution, LARGE_SIDE, REASONS};
 
 // ---- Random numbers ------------------------------------------------------------------------------------------------
 

@@ -5,11 +5,12 @@ use crate::fence;
 use crate::generate::{self, Rng};
 use crate::reference::{Call, Chunk, Edit, Entry, File, Record, State, Tag, ADRIFT, LIMIT, MOST_ENTRIES, PLAIN};
 use crate::samples::samples;
+use crate::scaling;
 use crate::{check_call_and_52, check_file, check_file_under, check_run, Tally};
 use std::ops::Range;
 
 const FIRST: usize = 0xE0;
-const CASES: [fn(&mut Tally, &mut Rng); 12] = [
+const CASES: [fn(&mut Tally, &mut Rng); 13] = [
     samples,
     at_limit,
     over_limit,
@@ -22,6 +23,7 @@ const CASES: [fn(&mut Tally, &mut Rng); 12] = [
     beyond_32_bits,
     run_at_length_limit,
     run_at_entry_limit,
+    scaling::largest,
 ];
 pub const FAMILIES: Range<usize> = FIRST..FIRST + CASES.len();
 

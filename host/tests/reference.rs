@@ -6,6 +6,8 @@
 pub mod forms;
 pub mod sounds;
 
+pub mod scaling;
+
 use std::collections::{HashMap, HashSet};
 
 pub const LIMIT: usize = 16_777_216;

@@ -1,6 +1,6 @@
 /*
  * Every call on a stack of 8 KB, the smallest device's, with a page before it that may not be touched, and the C library's own memmove
- * and memset. What each call takes by itself: stack_depth.c.
+ * and memset; blorb_scaled, which alone may take all of that, on one of 12 KB. What each call takes by itself: stack_depth.c.
  */
 #define _DEFAULT_SOURCE
 #include <stdio.h>
@@ -11,7 +11,7 @@
 
 #include "blorb.h"
 
-enum { PAGE = 4096, STACK = 2 * PAGE, ROOM = 200000, DATA = 40001, WHOLE = 10000 };
+enum { PAGE = 4096, STACK = 2 * PAGE, LARGER = 3 * PAGE, ROOM = 200000, DATA = 40001, WHOLE = 10000 };
 static uint8_t file[ROOM], wrong[ROOM], journal[ROOM], data[DATA], whole[WHOLE];
 enum { MANY = 2000000 };
 static uint8_t nested[BLORB_FORM_SIZE * MANY];
@@ -189,25 +189,82 @@ static void every_call(void)
     }
 }
 
+static void put32(uint8_t *to, size_t v)
+{
+    for (int i = 0; i < 4; i++)
+        to[i] = (uint8_t)(v >> (24 - 8 * i));
+}
+
+/* The file in `wrong` with a 'Reso' of 5,000 rows whose pictures fall. */
+static size_t with_reso(void)
+{
+    enum { ROWS = 5000, SIZE = 24 + 28 * ROWS };
+    size_t at = blorb_blank(wrong, ROOM).length;
+
+    memcpy(wrong + at, "Reso", 4);
+    put32(wrong + at + 4, SIZE);
+    memset(wrong + at + 8, 0, SIZE);
+    put32(wrong + at + 8, 640);
+    put32(wrong + at + 12, 480);
+    for (size_t i = 0; i < ROWS; i++) {
+        uint8_t *row = wrong + at + 32 + 28 * i;
+        put32(row, ROWS - i);
+        put32(row + 4, 3);
+        put32(row + 8, 2);
+    }
+    put32(wrong + 4, at + SIZE);
+    return at + 8 + SIZE;
+}
+
+static void lists(void)
+{
+    size_t n = with_reso();
+
+    done(blorb_scaled(wrong, n, profile, 640, 480, 7, 320, 200).refusal);
+    gives(blorb_scaled(wrong, n, profile, 640, 480, 7, 320, 200).width, 480);
+    put32(wrong + n - 28, 5000);
+    gives(blorb_scaled(wrong, n, profile, 640, 480, 7, 320, 200).refusal, BLORB_RESO_NUMBER);
+    gives(blorb_scaled(wrong, n - 28, profile, 640, 480, 7, 320, 200).refusal, BLORB_FORM_LENGTH);
+    gives(blorb_scaled(wrong, n, 2, 640, 480, 7, 320, 200).refusal, BLORB_PROFILE);
+}
+
 static void both_profiles(void)
 {
     for (profile = BLORB_PLAIN; profile <= BLORB_ADRIFT; profile++)
         every_call();
 }
 
+static void lists_under_both(void)
+{
+    for (profile = BLORB_PLAIN; profile <= BLORB_ADRIFT; profile++)
+        lists();
+}
+
+/* Runs it on a stack of so many bytes. */
+static void on_stack(void (*run)(void), size_t size)
+{
+    uint8_t *pages = mmap(NULL, PAGE + size, PROT_READ | PROT_WRITE, MAP_PRIVATE | MAP_ANONYMOUS, -1, 0);
+
+    if (pages == MAP_FAILED || mprotect(pages, PAGE, PROT_NONE) != 0 || getcontext(&inside) != 0)
+        exit(2);
+    inside.uc_stack.ss_sp = pages + PAGE;
+    inside.uc_stack.ss_size = size;
+    inside.uc_link = &outside;
+    makecontext(&inside, run, 0);
+    if (swapcontext(&outside, &inside) != 0)
+        exit(2);
+}
+
 int main(void)
 {
     /* Once outside: the C library then has found its functions, for which it needs a stack of its own. */
     both_profiles();
-    uint8_t *pages = mmap(NULL, PAGE + STACK, PROT_READ | PROT_WRITE, MAP_PRIVATE | MAP_ANONYMOUS, -1, 0);
-    if (pages == MAP_FAILED || mprotect(pages, PAGE, PROT_NONE) != 0 || getcontext(&inside) != 0)
-        return 2;
-    inside.uc_stack.ss_sp = pages + PAGE;
-    inside.uc_stack.ss_size = STACK;
-    inside.uc_link = &outside;
-    makecontext(&inside, both_profiles, 0);
-    if (swapcontext(&outside, &inside) != 0)
-        return 2;
-    printf("stack: ok, %d calls on %d bytes\n", calls / 2, (int)STACK);
+    lists_under_both();
+    calls = 0;
+    on_stack(both_profiles, STACK);
+    printf("stack: ok, %d calls on %d bytes\n", calls, (int)STACK);
+    calls = 0;
+    on_stack(lists_under_both, LARGER);
+    printf("stack: ok, %d calls on %d bytes\n", calls, (int)LARGER);
     return 0;
 }

@@ -3,8 +3,8 @@
 For each call its function in C, None where it has none, and in the source, None where it is plain C (host/library), which the source's check does not
 read. Of every call but the grouping ones: nothing that it runs may recurse. What the grouping calls run may recurse through the functions of `NESTED`
 alone, which are on the stack at most `LEVELS` times in all, whatever the file says (that is proved: the levels that are left fall at each call). The
-reading and grouping calls may besides hold no array of over 64 bytes. `LIMITS` names the group's constant in include/blorb.h, which the stack of its
-calls may not exceed.
+reading and grouping calls may besides hold no array of over 64 bytes; those of the group "lists" mark the rows of a list in one larger array. `LIMITS`
+names the group's constant in include/blorb.h, which the stack of its calls may not exceed.
 """
 import re
 
@@ -21,6 +21,7 @@ CALLS = [
     ("reading", "blorb_table_search", "table::search"),
     ("reading", "blorb_columns_check", "table::columns_check"),
     ("reading", "blorb_columns_search", "table::columns_search"),
+    ("lists", "blorb_scaled", "scaling::scaled"),
     ("building", "blorb_table_build", "table::build"),
     ("building", "blorb_table_to_columns", "table::to_columns"),
     ("building", "blorb_table_to_rows", "table::to_rows"),
@@ -34,12 +35,14 @@ CALLS = [
     ("editing", "blorb_link", "editor::link"),
     ("editing", "blorb_undo", "editor::undo"),
 ]
-LIMITS = {"reading": "BLORB_STACK_READING", "building": "BLORB_STACK_READING", "grouping": "BLORB_STACK_GROUPS", "editing": "BLORB_STACK_EDITING"}
+LIMITS = {"reading": "BLORB_STACK_READING", "building": "BLORB_STACK_READING", "grouping": "BLORB_STACK_GROUPS", "lists": "BLORB_STACK_LISTS",
+          "editing": "BLORB_STACK_EDITING"}
 SMALL = ("reading", "grouping")
 MOST_ARRAY = 64           # bytes of an array that a call of these groups may hold
 NESTED = frozenset({"groups::readers::form_in", "groups::readers::group_in"})
 LEVELS = 16
-MOST_IN_SOURCE = 4096     # bytes of arrays that an editing call may hold at once, if the compiler left all of them in
+# Bytes of arrays that a call may hold at once, if the compiler left all of them in.
+MOST_IN_SOURCE = {"reading": 4096, "building": 4096, "grouping": 4096, "lists": 7680, "editing": 4096}
 
 
 def limits_of(header):

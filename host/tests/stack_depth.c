@@ -19,8 +19,8 @@
  * In stack_calls.py stand the same calls.
  */
 enum call {
-    READ, ENTRY, LOOKUP, AIFF, FORMS, PICK, CHECK, SEARCH, COLUMNS_CHECK, COLUMNS_SEARCH, BUILD, TO_COLUMNS, TO_ROWS, BLANK, ADD, REPLACE, REMOVE, LINK, UNDO,
-    VERSION, SENTENCE, CALLS
+    READ, ENTRY, LOOKUP, AIFF, FORMS, PICK, CHECK, SEARCH, COLUMNS_CHECK, COLUMNS_SEARCH, SCALED, BUILD, TO_COLUMNS, TO_ROWS, BLANK, ADD, REPLACE, REMOVE, LINK,
+    UNDO, VERSION, SENTENCE, CALLS
 };
 typedef void any(void);
 static struct row {
@@ -42,6 +42,7 @@ static struct row {
     [SEARCH] = {"blorb_table_search", (any *)blorb_table_search, false, false, {22}, 0, {0}},
     [COLUMNS_CHECK] = {"blorb_columns_check", (any *)blorb_columns_check, true, true, {35}, 0, {0}},
     [COLUMNS_SEARCH] = {"blorb_columns_search", (any *)blorb_columns_search, false, false, {22}, 0, {0}},
+    [SCALED] = {"blorb_scaled", (any *)blorb_scaled, false, true, {31, 32, 33}, 0, {0}},
     [BUILD] = {"blorb_table_build", (any *)blorb_table_build, false, true, {34}, 0, {0}},
     [TO_COLUMNS] = {"blorb_table_to_columns", (any *)blorb_table_to_columns, false, false, {34}, 0, {0}},
     [TO_ROWS] = {"blorb_table_to_rows", (any *)blorb_table_to_rows, false, false, {34}, 0, {0}},
@@ -131,6 +132,7 @@ static uint64_t run(enum call c, const uint64_t *arguments, size_t count)
 static uint64_t read_it(const uint8_t *f, size_t n) { return RUN(READ, P(f), n, profile); }
 static uint64_t entry(const uint8_t *f, size_t n, size_t i) { return RUN(ENTRY, P(f), n, profile, i); }
 static uint64_t lookup(const uint8_t *f, size_t n, const char *usage, uint32_t number) { return RUN(LOOKUP, P(f), n, profile, P(usage), number); }
+static uint64_t scaled(const uint8_t *f, size_t n, size_t side, uint32_t picture) { return RUN(SCALED, P(f), n, profile, side, 480, picture, 9, 7); }
 static uint64_t build(const uint8_t *f, size_t n, size_t numbers) { return RUN(BUILD, P(f), n, profile, P(table), numbers); }
 static uint64_t to_columns(size_t numbers, size_t room) { return RUN(TO_COLUMNS, P(table), numbers, P(columns), room); }
 static uint64_t to_rows(size_t numbers, size_t room) { return RUN(TO_ROWS, P(columns), numbers, P(turned), room); }
@@ -346,6 +348,7 @@ static void reading(const uint8_t *f, size_t n, uint64_t refusal)
     for (size_t u = 0; u < 5; u++)
         for (uint32_t i = 0; i < 6; i++)
             lookup(f, n, usages[u], i);
+    wants(scaled(f, n, 640, 1), refusal, "scaled");
     wants(build(f, n, NUMBERS), refusal, "build");
     if (refusal == 0) {
         numbers = BLORB_ROW_NUMBERS * answer[2];
@@ -646,6 +649,55 @@ static void groups(void)
     grouping(n, BLORB_GROUP_DEPTH, "a FORM in a 'PROP' at level 17");
 }
 
+/* A 'Reso' of so many rows behind the few resources; the number of picture i is i * by. */
+static size_t write_reso(uint8_t *f, size_t count, uint32_t by)
+{
+    size_t at = write_few(f), size = 24 + 28 * count;
+    uint8_t *reso = f + at + 8;
+
+    memcpy(f + at, "Reso", 4);
+    put32(f + at + 4, size);
+    memset(reso, 0, size);
+    put32(reso, 640);
+    put32(reso + 4, 480);
+    for (size_t i = 0; i < count; i++) {
+        put32(reso + 24 + 28 * i, (uint32_t)i * by);
+        for (size_t k = 1; k < 7; k++)
+            put32(reso + 24 + 28 * i + 4 * k, 1 + k / 5);
+    }
+    return finish(f, at + 8 + size);
+}
+
+/* Scaled pictures: few rows and many, rising, falling and in no order, listed and not; each reason for a refusal. */
+static void scaling(void)
+{
+    static const uint32_t steps[] = {1, 0xffffffff, 2654435761u};
+    static const size_t counts[] = {0, 1, 2, 30, 6000};
+
+    for (size_t i = 0; i < 5; i++)
+        for (size_t k = 0; k < 3; k++) {
+            size_t n = write_reso(file, counts[i], steps[k]), last = n - 28;
+            wants(scaled(file, n, 640, 0), BLORB_DONE, "scaled");
+            wants(scaled(file, n, 12, steps[k] * 3), BLORB_DONE, "scaled");
+            wants(scaled(file, n, 65535, (uint32_t)counts[i] * steps[k]), BLORB_DONE, "a picture that is not listed");
+            wants(scaled(file, n, 65536, 1), BLORB_RESO_NUMBER, "a window too wide");
+            if (counts[i] < 2)
+                continue;
+            put32(file + last, 0);
+            wants(scaled(file, n, 640, 1), BLORB_RESO_NUMBER, "a repeated picture");
+            put32(file + last, get32(file + last - 28));
+            wants(scaled(file, n, 640, 1), BLORB_RESO_NUMBER, "a repeated picture");
+            put32(file + last, 7000);
+            put32(file + last + 4, 65536);
+            wants(scaled(file, n, 640, 1), BLORB_RESO_NUMBER, "a large number");
+            memcpy(file + n, "Reso\0\0\0\0", 8);
+            wants(scaled(file, finish(file, n + 8), 640, 1), BLORB_SECOND_RESO, "a second 'Reso'");
+            n = write_few(file);
+            memcpy(file + n, "Reso\0\0\0\0", 8);
+            wants(scaled(file, finish(file, n + 8), 640, 1), BLORB_RESO_LENGTH, "an empty 'Reso'");
+        }
+}
+
 /* The two calls that take no buffer. */
 static void plain_calls(void)
 {
@@ -691,6 +743,7 @@ static void under_profile(void)
     carried_out(file, write_few(file), few, FEW);
     second_names(file, write_few(file), few, FEW);
     refused_edits();
+    scaling();
     n = write_file(file, house, HOUSE);
     if (profile == BLORB_PLAIN) {
         refused(file, n, BLORB_TYPE);

@@ -1,9 +1,9 @@
 """Recursion and arrays in the source: stack_source.py ROOT.
 
 Reads crates/*/src/*.rt and goes from each call of stack_calls.py, which has every public function of the crates that it names, through all functions
-that the call can reach. Refused are: a cycle, but in a grouping call that of NESTED alone; in a reading or grouping call an array of over 64 bytes;
-arrays of over 4,096 bytes on one way down, counted as if the compiler left all of them in and those of NESTED on each level; and what the check cannot
-judge, as a function that it does not find or an array whose length is no plain number.
+that the call can reach. Refused are: a cycle, but in a grouping call that of NESTED alone; in a reading or grouping call an array of over 64 bytes; in
+any other arrays of more bytes on one way down than stack_calls.py allows its group, counted as if the compiler left all of them in and those of NESTED
+on each level; and what the check cannot judge, as a function that it does not find or an array whose length is no plain number.
 
 A method is taken to be every method of that name. An array is a type [T; N] or a value [x; N], [a, b] or *b"..", also within a structure that the
 function names; an element whose type is not written counts 8 bytes.
@@ -287,8 +287,8 @@ def checked(root, calls, nested=NESTED):
         if one not in source.functions:
             raise Breach(f"there is no {one}")
         (held, way), reached = walked(source, one, MOST_ARRAY if group in SMALL else None, nested if group == "grouping" else frozenset())
-        if held > MOST_IN_SOURCE:
-            raise Breach(f"{one}: {held} bytes of arrays by {' > '.join(way)}; {MOST_IN_SOURCE} are allowed")
+        if held > MOST_IN_SOURCE[group]:
+            raise Breach(f"{one}: {held} bytes of arrays by {' > '.join(way)}; {MOST_IN_SOURCE[group]} are allowed")
         found[one] = group, held, way, reached
     return found
 

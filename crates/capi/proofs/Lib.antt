@@ -2,4 +2,5 @@ pub mod CallLaws
 pub mod Numbered
 pub mod TableNumbered
 pub mod SoundNumbered
+pub mod ScalingNumbered
 pub mod FormNumbered

@@ -21,7 +21,7 @@ use Rattle.capi.specs.TableNumbers.{buildNumbers, checkNumbers, foundNum
 use Rattle.capi.proofs.Numbered.{zero-reads}
 
 -- the reader's refusals are not 0
-not-zero : (profile : ℕ) (f : List ℕ) (k p : ℕ) → readOf profile f ≡ Refused k p → k ≡ 0 → ⊥
+pub not-zero : (profile : ℕ) (f : List ℕ) (k p : ℕ) → readOf profile f ≡ Refused k p → k ≡ 0 → ⊥
 not-zero profile f k p r e =
     let a = accepted-when profile f (zero-reads profile f (ap (λ (x : Reading). readNumbers x .refusal) r ∙ e)) in
     let z : _≡_ {A = ℕ} 0 1 = cc in

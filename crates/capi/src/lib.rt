@@ -1,5 +1,5 @@
 // The calls of reader, editor and table for programs in C; include/blorb.h declares them.
-// Sounds and group files have modules of their own.
+// Sounds, group files and scaled pictures have modules of their own.
 use blorb::Usage;
 use editor::Answer;
 use editor::Outcome;
@@ -12,6 +12,7 @@ use table::Found;
 use table::Searched;
 
 mod forms;
+mod pictures;
 mod sounds;
 
 ghost use mathlib.Core.Path.{_≡_};
@@ -87,12 +88,12 @@ pub struct SearchAnswer {
     pub probes: usize,
 }
 
-// The archive's version: 2.2.0.
+// The archive's version: 2.3.0.
 #[no_mangle]
 pub extern "C" fn blorb_version() -> u32
-    ensures { λ r. ⌜ r ≡ versionNumber 2 2 0 ⌝ }
+    ensures { λ r. ⌜ r ≡ versionNumber 2 3 0 ⌝ }
 {
-    2002000
+    2003000
 }
 
 // The verdict under a profile, 0 plain and 1 ADRIFT: the length and the entry count of an accepted file.

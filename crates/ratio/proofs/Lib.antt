@@ -1,0 +1,3 @@
+pub mod RatioLaws
+pub mod OrderLaws
+pub mod Promises

@@ -1,0 +1,5 @@
+pub mod Answers
+pub mod Bits
+pub mod MarkLaws
+pub mod SearchLaws
+pub mod SourceLaws

@@ -1,0 +1,4 @@
+pub mod Keys
+pub mod Repeats
+pub mod Source
+pub mod Marks

@@ -1,0 +1,2 @@
+pub mod Reso
+pub mod Places

@@ -1,0 +1,2 @@
+pub mod SideLaws
+pub mod Promises
