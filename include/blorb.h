@@ -1,10 +1,10 @@
 /*
  * blorb.h: the C interface of the Blorb library.
  *
- * A Blorb file is one IFF file with the pictures, sounds, data and code of a text adventure. These calls read it, look a
- * resource up, tell how long a sound plays, scale a picture, edit the file in place, take edits back, and keep a finding table beside it.
- * Two more read the artists' group files, IFF files of another kind. docs/RULES.md of the library's source says what a file must keep
- * and what each call makes of it.
+ * A Blorb file is one IFF file with the pictures, sounds, data and code of a text adventure. These calls read it, look a resource up, tell how
+ * long a sound plays and how large a picture is shown, read and write spoken descriptions, keep a finding table beside the file, edit it in place,
+ * and take edits back. Two more read the artists' group files, IFF files of another kind. docs/RULES.md of the library's source says what a file
+ * must keep and what each call makes of it.
  *
  * Each call that takes a Blorb file takes a profile as well: BLORB_PLAIN, or BLORB_ADRIFT for files of the ADRIFT house, which may have a few
  * types more. Whoever edits in C is best served by the functions over blorb_editor at the end, which keep the lengths and the profile.
@@ -13,9 +13,9 @@
  *
  *   - It answers. Nothing is allocated, nothing is kept between calls, no lock is taken, and nothing is printed.
  *   - It takes little stack: at most BLORB_STACK_EDITING bytes where it stands under "Editing", BLORB_STACK_GROUPS under "Group files",
- *     BLORB_STACK_LISTS under "Scaled pictures", and BLORB_STACK_READING elsewhere (this is checked in the machine code and measured, not
- *     proved). The calls on group files recurse, once for each level of nesting and never deeper than 16 levels, whatever the file says;
- *     no other call recurses.
+ *     BLORB_STACK_LISTS under "Scaled pictures" or "Spoken descriptions", and BLORB_STACK_READING elsewhere (this is checked in the
+ *     machine code and measured, not proved). The calls on group files recurse, once for each level of nesting and never deeper than 16
+ *     levels, whatever the file says; no other call recurses.
  *   - The answer's `refusal` is 0 where the call was carried out; else it is one of the numbers below, and `place` is where
  *     in the file the reason lies (0 where a number has no place).
  *   - A refused call has written nothing: every lent byte is as it was. The `length` and `used` that a refused edit or undo hands
@@ -34,7 +34,8 @@
  * Every call that takes a profile judges the whole file first, each time. That looks at four bytes of a chunk's data at most, so the time
  * does not depend on the size of the resources. It is proportional to entries + chunks where the numbers of each usage rise from entry to
  * entry. Where they do not, earlier pairs are looked through as well, and the time can grow to chunks + entries * entries. This holds for
- * refused files too. An edit besides moves the bytes behind what it changes, once; what blorb_scaled takes besides stands with it.
+ * refused files too. An edit besides moves the bytes behind what it changes, once. What scaled pictures and spoken descriptions take besides
+ * stands with them.
  *
  * To go through an index, call blorb_read once: in an accepted file entry i stands at 24 + BLORB_ENTRY_SIZE * i, as usage, number and
  * start of its chunk, each of four bytes, the first one highest. Starts never fall from entry to entry, so a file can be played from front
@@ -59,10 +60,10 @@ extern "C" {
 
 /* The version of this header, as one number major * 1000000 + minor * 1000 + patch. A major version may change what a call takes. */
 #define BLORB_VERSION_MAJOR 2
-#define BLORB_VERSION_MINOR 3
+#define BLORB_VERSION_MINOR 4
 #define BLORB_VERSION_PATCH 0
 #define BLORB_VERSION (BLORB_VERSION_MAJOR * 1000000 + BLORB_VERSION_MINOR * 1000 + BLORB_VERSION_PATCH)
-#define BLORB_VERSION_TEXT "2.3.0"
+#define BLORB_VERSION_TEXT "2.4.0"
 
 /* The version of the archive that the program is linked with: BLORB_VERSION, where header and archive belong together. */
 uint32_t blorb_version(void);
@@ -78,7 +79,8 @@ enum {
     BLORB_ROW_NUMBERS = 3,     /* numbers of 32 bits in a row of a finding table */
     BLORB_FORM_NUMBERS = 4,    /* numbers of 32 bits in a row of the list of FORMs */
     BLORB_FORM_SIZE = 12,      /* bytes that a FORM has at least: header and type */
-    BLORB_MAX_DEPTH = 16       /* levels of a group file, at most */
+    BLORB_MAX_DEPTH = 16,      /* levels of a group file, at most */
+    BLORB_TEXT_NUMBERS = 4     /* numbers of 32 bits in a row of texts to be written: usage, number, place, length */
 };
 
 /*
@@ -87,10 +89,10 @@ enum {
  * the figure of each call.
  */
 enum {
-    BLORB_STACK_READING = 768,  /* at most, for every call but those below; 673 as compiled */
-    BLORB_STACK_EDITING = 1024, /* at most, for editing; 721 as compiled */
+    BLORB_STACK_READING = 768,  /* at most, for every call but those below; 697 as compiled */
+    BLORB_STACK_EDITING = 1024, /* at most, for editing; 745 as compiled */
     BLORB_STACK_GROUPS = 6144,  /* at most, for group files of 16 levels; 4776 as compiled */
-    BLORB_STACK_LISTS = 8192    /* at most, for blorb_scaled, which marks the rows of a list; 7697 as compiled */
+    BLORB_STACK_LISTS = 8192    /* at most, for scaled pictures and spoken descriptions, which mark the rows of a list; 7752 as compiled */
 };
 
 /* Usages and types as numbers: the four bytes, the first one highest. */
@@ -144,7 +146,7 @@ enum {
     /* The call; place 0. */
     BLORB_LENGTHS = 20,         /* `length` or `used` exceeds its buffer */
     BLORB_RECORD = 21,          /* the journal's last record is not well formed, or does not fit this file */
-    BLORB_NOT_THERE = 22,       /* no such entry */
+    BLORB_NOT_THERE = 22,       /* no such entry, row, FORM or text */
     BLORB_SHARED = 23,          /* the chunk to be replaced has another entry too */
     BLORB_FILE_ROOM = 24,       /* the file buffer is too small for the resulting file */
     BLORB_JOURNAL_ROOM = 25,    /* the journal is too small for the record */
@@ -156,8 +158,8 @@ enum {
     BLORB_TABLE_STALE = 35,     /* the table is not this file's; place: the first differing row from 0, or the smaller row count */
 
     /*
-     * The group file; place: the chunk's start, but of bytes behind the top the first of them. The first place in the file decides, and at one place
-     * the first of these. BLORB_TOO_LONG comes before them.
+     * The group file; place: the chunk's start, but of bytes behind the top the first of them. The first place in the file decides, and at one
+     * place the first of these. BLORB_TOO_LONG comes before them.
      */
     BLORB_GROUP_SIZE = 41,      /* a header cut short, a size running past what holds the chunk, or a FORM, group or 'PROP' of under 4 data bytes */
     BLORB_GROUP_DEPTH = 42,     /* a FORM or group deeper than BLORB_MAX_DEPTH */
@@ -174,6 +176,13 @@ enum {
     BLORB_SECOND_RESO = 31,     /* a second 'Reso'; place: its start */
     BLORB_RESO_LENGTH = 32,     /* the length of the 'Reso' is not 24 plus a multiple of 28; place: its start */
     BLORB_RESO_NUMBER = 33,     /* a number of the 'Reso', or a side given, may not be; blorb_scaled says which may not; place 0 */
+
+    /* The 'RDes' chunk. Places in brackets are those of blorb_texts_write. */
+    BLORB_SECOND_RDES = 36,     /* a second 'RDes'; place: its start */
+    BLORB_RDES_LENGTH = 37,     /* the entries do not fill the 'RDes' exactly; place: its start */
+    BLORB_RDES_REPEATED = 38,   /* an earlier text has this usage and number; place: the text's entry [the row from 0] */
+    BLORB_RDES_TEXT = 39,       /* a text is no UTF-8 [or runs past its slice]; place: the first byte behind its longest good beginning [the row] */
+    BLORB_RDES_ROOM = 40,       /* the buffer is too small for the chunk, or the chunk longer than BLORB_MAX_SIZE; place 0 */
 
     /* The file that the edit would make; place as in that file. */
     BLORB_RESULT = 100,         /* 100 + k: it would be refused with k. These can occur: */
@@ -363,14 +372,66 @@ typedef struct blorb_scaled_answer {
  * width or height zero, a denominator zero in a standard ratio or under a numerator that is not zero, a least ratio over the greatest where both
  * are limits, and a picture with two rows; and window_width, window_height, width or height over 65,535, also in a file without a 'Reso'.
  *
- * Beside the judging of the file it takes a few passes over the 'Reso' where the picture numbers rise from row to row. Where they do not, a repeated
- * one is looked for among the earlier rows, and the time grows with the square of the rows. Nothing limits them but the file's size: 599,184
- * rows at most. The worst 'Reso' that was found, of that many, took 0.7 s (docs/BENCHMARK.md).
+ * Beside the judging of the file it takes a few passes over the 'Reso' where the picture numbers rise from row to row. Where they do not, a
+ * repeated one is looked for among the earlier rows, and the time grows with the square of the rows. Nothing limits them but the file's size:
+ * 599,184 rows at most. The worst 'Reso' found, one of that many rows made against this search, took 1.3 s (docs/BENCHMARK.md).
  *
  * The file's refusals, then 31, 32, 33.
  */
 blorb_scaled_answer blorb_scaled(const uint8_t *file, size_t size, uint32_t profile, uint64_t window_width, uint64_t window_height,
                                  uint32_t picture, uint64_t width, uint64_t height);
+
+/*
+ * Spoken descriptions. An 'RDes' chunk (Blorb 2.0.4, section 9) has texts for those who do not see the pictures or hear the sounds: a count, and for
+ * each text the usage and number of its resource, its length and its bytes, in UTF-8 (RFC 3629), without a closing zero.
+ *
+ * Each call that reads judges the whole file, and then the whole 'RDes', its other texts too: 37, then text by text 38 before 39, then 36. A text may
+ * be of no bytes, of a resource that the index does not have, and of any usage. A file without an 'RDes' has no texts.
+ *
+ * Beside the judging of the file they take a few passes over the 'RDes' where the pairs of usage and number rise from text to text. Where they
+ * do not, a repeated pair is looked for among the earlier texts, and the time grows with the square of the texts. Nothing limits them but the
+ * file's size: 1,398,098 texts of no bytes at most. The worst 'RDes' found, one of that many texts made against this search, took 13 s
+ * (docs/BENCHMARK.md).
+ */
+
+/* Of a refused call: usage, number, start and length 0. */
+typedef struct blorb_text_answer {
+    uint64_t refusal;
+    uint64_t place;
+    uint32_t usage;  /* as a number */
+    uint32_t number;
+    uint64_t start;  /* where the text begins: file + start */
+    uint64_t length; /* its bytes */
+} blorb_text_answer;
+
+/* Text i, counted from 0, with the usage and number of its resource. The file's refusals, then 37, 38, 39, 36, and 22 where there is none. */
+blorb_text_answer blorb_text(const uint8_t *file, size_t size, uint32_t profile, size_t i);
+
+/*
+ * The text of the resource with this usage and number, which the answer has again. The file's refusals, then 37, 38, 39, 36, and 22 where there is
+ * no such text, or where the index has no such resource.
+ */
+blorb_text_answer blorb_text_of(const uint8_t *file, size_t size, uint32_t profile, const char usage[4], uint32_t number);
+
+/* Of a refused call: length 0. */
+typedef struct blorb_write_answer {
+    uint64_t refusal;
+    uint64_t place;
+    uint64_t length; /* the chunk's bytes in the buffer, header and padding among them */
+} blorb_write_answer;
+
+/*
+ * The whole 'RDes' chunk of these texts at the front of the buffer, header and padding included; the bytes behind it stay. `rows` are `numbers`
+ * numbers, aligned as uint32_t, BLORB_TEXT_NUMBERS to a row: usage (BLORB_PICT .. BLORB_EXEC, or any other), number, and where in `texts` the text
+ * begins and how many bytes it has. A partial last row is not looked at. Texts may overlap or be the same bytes. Put into a file as its only
+ * 'RDes', behind the index, the chunk gives back the same pairs and texts in the same order.
+ *
+ * The time is as with reading, and besides proportional to the bytes of all texts that the rows name: 200 rows over one text of 16 MB take 3 s.
+ * The list is judged before its size, so this holds of refused lists too, also of those with more rows than any chunk has room for: with ten
+ * million rows that do not rise it is minutes.
+ * Refusals, row by row 38 before 39, then 40.
+ */
+blorb_write_answer blorb_texts_write(const uint32_t *rows, size_t numbers, const uint8_t *texts, size_t texts_size, uint8_t *buffer, size_t size);
 
 /*
  * Editing. The file is the first `length` bytes of a buffer of `size` bytes; the journal's records are the first `used` bytes of

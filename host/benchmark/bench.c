@@ -200,6 +200,8 @@ static int print_times(void)
     print_groups();
     puts("\n## Scaled pictures\n");
     print_scaling();
+    puts("\n## Spoken descriptions\n");
+    print_texts();
     return 0;
 }
 

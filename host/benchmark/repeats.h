@@ -1,6 +1,6 @@
 /*
  * The search for a repeated key in a long list, as the library makes it, in C: (a) of the benchmark. Keys are marked block by block in a small array,
- * and earlier entries are held against the marks; where these mislead too often, the next round marks by another factor.
+ * and earlier entries are held against the marks. Each block has a factor of its own; where the marks mislead too often, the next round marks by another.
  */
 #ifndef REPEATS_H
 #define REPEATS_H
@@ -15,6 +15,7 @@ struct list {
 };
 
 enum { MARK_WORDS = 896, MARK_BLOCK = 1792, MISLED = 64 };
+#define STIR ((uint64_t)2246822519)
 
 static inline uint64_t key_at(const struct list *l, const uint8_t *at)
 {
@@ -28,7 +29,7 @@ static inline const uint8_t *next_at(const struct list *l, const uint8_t *at)
 
 static inline uint64_t stirred(uint64_t f, uint64_t x)
 {
-    return x % 4294967296 * f + x / 4294967296 * 2246822519;
+    return x % 4294967296 * f + x / 4294967296 * STIR;
 }
 
 static inline uint64_t mixed(uint64_t f, uint64_t k)
@@ -47,16 +48,16 @@ static inline uint64_t mark_bits(uint64_t m)
         | (uint64_t)1 << m / 281474976710656 % 64;
 }
 
-/* Each block begins with a factor of its own; b is its first entry. */
+/* The factor of the block that begins with entry b. */
 static inline uint64_t first_factor(size_t b)
 {
     return b % 1000000007 * 48271 % 1000000007 + 1000000000;
 }
 
-/* The first entry of the block that entry i is in, where the keys do not rise: the first block begins behind entry 0. */
+/* Where the block of entry i begins in a list of which only the first entry rises. */
 static inline size_t block_of(size_t i)
 {
-    return i == 0 ? 1 : 1 + (i - 1) / MARK_BLOCK * MARK_BLOCK;
+    return i == 0 ? 1 : i - (i - 1) % MARK_BLOCK;
 }
 
 static inline uint64_t next_factor(uint64_t f)
@@ -82,7 +83,7 @@ static inline void mark(const struct list *l, const uint8_t *from, size_t n, uin
     }
 }
 
-/* Whether one of the n entries from `from` on has the key of an earlier one of them; `end` is what stands behind them. */
+/* Whether one of the n entries from entry b on, which stands at `from`, has the key of an earlier one of them; `end` is what stands behind them. */
 static inline bool repeats_inside(const struct list *l, size_t b, const uint8_t *from, size_t n, const uint8_t **end)
 {
     uint64_t marks[MARK_WORDS], f = first_factor(b);
@@ -102,15 +103,15 @@ static inline bool repeats_inside(const struct list *l, size_t b, const uint8_t 
     return false;
 }
 
-/* Whether one of the n entries from `from` on has the key of one of the list's first `below`. */
-static inline bool repeats_below(const struct list *l, size_t below, const uint8_t *from, size_t n)
+/* Whether one of the n entries from entry b on, which stands at `from`, has the key of one before b. */
+static inline bool repeats_below(const struct list *l, size_t b, const uint8_t *from, size_t n)
 {
-    uint64_t marks[MARK_WORDS], f = first_factor(below);
+    uint64_t marks[MARK_WORDS], f = first_factor(b);
     const uint8_t *at = l->base;
 
-    for (size_t i = 0; i < below; f = next_factor(f)) {
+    for (size_t i = 0; i < b; f = next_factor(f)) {
         mark(l, from, n, f, marks);
-        for (int left = MISLED; i < below && left > 0; i++, at = next_at(l, at)) {
+        for (int left = MISLED; i < b && left > 0; i++, at = next_at(l, at)) {
             uint64_t k = key_at(l, at), m = mixed(f, k), bits = mark_bits(m);
             bool hit = (marks[mark_word(m)] & bits) == bits;
             left -= hit;

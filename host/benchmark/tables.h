@@ -11,4 +11,7 @@ void print_columns(void);
 /* Those of scaled pictures. */
 void print_scaling(void);
 
+/* And those of spoken descriptions. */
+void print_texts(void);
+
 #endif

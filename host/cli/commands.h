@@ -13,14 +13,15 @@ typedef struct request {
     char new_usage[4]; /* of `link` */
     uint32_t new_number;
     char type[4];
-    const char *data;   /* the path of the data, "-" for standard input */
+    const char *data;   /* the path of the data, or of the list of `describe --write`; "-" for standard input */
     uint32_t edits;     /* how many `undo` takes back */
     int picks_form;     /* `forms` is given a number, this one */
     uint32_t form;
     uint64_t window[2]; /* of `scale`: width and height */
     uint64_t size[2];   /* of `scale`: the picture's */
     int has_size;       /* it was given */
-    const char *out;    /* where `get` and `forms` write; null or "-" for standard output */
+    int has_pair;       /* `describe` was given a usage and number */
+    const char *out;    /* where `get`, `forms` and `describe` write; null or "-" for standard output */
     const char *folder; /* where `get --all` writes */
     int as_is;          /* data that contradicts its type is taken */
     int no_undo;        /* no journal is kept */
@@ -35,6 +36,7 @@ int run_find(const request *r);
 int run_get(const request *r);
 int run_forms(const request *r);
 int run_scale(const request *r);
+int run_describe(const request *r);
 int run_new(const request *r);
 int run_add(const request *r);
 int run_replace(const request *r);

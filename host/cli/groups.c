@@ -44,11 +44,11 @@ static int list_forms(const request *r, const contents *c)
 
 static int get_form(const request *r, const contents *c)
 {
-    char about[40];
+    char what[40];
     blorb_pick_answer a = blorb_forms_pick(c->file, c->length, r->form);
-    snprintf(about, sizeof about, "FORM %" PRIu32, r->form);
+    snprintf(what, sizeof what, "the file has no FORM %" PRIu32, r->form);
     if (a.refusal == BLORB_NOT_THERE)
-        return say_refused(r->file, a.refusal, a.place, about, "`blorb forms FILE` lists them, from 0.");
+        return say_not_there(r->file, what, "`blorb forms FILE` lists its FORMs, from 0.");
     if (a.refusal != BLORB_DONE)
         return refuse(r, a.refusal, a.place);
     return put_where_asked(r, c, (bytes){c->file + a.start, (size_t)a.length});

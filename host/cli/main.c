@@ -38,6 +38,8 @@ static const command commands[] = {
     {"scale", "fnwS", "", "scale FILE NUMBER WIDTHxHEIGHT [PICTURE_WIDTHxPICTURE_HEIGHT]",
      "print how large a picture is shown in a window of that size, by the file's 'Reso'; its own size is read from its data where it is left out",
      run_scale},
+    {"describe", "fun", "ow", "describe FILE [USAGE NUMBER] [-o OUT], or describe FILE --write LISTFILE [-o CHUNK]",
+     "list the spoken descriptions of the file's resources, or print one; --write makes the chunk that holds those of LISTFILE", run_describe},
     {"new", "f", "", "new FILE", "make a file with no resources", run_new},
     {"add", "funTd", "sn", "add FILE USAGE NUMBER [TYPE] DATAFILE [--as-is] [--no-undo]",
      "add a resource with the data of DATAFILE; - is standard input", run_add},
@@ -72,6 +74,7 @@ typedef struct option {
 static const option options[] = {
     {'p', ADRIFT_OPTION, 0},
     {'o', "-o", 1}, {'a', "--all", 1}, {'s', "--as-is", 0}, {'n', "--no-undo", 0}, {'j', "--json", 0}, {'l', "--long", 0},
+    {'w', "--write", 1},
 };
 
 static void print_help(void)
@@ -184,7 +187,7 @@ static const char *read_operand(char letter, const char *text, request *r)
 /* Gives 0, or -1 where the option has been given its name before. */
 static int set_option(char letter, const char *name, request *r)
 {
-    int given_before = (letter == 'o' && r->out != NULL) || (letter == 'a' && r->folder != NULL);
+    int given_before = (letter == 'o' && r->out != NULL) || (letter == 'a' && r->folder != NULL) || (letter == 'w' && r->data != NULL);
     switch (letter) {
     case 'p':
         r->profile = BLORB_ADRIFT;
@@ -197,6 +200,9 @@ static int set_option(char letter, const char *name, request *r)
         break;
     case 's':
         r->as_is = 1;
+        break;
+    case 'w':
+        r->data = name;
         break;
     case 'n':
         r->no_undo = 1;
@@ -312,6 +318,13 @@ static int is_help(const char *word)
     return strcmp(word, "--help") == 0 || strcmp(word, "-h") == 0;
 }
 
+/* A command that goes over all of FILE takes its name alone. */
+static const char *operands_wanted(const command *c, const request *r, const words *left)
+{
+    int describes = c->run == run_describe;
+    return r->folder != NULL || (describes && (r->data != NULL || left->count < 2)) ? "f" : c->operands;
+}
+
 static int run_command(const command *c, uint32_t profile, int count, char **given)
 {
     request r = {.edits = 1, .profile = profile};
@@ -326,9 +339,12 @@ static int run_command(const command *c, uint32_t profile, int count, char **giv
     if (status == CARRIED_OUT && r.folder != NULL && r.out != NULL)
         status = misused(c, "either -o OUT or --all FOLDER", "");
     if (status == CARRIED_OUT)
-        status = read_operands(c, r.folder != NULL ? "f" : c->operands, &left, &r);
+        status = read_operands(c, operands_wanted(c, &r, &left), &left, &r);
     if (status == CARRIED_OUT && c->run == run_forms && r.out != NULL && !r.picks_form)
         status = misused(c, "-o is for one FORM, whose N is missing", "");
+    r.has_pair = left.count > 1;
+    if (status == CARRIED_OUT && c->run == run_describe && r.out != NULL && r.data == NULL && !r.has_pair)
+        status = misused(c, "-o is for one text, or for --write", "");
     if (status == CARRIED_OUT)
         status = refuse_own_names(&r);
     return status == CARRIED_OUT ? c->run(&r) : status;

@@ -1,4 +1,4 @@
-/* check and get: commands that change no Blorb file. */
+/* check and get, which change no Blorb file, and where what was asked for is put. */
 #define _XOPEN_SOURCE 700
 #include <ctype.h>
 #include <errno.h>

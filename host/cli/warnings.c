@@ -4,6 +4,7 @@
 #include <stdio.h>
 #include <string.h>
 
+#include "describing.h"
 #include "kinds.h"
 #include "scaling.h"
 #include "words.h"
@@ -78,4 +79,5 @@ void warn_of(const contents *c, const char *shown)
         warn_of_numbers(c, shown, usages[i]);
     warn_of_data(c, shown);
     warn_of_scaling(c, shown);
+    warn_of_texts(c, shown);
 }

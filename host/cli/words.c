@@ -61,6 +61,11 @@ static const remedy remedies[] = {
     {BLORB_RESO_NUMBER,
      "Give sides of at most 65535. In the 'Reso' all numbers but those of pictures are at most 65535, the standard window's sides and\n"
      "  the denominators are not 0 (a limit of 0/0 is none), no least ratio is over the greatest, and no picture is listed twice."},
+    {BLORB_SECOND_RDES, "Pack the file again with one of them, which has all texts."},
+    {BLORB_RDES_LENGTH, "Its packer wrote it wrong: it has a count, and for each text usage, number, length and the bytes. Pack the file again."},
+    {BLORB_RDES_REPEATED, "Give each resource one text."},
+    {BLORB_RDES_TEXT, "Save the text as UTF-8."},
+    {BLORB_RDES_ROOM, "Use fewer or shorter texts."},
     {BLORB_RESULT_TOO_LONG, "Use smaller data, or remove another resource first."},
     {BLORB_RESULT_SECOND_INDEX, TYPES},
     {BLORB_RESULT_TOO_MANY, "Remove another resource first."},
@@ -134,6 +139,16 @@ int say_refused(const char *file, uint64_t number, uint64_t place, const char *a
     say_file(file);
     fprintf(stderr, ": refused %" PRIu64 " at %" PRIu64 ": ", number, place);
     return say_sentence(number, about, advice);
+}
+
+int say_not_there(const char *file, const char *what, const char *advice)
+{
+    say_file(file);
+    fprintf(stderr, ": refused %d at 0: ", (int)BLORB_NOT_THERE);
+    say_safely(what);
+    fputs(".\n", stderr);
+    say_advice(advice);
+    return REFUSED;
 }
 
 int say_meaning(const char *file, uint64_t number, const char *about, const char *advice)

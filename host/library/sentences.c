@@ -97,6 +97,16 @@ const char *blorb_sentence(uint64_t refusal)
         return "the length of the 'Reso' chunk is not 24 plus a multiple of 28";
     case BLORB_RESO_NUMBER:
         return "the 'Reso' chunk has a number that may not be in it or lists a picture twice, or a width or height given is over 65,535";
+    case BLORB_SECOND_RDES:
+        return "there is a second 'RDes' chunk";
+    case BLORB_RDES_LENGTH:
+        return "the texts of the 'RDes' chunk do not fill it exactly";
+    case BLORB_RDES_REPEATED:
+        return "an earlier text is for the same usage and number";
+    case BLORB_RDES_TEXT:
+        return "a text is not UTF-8 from there on, or runs past the bytes given";
+    case BLORB_RDES_ROOM:
+        return "there is no room for the 'RDes' chunk, or it would be longer than 16,777,216 bytes";
     case BLORB_RESULT_TOO_LONG:
         return "the file would be longer than 16,777,216 bytes";
     case BLORB_RESULT_SECOND_INDEX:

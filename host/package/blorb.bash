@@ -80,7 +80,7 @@ _blorb() {
     fi
     usage=$(_blorb_usage "$program" "${COMP_WORDS[1]}")
     if [[ $now == -* ]]; then
-        words=$(grep -o -e '-[a-z-]*[a-z]' <<< "$usage")
+        words=$(grep -o -e '-[a-z-]*[a-z]' <<< "$usage" | sort -u)
         mapfile -t COMPREPLY < <(compgen -W "$words --help --adrift" -- "$now")
         return
     fi

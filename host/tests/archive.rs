@@ -89,6 +89,23 @@ mod raw {
         pub height: u64,
     }
 
+    #[repr(C)]
+    pub struct Text {
+        pub refusal: u64,
+        pub place: u64,
+        pub usage: u32,
+        pub number: u32,
+        pub start: u64,
+        pub length: u64,
+    }
+
+    #[repr(C)]
+    pub struct Write {
+        pub refusal: u64,
+        pub place: u64,
+        pub length: u64,
+    }
+
     #[rustfmt::skip]
     extern "C" {
         pub fn blorb_version() -> u32;
@@ -107,6 +124,9 @@ mod raw {
         pub fn blorb_aiff_length(bytes: *const u8, size: usize) -> Aiff;
         pub fn blorb_scaled(file: *const u8, size: usize, profile: u32, window_width: u64, window_height: u64, picture: u32,
             width: u64, height: u64) -> Scaled;
+        pub fn blorb_text(file: *const u8, size: usize, profile: u32, i: usize) -> Text;
+        pub fn blorb_text_of(file: *const u8, size: usize, profile: u32, usage: *const u8, number: u32) -> Text;
+        pub fn blorb_texts_write(rows: *const u32, numbers: usize, texts: *const u8, texts_size: usize, buffer: *mut u8, size: usize) -> Write;
         pub fn blorb_blank(file: *mut u8, size: usize) -> Edit;
         pub fn blorb_add(file: *mut u8, size: usize, length: usize, journal: *mut u8, journal_size: usize, used: usize,
             profile: u32, usage: *const u8, number: u32, tag: *const u8, data: *const u8, data_size: usize) -> Edit;
@@ -187,6 +207,12 @@ impl Lent {
 
     pub fn bytes(&self) -> &[u8] {
         &self.array()[self.from..self.from + self.size]
+    }
+
+    /// Other bytes at a place in it.
+    pub fn set(&mut self, at: usize, bytes: &[u8]) {
+        let from = self.from + at;
+        self.array_mut()[from..from + bytes.len()].copy_from_slice(bytes);
     }
 
     fn guards_whole(&self) -> bool {
@@ -320,6 +346,29 @@ pub fn scaled(file: &mut Lent, profile: u32, asking: &Asking) -> Reading<2> {
     reading(answer.refusal, answer.place, [answer.width, answer.height])
 }
 
+fn told(answer: raw::Text) -> Reading<4> {
+    reading(answer.refusal, answer.place, [answer.usage as u64, answer.number as u64, answer.start, answer.length])
+}
+
+pub fn text(file: &mut Lent, profile: u32, i: usize) -> Reading<4> {
+    told(unsafe { raw::blorb_text(file.pointer(), file.size, profile, i) })
+}
+
+pub fn text_of(file: &mut Lent, profile: u32, usage: &Tag, number: u32) -> Reading<4> {
+    let mut lent_usage = Lent::new(usage, file.shift + 1);
+    let answer = unsafe { raw::blorb_text_of(file.pointer(), file.size, profile, lent_usage.pointer(), number) };
+    if let Some(complaint) = lent_usage.complaint("usage", usage) {
+        return Err(complaint);
+    }
+    told(answer)
+}
+
+pub fn texts_write(rows: &mut Lent, count: usize, texts: &mut Lent, buffer: &mut Lent) -> Reading<1> {
+    let (t, texts_size) = (texts.pointer(), texts.size);
+    let answer = unsafe { raw::blorb_texts_write(numbers(rows), count, t, texts_size, buffer.pointer(), buffer.size) };
+    reading(answer.refusal, answer.place, [answer.length])
+}
+
 fn edited(answer: raw::Edit) -> Answer {
     Answer { refusal: answer.refusal, place: answer.place, length: answer.length, used: answer.used }
 }
@@ -405,6 +454,14 @@ pub fn on_huge_arrays(zeros: &mut [u8]) -> Vec<(&'static str, String, String)> {
         check("read of a huge file, unknown profile", [read.refusal, read.place, read.length, read.count], [52, 0, 0, 0]);
         let scaled = raw::blorb_scaled(z, huge, p, 640, 480, 1, 2, 2);
         check("scaled in a huge file", [scaled.refusal, scaled.place, scaled.width, scaled.height], [1, 0, 0, 0]);
+        let text = raw::blorb_text(z, huge, p, 0);
+        check("text in a huge file", [text.refusal, text.place, text.start, text.length], [1, 0, 0, 0]);
+        // The text's place and length are beyond 4 GiB together, and within its slice; then the slice is one byte too short.
+        let row = [1, 1, 0xffff_fffe, 20];
+        let write = raw::blorb_texts_write(row.as_ptr(), 4, z, huge, f, 100);
+        check("a text beyond 4 GiB", [write.refusal, write.place, write.length, 0], [0, 0, 44, 0]);
+        let write = raw::blorb_texts_write(row.as_ptr(), 4, z, 0x1_0000_0011, f, 100);
+        check("a text past a slice beyond 4 GiB", [write.refusal, write.place, write.length, 0], [39, 0, 0, 0]);
         let remove = raw::blorb_remove(z, huge, huge, j, 100, 0, p, usage, 7);
         check("remove from a huge file", numbers(remove), [1, 0, huge as u64, 0]);
         let remove = raw::blorb_remove(z, huge, huge, j, 100, 0, unknown, usage, 7);

@@ -9,6 +9,7 @@ import command_kit    # first: it says where the reference is
 import command_card
 import command_crash
 import command_data
+import command_describe
 import command_forms
 import command_journal
 import command_profile
@@ -29,10 +30,11 @@ def run_parts(parts, where):
     try:
         for part in parts:
             before, started = command_kit.checks, time.time()
-            folder = work / part.__name__
+            name = f"{part.__module__.removeprefix('command_')}, {part.__name__}"
+            folder = work / name.replace(", ", "-")
             folder.mkdir()
             part(folder)
-            print(f"  {part.__name__}: {command_kit.checks - before} checks, {time.time() - started:.1f} s", flush=True)
+            print(f"  {name}: {command_kit.checks - before} checks, {time.time() - started:.1f} s", flush=True)
     finally:
         shutil.rmtree(work)
 
@@ -40,8 +42,8 @@ def run_parts(parts, where):
 def main():
     begun = time.time()
     print(f"command: {command_kit.PROGRAM}; seeds are fixed (7, 2004, 15, 2611, 23)")
-    run_parts(command_use.PARTS + command_data.PARTS + command_scripts.PARTS + command_sounds.PARTS + command_forms.PARTS + command_scale.PARTS + command_card.PARTS,
-              None)
+    run_parts(command_use.PARTS + command_data.PARTS + command_scripts.PARTS + command_sounds.PARTS + command_forms.PARTS + command_scale.PARTS +
+              command_describe.PARTS + command_card.PARTS, None)
     run_parts(command_journal.PARTS + command_crash.PARTS + command_table.PARTS + command_profile.PARTS, MEMORY)
     print(f"{command_kit.checks} checks in {time.time() - begun:.0f} s")
     print("command: ok")

@@ -61,8 +61,8 @@ def trees(work):
             same(out.read_bytes(), wanted, f"FORM {i} of tree {n} in a file")
             inside = [(k, s - start, m, d + 1 - depth) for k, s, m, d in rows if start <= s < start + 8 + length]
             same(done("forms", out), printed(wanted, inside), f"FORM {i} of tree {n} as a group file")
-        refused(22, 0, "forms", file, str(len(rows)), advice="from 0")
-        refused(22, 0, "forms", file, "4294967295", "-o", work / "none", advice="from 0")
+        refused(22, 0, "forms", file, str(len(rows)), saying=f"has no FORM {len(rows)}.", advice="from 0")
+        refused(22, 0, "forms", file, "4294967295", "-o", work / "none", saying="has no FORM 4294967295.", advice="from 0")
     same(sorted(contents(work)), ["group.iff", "out.iff"], "nothing else is written")
 
 
@@ -129,7 +129,7 @@ def other_files(work):
     failed("forms", work / "x.table", saying="own")
     same(run("forms", "/dev/stdin", stdin=sound).out, printed(sound, [(b"AIFF", 0, len(sound) - 8, 1)]), "a file without a name")
     same(contents(work), {"game.blb": held}, "nothing changes")
-    expect("FORM 2" in refused(22, 0, "forms", file, "2", advice="from 0").err, "which one is missing")
+    refused(22, 0, "forms", file, "2", saying="the file has no FORM 2.", advice="from 0")
 
 
 PARTS = (trees, levels, faults, other_files)

@@ -86,6 +86,8 @@ SAID = {
     44: ("is missing or not zero", "zero byte behind each chunk"), 35: ("finding table is not this file's", "blorb table FILE"),
     31: ("second 'Reso'", "one of them"), 32: ("length of the 'Reso' chunk", "28 for each picture"),
     33: ("number that may not be in it", "at most 65535"),
+    36: ("second 'RDes'", "all texts"), 37: ("do not fill it exactly", "for each text"), 38: ("same usage and number", "one text"),
+    39: ("not UTF-8", "Save the text as UTF-8"), 40: ("no room for the 'RDes'", "shorter texts"),
     101: ("would be longer", "smaller data"), 109: ("index's type 'RIdx'", "Pict takes"), 111: ("would have more", "Remove"),
     112: ("no such usage", "Pict, Snd, Data or Exec"), 114: ("does not suit the usage", "Pict takes"),
     115: ("number 0 and no other", "number 0"), 116: ("has a resource with this", "blorb replace"),
@@ -93,10 +95,10 @@ SAID = {
 }
 
 
-def refused(number, place, *words, advice=None, **more):
+def refused(number, place, *words, advice=None, saying=None, **more):
     """Runs it where the library must refuse: standard error says in one line which rule is broken and where, then what to do."""
     result = run(*words, **more)
-    return refused_saying(number, rf"blorb: .*: refused {number} at {place}: [a-z].+\.", advice, words, result)
+    return refused_saying(number, rf"blorb: .*: refused {number} at {place}: [a-z'].+\.", advice, words, result, saying)
 
 
 def refused_list(number, place, *words, advice=None, **more):
@@ -107,12 +109,12 @@ def refused_list(number, place, *words, advice=None, **more):
     return refused_saying(number, r"blorb: .*: [a-z].+\.", advice, words, result)
 
 
-def refused_saying(number, pattern, advice, words, result):
+def refused_saying(number, pattern, advice, words, result, saying=None):
     same(result.status, 1, f"{words} must be refused with {number}: {result}")
     line, _, rest = result.err.partition("\n")
     expect(re.fullmatch(pattern, line), f"{words}: wanted {pattern}, got {result.err}")
     about, what_to_do = SAID[number]
-    expect(about in line and rest.startswith("  ") and (advice or what_to_do) in rest, f"{words}: what is said of {number}: {result.err}")
+    expect((saying or about) in line and rest.startswith("  ") and (advice or what_to_do) in rest, f"{words}: what is said of {number}: {result.err}")
     return result
 
 

@@ -60,6 +60,7 @@ def house(work):
     same((work / (FILE + ".table")).read_bytes(), rows, "the table")
     expect(done("find", file, "Snd", "3", "--adrift").startswith(b"Snd  3 at "), "find")
     same(done("scale", file, "1", "640x480", "--adrift"), b"Pict 1 320x200 scaled 320x200\n", "scale")
+    same(done("describe", file, "--adrift"), b"# no texts\n", "describe")
     same(len(done("history", file, "--adrift").splitlines()), 8, "history")
     done("remove", "--adrift", file, "Snd", "3")
     done("link", file, "--adrift", "Pict", "1", "Pict", "9")
@@ -75,7 +76,8 @@ def without(work):
     made(file)
     done("--adrift", "table", file)
     held = contents(work)
-    for words in (["check"], ["get", "Pict", "1"], ["get", "--all", work / "all"], ["table"], ["find", "Pict", "1"], ["scale", "1", "9x9"], ["history"],
+    for words in (["check"], ["get", "Pict", "1"], ["get", "--all", work / "all"], ["table"], ["find", "Pict", "1"], ["scale", "1", "9x9"], ["describe"],
+                  ["history"],
                   ["add", "Data", "9", "TEXT", "-"], ["replace", "Pict", "1", "GIF", "-"], ["remove", "Pict", "1"], ["undo"],
                   ["link", "Pict", "1", "Pict", "9"], ["remove", "Pict", "1", "--no-undo"]):
         refused(14, 24, words[0], file, *words[1:], advice="--adrift allows them")
@@ -188,7 +190,7 @@ def words(work):
     failed("check", "--", "--adrift", saying="--adrift")
     failed("--adrif", "check", file, saying="no command")
     failed("check", file, "--adrif", saying="no such option")
-    for command in ("list", "check", "table", "find", "get", "scale", "new", "add", "replace", "remove", "link", "undo", "history", "forget"):
+    for command in ("list", "check", "table", "find", "get", "scale", "describe", "new", "add", "replace", "remove", "link", "undo", "history", "forget"):
         expect(b"--adrift" in done("help", command), f"help {command}")
 
 

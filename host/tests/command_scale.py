@@ -108,7 +108,7 @@ def sides_by_reference(work):
     same(scaled(file, 0, (MOST, MOST), (MOST, 1))[1], (MOST ** 3, MOST ** 2), "sides beyond 32 bits")
 
 
-def refusals(work):
+def scale_refusals(work):
     file, good = work / "game.blb", (3, 1, 1, 1, 2, 2, 1)
     other = (7, 1, 1, 0, 0, 0, 0)
     entries, picture = [(b"Pict", 3, 0), (b"Data", 4, 1)], [(b"PNG ", png()), (b"TEXT", b"eel")]
@@ -146,7 +146,7 @@ def refusals(work):
     refused(5, 4, "scale", file, "3", "100x50")
 
 
-def warnings(work):
+def scale_warnings(work):
     """check warns of a 'Reso' by which no picture can be scaled, and of no other."""
     file, good = work / "game.blb", reso((100, 50), (3, 1, 1, 0, 0, 0, 0))
     for chunks, about in (([], None), ([good], None), ([good, good], "(refusal 31 at 84): there is a second 'Reso'"),
@@ -158,7 +158,7 @@ def warnings(work):
         expect(result.err == "" if about is None else f"blorb: {file}: warning: no picture can be scaled {about}" in result.err, result.err)
 
 
-def misuse(work):
+def scale_misuse(work):
     file = work / "game.blb"
     done("new", file)
     for size in ("", "x", "1x", "x1", "1", "1X2", "1x2x3", "-1x2", "1 x2", "+1x1", "1.5x2", "4294967296x1", "0x1f"):
@@ -169,4 +169,4 @@ def misuse(work):
     same(scaled(file, 1, (0, 0), (3, 4)), ((3, 4), (3, 4)), "a file without a 'Reso'")
 
 
-PARTS = (told_sizes, sides_by_reference, refusals, warnings, misuse)
+PARTS = (told_sizes, sides_by_reference, scale_refusals, scale_warnings, scale_misuse)

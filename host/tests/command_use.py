@@ -14,7 +14,7 @@ from command_kit import (PROGRAM, ROOT, aiff, be, contents, done, edited, editin
 BLANK = bytes.fromhex("464f524d000000104946525352496478 0000000400000000")
 SAMPLE_A = bytes.fromhex("464f524d00000028 49465253 5249647800000010 00000001 446174610000000700000024 5445585400000003 65656c00")
 LIMIT = 16_777_216
-NAMES = ("list", "check", "get", "forms", "scale", "new", "add", "replace", "remove", "link", "undo", "history", "forget")
+NAMES = ("list", "check", "get", "forms", "scale", "describe", "new", "add", "replace", "remove", "link", "undo", "history", "forget")
 NOBODY = 65534
 SOUNDS = ROOT / "host/tests/data"
 

@@ -12,6 +12,7 @@ mod samples;
 mod sounds;
 mod scaling;
 mod tables;
+mod texts;
 mod two_editors;
 
 use archive::{first_difference, Buffers, Lent};
@@ -194,6 +195,7 @@ pub fn check_file_under(tally: &mut Tally, rng: &mut Rng, file: &[u8], profile: 
         let _ = forms::check(tally, rng, file);
     }
     scaling::check(tally, rng, &mut lent, &read);
+    texts::check(tally, rng, &mut lent, &read);
     if let Some(complaint) = lent.complaint("file", file) {
         tally.fail(&format!("reading file={}", hex(file)), &complaint);
     }
@@ -378,8 +380,8 @@ pub fn check_call_and_52(tally: &mut Tally, rng: &mut Rng, call: &Call, state: &
 
 type Family = fn(&mut Tally, &mut Rng);
 
-/// The share of the cases that each family has: those of Blorb files make 100; sounds, group files and scaled pictures come besides.
-const FAMILIES: [(usize, Family); 13] = [
+/// The share of the cases that each family has: those of Blorb files make 100; sounds, group files, scaled pictures and spoken descriptions come besides.
+const FAMILIES: [(usize, Family); 14] = [
     (20, valid_files),
     (16, single_faults),
     (12, double_faults),
@@ -393,6 +395,7 @@ const FAMILIES: [(usize, Family); 13] = [
     (14, sounds::sounds),
     (14, forms::group_files),
     (14, scaling::files),
+    (14, texts::files),
 ];
 const SHARES: usize = shares(&FAMILIES);
 
@@ -689,6 +692,8 @@ fn rows() -> Vec<(&'static str, Vec<u64>)> {
         taking(["table_check", "table_check 52"], &[35]),
         taking(["columns_check", "columns_check 52"], &[35]),
         taking(["scaled", "scaled 52"], &[31, 32, 33]),
+        taking(["text", "text 52"], &[22, 36, 37, 38, 39]),
+        taking(["text_of", "text_of 52"], &[22, 36, 37, 38, 39]),
         taking(["add", "add 52"], &[20, 24, 25, 30, 101, 109, 111, 112, 114, 115, 116]),
         taking(["replace", "replace 52"], &[20, 22, 23, 24, 25, 30, 101, 109, 114, 119]),
         taking(["remove", "remove 52"], &[20, 22, 25, 119]),
@@ -736,7 +741,7 @@ fn rows() -> Vec<(&'static str, Vec<u64>)> {
         ("either order", vec![1, 2, 3, 4, 5]),
         ("later wins", vec![2]),
     ];
-    calls.into_iter().flatten().chain(others).chain(scaling::rows()).collect()
+    calls.into_iter().flatten().chain(others).chain(scaling::rows()).chain(texts::rows()).collect()
 }
 
 /// Prints how often LARGE was seen. False where so many inputs must show it more often.
@@ -770,7 +775,8 @@ fn print_table(tally: &Tally, complete: bool) -> bool {
     println!("aiff faults: sums of 1 for the form, 2 for 'COMM', 4 for the rate; aiff damaged: answers to these sounds damaged; aiff resource:");
     println!("answers to adding them; forms built: by construction; forms behind: 10 j + k where 40 + j decided and 40 + k held at the same place;");
     println!("forms deepest: depth of the deepest FORM, 0 for none):");
-    println!("scaled how: 0 neither limit, 1 raised, 2 lowered, 9 not listed; scaled 33: by its reasons in 02's order; scaled 31 and 32: what stood behind):");
+    println!("scaled how: 0 neither limit, 1 raised, 2 lowered, 9 not listed; scaled 33: by its reasons in 02's order; scaled 31 and 32: what stood behind;");
+    println!("text_of 22: the sum of 1 for a text and 2 for an entry of the index; text 37 to 39: what stood behind; text read back: 1 by pair too):");
     let mut good = true;
     for (row, numbers) in rows() {
         let seen: BTreeMap<u64, u64> =

@@ -6,11 +6,12 @@ use crate::generate::{self, Rng};
 use crate::reference::{Call, Chunk, Edit, Entry, File, Record, State, Tag, ADRIFT, LIMIT, MOST_ENTRIES, PLAIN};
 use crate::samples::samples;
 use crate::scaling;
+use crate::texts;
 use crate::{check_call_and_52, check_file, check_file_under, check_run, Tally};
 use std::ops::Range;
 
 const FIRST: usize = 0xE0;
-const CASES: [fn(&mut Tally, &mut Rng); 13] = [
+const CASES: [fn(&mut Tally, &mut Rng); 16] = [
     samples,
     at_limit,
     over_limit,
@@ -24,6 +25,9 @@ const CASES: [fn(&mut Tally, &mut Rng); 13] = [
     run_at_length_limit,
     run_at_entry_limit,
     scaling::largest,
+    texts::sequences,
+    texts::longest,
+    texts::largest,
 ];
 pub const FAMILIES: Range<usize> = FIRST..FIRST + CASES.len();
 

@@ -7,6 +7,7 @@ pub mod forms;
 pub mod sounds;
 
 pub mod scaling;
+pub mod texts;
 
 use std::collections::{HashMap, HashSet};
 

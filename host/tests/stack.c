@@ -1,6 +1,6 @@
 /*
  * Every call on a stack of 8 KB, the smallest device's, with a page before it that may not be touched, and the C library's own memmove
- * and memset; blorb_scaled, which alone may take all of that, on one of 12 KB. What each call takes by itself: stack_depth.c.
+ * and memset; those on lists, which may take all of that, on one of 12 KB. What each call takes by itself: stack_depth.c.
  */
 #define _DEFAULT_SOURCE
 #include <stdio.h>
@@ -216,6 +216,28 @@ static size_t with_reso(void)
     return at + 8 + SIZE;
 }
 
+/* 5,000 texts whose numbers fall, written and read. */
+static void texts(void)
+{
+    enum { TEXTS = 5000 };
+    static uint32_t rows[BLORB_TEXT_NUMBERS * TEXTS];
+    size_t at = blorb_blank(wrong, ROOM).length;
+
+    for (uint32_t i = 0; i < TEXTS; i++)
+        memcpy(rows + BLORB_TEXT_NUMBERS * i, (uint32_t[]){BLORB_PICT, TEXTS - i, 0, i % 4}, sizeof(uint32_t[BLORB_TEXT_NUMBERS]));
+    blorb_write_answer a = blorb_texts_write(rows, BLORB_TEXT_NUMBERS * TEXTS, (const uint8_t *)"eel", 3, wrong + at, ROOM - at);
+    done(a.refusal);
+    size_t n = at + a.length;
+    put32(wrong + 4, n - 8);
+    done(blorb_text(wrong, n, profile, TEXTS - 1).refusal);
+    gives(blorb_text(wrong, n, profile, 3).length, 3);
+    gives(blorb_text_of(wrong, n, profile, "Pict", 5).refusal, BLORB_NOT_THERE);
+    wrong[n - 1] = 0xff; /* the last text */
+    gives(blorb_text(wrong, n, profile, 3).refusal, BLORB_RDES_TEXT);
+    rows[BLORB_TEXT_NUMBERS * TEXTS - 3] = 4;
+    gives(blorb_texts_write(rows, BLORB_TEXT_NUMBERS * TEXTS, (const uint8_t *)"eel", 3, wrong, ROOM).refusal, BLORB_RDES_REPEATED);
+}
+
 static void lists(void)
 {
     size_t n = with_reso();
@@ -226,6 +248,7 @@ static void lists(void)
     gives(blorb_scaled(wrong, n, profile, 640, 480, 7, 320, 200).refusal, BLORB_RESO_NUMBER);
     gives(blorb_scaled(wrong, n - 28, profile, 640, 480, 7, 320, 200).refusal, BLORB_FORM_LENGTH);
     gives(blorb_scaled(wrong, n, 2, 640, 480, 7, 320, 200).refusal, BLORB_PROFILE);
+    texts();
 }
 
 static void both_profiles(void)

@@ -19,8 +19,8 @@
  * In stack_calls.py stand the same calls.
  */
 enum call {
-    READ, ENTRY, LOOKUP, AIFF, FORMS, PICK, CHECK, SEARCH, COLUMNS_CHECK, COLUMNS_SEARCH, SCALED, BUILD, TO_COLUMNS, TO_ROWS, BLANK, ADD, REPLACE, REMOVE, LINK,
-    UNDO, VERSION, SENTENCE, CALLS
+    READ, ENTRY, LOOKUP, AIFF, FORMS, PICK, CHECK, SEARCH, COLUMNS_CHECK, COLUMNS_SEARCH, SCALED, TEXT, TEXT_OF, TEXTS_WRITE, BUILD, TO_COLUMNS, TO_ROWS, BLANK,
+    ADD, REPLACE, REMOVE, LINK, UNDO, VERSION, SENTENCE, CALLS
 };
 typedef void any(void);
 static struct row {
@@ -43,6 +43,9 @@ static struct row {
     [COLUMNS_CHECK] = {"blorb_columns_check", (any *)blorb_columns_check, true, true, {35}, 0, {0}},
     [COLUMNS_SEARCH] = {"blorb_columns_search", (any *)blorb_columns_search, false, false, {22}, 0, {0}},
     [SCALED] = {"blorb_scaled", (any *)blorb_scaled, false, true, {31, 32, 33}, 0, {0}},
+    [TEXT] = {"blorb_text", (any *)blorb_text, false, true, {22, 36, 37, 38, 39}, 0, {0}},
+    [TEXT_OF] = {"blorb_text_of", (any *)blorb_text_of, false, true, {22, 36, 37, 38, 39}, 0, {0}},
+    [TEXTS_WRITE] = {"blorb_texts_write", (any *)blorb_texts_write, false, false, {38, 39, 40}, 0, {0}},
     [BUILD] = {"blorb_table_build", (any *)blorb_table_build, false, true, {34}, 0, {0}},
     [TO_COLUMNS] = {"blorb_table_to_columns", (any *)blorb_table_to_columns, false, false, {34}, 0, {0}},
     [TO_ROWS] = {"blorb_table_to_rows", (any *)blorb_table_to_rows, false, false, {34}, 0, {0}},
@@ -133,6 +136,8 @@ static uint64_t read_it(const uint8_t *f, size_t n) { return RUN(READ, P(f), n, 
 static uint64_t entry(const uint8_t *f, size_t n, size_t i) { return RUN(ENTRY, P(f), n, profile, i); }
 static uint64_t lookup(const uint8_t *f, size_t n, const char *usage, uint32_t number) { return RUN(LOOKUP, P(f), n, profile, P(usage), number); }
 static uint64_t scaled(const uint8_t *f, size_t n, size_t side, uint32_t picture) { return RUN(SCALED, P(f), n, profile, side, 480, picture, 9, 7); }
+static uint64_t text(const uint8_t *f, size_t n, size_t i) { return RUN(TEXT, P(f), n, profile, i); }
+static uint64_t text_of(const uint8_t *f, size_t n, const char *usage, uint32_t number) { return RUN(TEXT_OF, P(f), n, profile, P(usage), number); }
 static uint64_t build(const uint8_t *f, size_t n, size_t numbers) { return RUN(BUILD, P(f), n, profile, P(table), numbers); }
 static uint64_t to_columns(size_t numbers, size_t room) { return RUN(TO_COLUMNS, P(table), numbers, P(columns), room); }
 static uint64_t to_rows(size_t numbers, size_t room) { return RUN(TO_ROWS, P(columns), numbers, P(turned), room); }
@@ -349,6 +354,8 @@ static void reading(const uint8_t *f, size_t n, uint64_t refusal)
         for (uint32_t i = 0; i < 6; i++)
             lookup(f, n, usages[u], i);
     wants(scaled(f, n, 640, 1), refusal, "scaled");
+    wants(text(f, n, 0), refusal == 0 ? (uint64_t)BLORB_NOT_THERE : refusal, "text");
+    wants(text_of(f, n, "Pict", 1), refusal == 0 ? (uint64_t)BLORB_NOT_THERE : refusal, "text by pair");
     wants(build(f, n, NUMBERS), refusal, "build");
     if (refusal == 0) {
         numbers = BLORB_ROW_NUMBERS * answer[2];
@@ -698,6 +705,81 @@ static void scaling(void)
         }
 }
 
+/* Rows of texts of `size` bytes from 0 on, and the same texts as an 'RDes' behind the few resources; the number of text i is i * by. */
+enum { TEXTS = 6000 };
+static uint32_t text_rows[BLORB_TEXT_NUMBERS * TEXTS];
+static size_t write_rdes(uint8_t *f, size_t count, size_t size, uint32_t by)
+{
+    size_t at = write_few(f), end = at + 12;
+
+    for (size_t i = 0; i < count; i++, end += 12 + size) {
+        uint32_t *row = text_rows + BLORB_TEXT_NUMBERS * i;
+        memcpy(row, (uint32_t[]){BLORB_PICT, (uint32_t)i * by, 0, (uint32_t)size}, sizeof(uint32_t[BLORB_TEXT_NUMBERS]));
+        for (size_t k = 0; k < 4; k++)
+            put32(f + end + 4 * k, k < 2 ? row[k] : size);
+        memcpy(f + end + 12, whole, size);
+    }
+    memcpy(f + at, "RDes", 4);
+    put32(f + at + 4, end - at - 8);
+    put32(f + at + 8, count);
+    f[end] = 0;
+    return finish(f, end + end % 2);
+}
+
+/* Both reading calls refuse the file of `n` bytes in `file`. */
+static void no_texts(size_t n, uint64_t refusal)
+{
+    wants(text(file, n, 0), refusal, "text");
+    wants(text_of(file, n, "Pict", 1), refusal, "text by pair");
+}
+
+static uint64_t texts_write(size_t count, size_t texts_size, size_t room)
+{
+    return RUN(TEXTS_WRITE, P(text_rows), BLORB_TEXT_NUMBERS * count, P(whole), texts_size, P(wrong), room);
+}
+
+/* Spoken descriptions: few texts and many, rising, falling and in no order; each reason for a refusal, of reading and of writing. */
+static void describing(void)
+{
+    static const uint32_t steps[] = {1, 0xffffffff, 2654435761u};
+    static const size_t counts[] = {0, 1, 2, 30, TEXTS}, sizes[] = {0, 7};
+
+    memcpy(whole, "\xf0\x9f\x90\x9f\xc3\xa4" "e", 7);
+    for (size_t i = 0; i < 5; i++)
+        for (size_t k = 0; k < 6; k++) {
+            size_t count = counts[i], size = sizes[k % 2], n = write_rdes(file, count, size, steps[k / 2]), start = write_few(wrong), last;
+            wants(text(file, n, 0), count > 0 ? BLORB_DONE : BLORB_NOT_THERE, "text");
+            wants(text(file, n, count), BLORB_NOT_THERE, "no such text");
+            text_of(file, n, "Pict", 1);
+            wants(texts_write(count, 7, ROOM), BLORB_DONE, "write");
+            wants(texts_write(count, 7, answer[2] - 1), BLORB_RDES_ROOM, "write with no room");
+            put32(file + start + 8, count + 1);
+            no_texts(n, BLORB_RDES_LENGTH);
+            put32(file + start + 8, count);
+            memcpy(file + n, "RDes\0\0\0\0", 8);
+            finish(file, n + 8);
+            no_texts(n + 8, BLORB_SECOND_RDES);
+            finish(file, n);
+            if (count < 2)
+                continue;
+            last = start + 12 + (count - 1) * (12 + size);
+            put32(file + last + 4, get32(file + start + 16));
+            no_texts(n, BLORB_RDES_REPEATED);
+            put32(file + last + 4, get32(file + last - size - 8));
+            no_texts(n, BLORB_RDES_REPEATED);
+            text_rows[BLORB_TEXT_NUMBERS * count - 3] = text_rows[1];
+            wants(texts_write(count, 7, ROOM), BLORB_RDES_REPEATED, "a pair twice");
+            text_rows[BLORB_TEXT_NUMBERS * count - 3] = 7000;
+            text_rows[BLORB_TEXT_NUMBERS * count - 1] = 8;
+            wants(texts_write(count, 7, ROOM), BLORB_RDES_TEXT, "a text past its slice");
+            if (size == 0)
+                continue;
+            put32(file + last + 4, 7000);
+            file[last + 13] = 'e';
+            no_texts(n, BLORB_RDES_TEXT);
+        }
+}
+
 /* The two calls that take no buffer. */
 static void plain_calls(void)
 {
@@ -744,6 +826,7 @@ static void under_profile(void)
     second_names(file, write_few(file), few, FEW);
     refused_edits();
     scaling();
+    describing();
     n = write_file(file, house, HOUSE);
     if (profile == BLORB_PLAIN) {
         refused(file, n, BLORB_TYPE);

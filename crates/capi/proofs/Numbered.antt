@@ -10,7 +10,25 @@ use borrow.Author.Tests.{leb-true, ltb-true}
 use Rattle.blorb.specs.Bytes.{rd32}
 use Rattle.blorb.specs.Format.{Chunk, Entry, Ref, refOf}
 use Rattle.blorb.specs.Tags.{RelN, Fspc}
-use Rattle.blorb.specs.Verdict.{Rules, Verdict, accept, refuse, _then_, check, headFault, chunkFault, walkFault, secondIndex, indexFault, refFault, entriesFault, restFault, layoutFault, verdict, reading}
+use Rattle.blorb.specs.Verdict.{
+  Rules,
+  Verdict,
+  accept,
+  refuse,
+  _then_,
+  check,
+  headFault,
+  chunkFault,
+  walkFault,
+  secondIndex,
+  indexFault,
+  refFault,
+  entriesFault,
+  restFault,
+  layoutFault,
+  verdict,
+  reading,
+}
 use Rattle.blorb.specs.Rules.{rulesOf, profileVerdict, picture, single, chunkRule, chunkRules, optional}
 use Rattle.edits.specs.Edit.{Edit, add, replace, remove, link}
 use Rattle.edits.specs.Run.{State, Call, edit, undo, hundred, wholeFault, targetFault, editedFile, editFault, undoFault, fault}
@@ -80,7 +98,8 @@ entries : (R : Rules) (at : ℕ) (cs : List Chunk) (earlier : List Ref) (p : ℕ
 unfolding entriesFault
 entries R at cs earlier p [] = none
 entries R at cs earlier p (e ∷ es) =
-    more _ _ _ _ (omega arith) (more _ _ _ _ (omega arith) (both _ _ (ref R cs earlier p (refOf at cs e)) (more _ _ _ _ (omega arith) (entries R at cs _ _ es))))
+    more _ _ _ _ (omega arith) (more _ _ _ _ (omega arith) (both _ _ (ref R cs earlier p (refOf at cs e))
+    (more _ _ _ _ (omega arith) (entries R at cs _ _ es))))
 
 only : (rs : List Ref) (all : List Chunk) (t n : ℕ) (earlier : List Chunk) (at : ℕ) (c : Chunk) → Numbered (single rs all t n earlier at c)
 unfolding single
@@ -90,7 +109,8 @@ rule : (rs : List Ref) (all earlier : List Chunk) (at : ℕ) (c : Chunk) → Num
 unfolding chunkRule
 rule rs all earlier at c =
     either (eqb (c .type) RelN) _ _ (only rs all RelN 2 earlier at c)
-    (either (eqb (c .type) Fspc) _ _ (both (single rs all Fspc 4 earlier at c) _ (only rs all Fspc 4 earlier at c) (one (picture (rd32 (c .body)) all rs) 19 (at + 8) (omega arith))) none)
+    (either (eqb (c .type) Fspc) _ _ (both (single rs all Fspc 4 earlier at c) _ (only rs all Fspc 4 earlier at c) (one (picture (rd32 (c .body)) all rs) 19
+    (at + 8) (omega arith))) none)
 
 rules : (rs : List Ref) (all earlier : List Chunk) (at : ℕ) (cs : List Chunk) → Numbered (chunkRules rs all earlier at cs)
 unfolding chunkRules
@@ -183,7 +203,8 @@ zero-found profile f u n e = go (profileVerdict profile f) (answer profile f) e
     hit (At x) t e = (x, t)
     hit Nothing t e = absurd (omega (arith, e))
 
-    go : (v : Verdict) → Numbered v → lookupNumbers (lookedBy v (foundBy f (hitIn u n (indexOf f)))) .refusal ≡ 0 → (v ≡ accept) × ((x : ℕ) × (hitIn u n (indexOf f) ≡ At x))
+    go : (v : Verdict) → Numbered v → lookupNumbers (lookedBy v (foundBy f (hitIn u n (indexOf f)))) .refusal ≡ 0
+        → (v ≡ accept) × ((x : ℕ) × (hitIn u n (indexOf f) ≡ At x))
     go accept h e = (refl, hit (hitIn u n (indexOf f)) refl e)
     go (refuse k p) h e = absurd (omega (arith, positive k p h, e))
 

@@ -4,5 +4,7 @@ pub mod TableNumbers
 pub mod SoundNumbers
 pub mod FormNumbers
 pub mod ScalingNumbers
+pub mod TextNumbers
+pub mod WriteNumbers
 pub mod Answered
 pub mod Numbered

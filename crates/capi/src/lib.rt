@@ -1,5 +1,5 @@
 // The calls of reader, editor and table for programs in C; include/blorb.h declares them.
-// Sounds, group files and scaled pictures have modules of their own.
+// Sounds, group files, scaled pictures and spoken descriptions have modules of their own.
 use blorb::Usage;
 use editor::Answer;
 use editor::Outcome;
@@ -14,6 +14,8 @@ use table::Searched;
 mod forms;
 mod pictures;
 mod sounds;
+mod texts;
+mod writing;
 
 ghost use mathlib.Core.Path.{_≡_};
 ghost use lib.ListN.{length};
@@ -88,12 +90,12 @@ pub struct SearchAnswer {
     pub probes: usize,
 }
 
-// The archive's version: 2.3.0.
+// The archive's version: 2.4.0.
 #[no_mangle]
 pub extern "C" fn blorb_version() -> u32
-    ensures { λ r. ⌜ r ≡ versionNumber 2 3 0 ⌝ }
+    ensures { λ r. ⌜ r ≡ versionNumber 2 4 0 ⌝ }
 {
-    2003000
+    2004000
 }
 
 // The verdict under a profile, 0 plain and 1 ADRIFT: the length and the entry count of an accepted file.
@@ -217,7 +219,8 @@ pub extern "C" fn blorb_add(
     kind: &[u8; 4],
     data: &[u8],
 ) -> EditAnswer
-    ensures { λ r. ⌜ Answered profile (state (now (file .entry)) length (now (journal .entry)) used) (edit (add (rd32 (now (usage .entry))) number (rd32 (now (kind .entry))) (now («data» .entry)))) r (now (file .exit)) (now (journal .exit)) ⌝ }
+    ensures { λ r. ⌜ Answered profile (state (now (file .entry)) length (now (journal .entry)) used)
+        (edit (add (rd32 (now (usage .entry))) number (rd32 (now (kind .entry))) (now («data» .entry)))) r (now (file .exit)) (now (journal .exit)) ⌝ }
 {
     numbers(editor::add(
         file,
@@ -245,7 +248,8 @@ pub extern "C" fn blorb_replace(
     kind: &[u8; 4],
     data: &[u8],
 ) -> EditAnswer
-    ensures { λ r. ⌜ Answered profile (state (now (file .entry)) length (now (journal .entry)) used) (edit (replace (rd32 (now (usage .entry))) number (rd32 (now (kind .entry))) (now («data» .entry)))) r (now (file .exit)) (now (journal .exit)) ⌝ }
+    ensures { λ r. ⌜ Answered profile (state (now (file .entry)) length (now (journal .entry)) used)
+        (edit (replace (rd32 (now (usage .entry))) number (rd32 (now (kind .entry))) (now («data» .entry)))) r (now (file .exit)) (now (journal .exit)) ⌝ }
 {
     numbers(editor::replace(
         file,
@@ -271,7 +275,8 @@ pub extern "C" fn blorb_remove(
     usage: &[u8; 4],
     number: u32,
 ) -> EditAnswer
-    ensures { λ r. ⌜ Answered profile (state (now (file .entry)) length (now (journal .entry)) used) (edit (remove (rd32 (now (usage .entry))) number)) r (now (file .exit)) (now (journal .exit)) ⌝ }
+    ensures { λ r. ⌜ Answered profile (state (now (file .entry)) length (now (journal .entry)) used) (edit (remove (rd32 (now (usage .entry))) number)) r
+        (now (file .exit)) (now (journal .exit)) ⌝ }
 {
     numbers(editor::remove(file, length, journal, used, profile, *usage, number))
 }
@@ -289,7 +294,8 @@ pub extern "C" fn blorb_link(
     alias: &[u8; 4],
     chosen: u32,
 ) -> EditAnswer
-    ensures { λ r. ⌜ Answered profile (state (now (file .entry)) length (now (journal .entry)) used) (edit (link (rd32 (now (usage .entry))) number (rd32 (now (alias .entry))) chosen)) r (now (file .exit)) (now (journal .exit)) ⌝ }
+    ensures { λ r. ⌜ Answered profile (state (now (file .entry)) length (now (journal .entry)) used)
+        (edit (link (rd32 (now (usage .entry))) number (rd32 (now (alias .entry))) chosen)) r (now (file .exit)) (now (journal .exit)) ⌝ }
 {
     numbers(editor::link(
         file,
@@ -374,7 +380,9 @@ fn search_numbers(answer: Searched) -> SearchAnswer
 // The file's finding table at the front of the slice.
 #[no_mangle]
 pub extern "C" fn blorb_table_build(file: &[u8], profile: u32, table: &mut [u32]) -> BuildAnswer
-    ensures { λ r. ⌜ (r ≡ buildNumbers (buildOf profile (now (file .entry)) (length (now (table .entry))))) × (now (table .exit) ≡ written (buildOf profile (now (file .entry)) (length (now (table .entry)))) (flat (tableOf (now (file .entry)))) (now (table .entry))) ⌝ }
+    ensures { λ r. ⌜ (r ≡ buildNumbers (buildOf profile (now (file .entry)) (length (now (table .entry)))))
+        × (now (table .exit) ≡ written (buildOf profile (now (file .entry)) (length (now (table .entry)))) (flat (tableOf (now (file .entry))))
+        (now (table .entry))) ⌝ }
 {
     build_numbers(table::build(file, profile, table))
 }
@@ -398,7 +406,9 @@ pub extern "C" fn blorb_table_search(table: &[u32], usage: &[u8; 4], number: u32
 // The rows of a table as three columns at the front of a second slice.
 #[no_mangle]
 pub extern "C" fn blorb_table_to_columns(table: &[u32], columns: &mut [u32]) -> BuildAnswer
-    ensures { λ r. ⌜ (r ≡ buildNumbers (turnOf (rowsOf (now (table .entry))) (length (now (columns .entry))))) × (now (columns .exit) ≡ written (turnOf (rowsOf (now (table .entry))) (length (now (columns .entry)))) (flatColumns (rowsOf (now (table .entry)))) (now (columns .entry))) ⌝ }
+    ensures { λ r. ⌜ (r ≡ buildNumbers (turnOf (rowsOf (now (table .entry))) (length (now (columns .entry)))))
+        × (now (columns .exit) ≡ written (turnOf (rowsOf (now (table .entry))) (length (now (columns .entry)))) (flatColumns (rowsOf (now (table .entry))))
+        (now (columns .entry))) ⌝ }
 {
     build_numbers(table::to_columns(table, columns))
 }
@@ -406,7 +416,9 @@ pub extern "C" fn blorb_table_to_columns(table: &[u32], columns: &mut [u32]) -> 
 // The rows of a table of three columns, one after another at the front of a second slice.
 #[no_mangle]
 pub extern "C" fn blorb_table_to_rows(columns: &[u32], table: &mut [u32]) -> BuildAnswer
-    ensures { λ r. ⌜ (r ≡ buildNumbers (turnOf (columnsOf (now (columns .entry))) (length (now (table .entry))))) × (now (table .exit) ≡ written (turnOf (columnsOf (now (columns .entry))) (length (now (table .entry)))) (flat (columnsOf (now (columns .entry)))) (now (table .entry))) ⌝ }
+    ensures { λ r. ⌜ (r ≡ buildNumbers (turnOf (columnsOf (now (columns .entry))) (length (now (table .entry)))))
+        × (now (table .exit) ≡ written (turnOf (columnsOf (now (columns .entry))) (length (now (table .entry)))) (flat (columnsOf (now (columns .entry))))
+        (now (table .entry))) ⌝ }
 {
     build_numbers(table::to_rows(columns, table))
 }

@@ -7,23 +7,18 @@ use Rattle.capi.proofs.blorb_add.Lts as lts
 use Rattle.capi.proofs.numbers.Reads as numbers-reads
 use Rattle.editor.proofs.add.Reads as add-reads
 
--- src/lib.rt:163:13
 add-requires : tie.Need-add-requires
 add-requires c κs = search needs
 
--- src/lib.rt:163:5
 numbers-requires : tie.Need-numbers-requires
 numbers-requires c κs = search needs
 
--- src/lib.rt:150:1
 same-length : tie.Need-same-length
 same-length c = search needs
 
--- src/lib.rt:150:1
 same-length-2 : tie.Need-same-length-2
 same-length-2 c = search needs
 
--- src/lib.rt:150:1
 returns : tie.Need-returns
 returns c = answered _ _ _ _ _ _ _ (c .numbers .ensures) (c .before .before .before .before .before .add .ensures)
 

@@ -8,19 +8,15 @@ use Rattle.capi.proofs.blorb_blank.Lts as lts
 use Rattle.capi.proofs.numbers.Reads as numbers-reads
 use Rattle.editor.proofs.blank.Reads as blank-reads
 
--- src/lib.rt:147:13
 blank-requires : tie.Need-blank-requires
 blank-requires c κs = search needs
 
--- src/lib.rt:147:5
 numbers-requires : tie.Need-numbers-requires
 numbers-requires c κs = search needs
 
--- src/lib.rt:143:1
 same-length : tie.Need-same-length
 same-length c = search needs
 
--- src/lib.rt:143:1
 returns : tie.Need-returns
 returns c = (c .numbers .ensures ∙ ap editNumbers (c .before .before .before .blank .ensures .0), c .before .before .before .blank .ensures .1)
 

@@ -9,35 +9,28 @@ use Rattle.capi.proofs.blorb_entry.Lts as lts
 use Rattle.blorb.proofs.Usage.code.Reads as code-reads
 use Rattle.reader.proofs.entry.Reads as entry-reads
 
--- src/lib.rt:80:11
 entry-requires : tie.Need-entry-requires
 entry-requires c κs = search needs
 
--- src/lib.rt:81:22
 enum-known-e : tie.Need-enum-known-e
 enum-known-e c = search needs
 
--- src/lib.rt:86:24
 code-requires : tie.Need-code-requires
 code-requires c κs = search needs
 
--- src/lib.rt:86:24
 cast-t11 : tie.Need-cast-t11
 cast-t11 c = record { fits = rw (c .code .ensures) (code-small (c .before .before .e .given .0 .0 .usage)) }
 
--- src/lib.rt:88:24
 cast-t12 : tie.Need-cast-t12
 cast-t12 c = search needs
 
--- src/lib.rt:91:26
 enum-known-number : tie.Need-enum-known-number
 enum-known-number c = search needs
 
--- src/lib.rt:76:1
 returns : tie.Need-returns
-returns c = rw (c .before .code .ensures) (ap entryNumbers (sym (c .before .before .before .e .given .1) ∙ c .before .before .before .before .before .entry .ensures))
+returns c = rw (c .before .code .ensures) (ap entryNumbers (sym (c .before .before .before .e .given .1)
+    ∙ c .before .before .before .before .before .entry .ensures))
 
--- src/lib.rt:76:1
 returns-2 : tie.Need-returns-2
 returns-2 c = ap entryNumbers (sym (c .before .number .given .1) ∙ c .before .before .before .entry .ensures)
 

@@ -7,23 +7,18 @@ use Rattle.capi.proofs.blorb_lookup.Reads as reads
 use Rattle.capi.proofs.blorb_lookup.Lts as lts
 use Rattle.reader.proofs.lookup.Reads as lookup-reads
 
--- src/lib.rt:105:11
 lookup-requires : tie.Need-lookup-requires
 lookup-requires c κs = search needs
 
--- src/lib.rt:106:25
 enum-known-kind : tie.Need-enum-known-kind
 enum-known-kind c = search needs
 
--- src/lib.rt:113:35
 enum-known-k : tie.Need-enum-known-k
 enum-known-k c = search needs
 
--- src/lib.rt:101:1
 returns : tie.Need-returns
 returns c = ap lookupNumbers (sym (c .before .kind .given .1) ∙ c .before .before .before .lookup .ensures)
 
--- src/lib.rt:101:1
 returns-2 : tie.Need-returns-2
 returns-2 c = ap lookupNumbers (sym (c .before .k .given .1) ∙ c .before .before .before .lookup .ensures)
 

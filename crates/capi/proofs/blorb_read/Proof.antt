@@ -7,23 +7,18 @@ use Rattle.capi.proofs.blorb_read.Reads as reads
 use Rattle.capi.proofs.blorb_read.Lts as lts
 use Rattle.reader.proofs.read.Reads as read-reads
 
--- src/lib.rt:60:11
 read-requires : tie.Need-read-requires
 read-requires c κs = search needs
 
--- src/lib.rt:61:29
 enum-known-length : tie.Need-enum-known-length
 enum-known-length c = search needs
 
--- src/lib.rt:67:28
 enum-known-number : tie.Need-enum-known-number
 enum-known-number c = search needs
 
--- src/lib.rt:56:1
 returns : tie.Need-returns
 returns c = ap readNumbers (sym (c .before .length .given .1) ∙ c .before .before .before .read .ensures)
 
--- src/lib.rt:56:1
 returns-2 : tie.Need-returns-2
 returns-2 c = ap readNumbers (sym (c .before .number .given .1) ∙ c .before .before .before .read .ensures)
 

@@ -7,19 +7,15 @@ use Rattle.capi.proofs.blorb_undo.Lts as lts
 use Rattle.capi.proofs.numbers.Reads as numbers-reads
 use Rattle.editor.proofs.undo.Reads as undo-reads
 
--- src/lib.rt:205:13
 undo-requires : tie.Need-undo-requires
 undo-requires c κs = search needs
 
--- src/lib.rt:205:5
 numbers-requires : tie.Need-numbers-requires
 numbers-requires c κs = search needs
 
--- src/lib.rt:196:1
 same-length : tie.Need-same-length
 same-length c = search needs
 
--- src/lib.rt:196:1
 returns : tie.Need-returns
 returns c = answered _ _ _ _ _ _ _ (c .numbers .ensures) (c .before .before .before .undo .ensures)
 

@@ -4,19 +4,15 @@ use Rattle.capi.proofs.numbers.Tie as tie
 use Rattle.capi.proofs.numbers.Reads as reads
 use Rattle.capi.proofs.numbers.Lts as lts
 
--- src/lib.rt:128:26
 enum-told : tie.Need-enum-told
 enum-told c = search needs
 
--- src/lib.rt:134:28
 enum-known-outcome : tie.Need-enum-known-outcome
 enum-known-outcome c = search needs
 
--- src/lib.rt:123:1
 returns : tie.Need-returns
 returns c = rw (c .enum-told .given .1)
 
--- src/lib.rt:123:1
 returns-2 : tie.Need-returns-2
 returns-2 c = rw (c .before .outcome .given .1)
 

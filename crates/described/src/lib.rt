@@ -1,0 +1,1 @@
+// No code: what is written by `describing` is read back by `descriptions` (proofs/).

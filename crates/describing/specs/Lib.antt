@@ -1,0 +1,4 @@
+pub mod List
+pub mod Writing
+pub mod Bridging
+pub mod Judging

@@ -1,0 +1,68 @@
+// The rows of a list judged: refusals 38 and 39. The first bad text is found in one pass; whether a pair is repeated is then asked of the rows up to
+// that one only.
+use repeats::First;
+ghost use mathlib.Core.Path.{_≡_};
+ghost use Prim.Native.Nat.{_+_, _*_, _≤_};
+ghost use lib.ListN.{length};
+ghost use Rattle.describing.specs.Writing.{textGood, rowsFault};
+ghost use Rattle.describing.specs.Judging.{FirstBad, verdictOf};
+
+pub(crate) enum Check {
+    Good,
+    Refused { number: u64, place: usize },
+}
+
+// Whether the text of row `i` lies in its slice and is UTF-8.
+fn text_good(rows: &[u32], texts: &[u8], i: usize) -> bool
+    requires { ⌜ 4 * i + 4 ≤ length (now rows) ⌝ }
+    ensures { λ r. ⌜ r ≡ textGood (now (rows .entry)) (now (texts .entry)) i ⌝ }
+{
+    let from = rows[4 * i + 2] as usize;
+    let size = rows[4 * i + 3] as usize;
+    if texts.len() < from + size {
+        return false;
+    }
+    utf8::good_length(&texts[from..from + size]) == size
+}
+
+// The first of `n` rows that has a bad text, or `n`.
+fn first_bad(rows: &[u32], texts: &[u8], n: usize) -> usize
+    requires { ⌜ 4 * n ≤ length (now rows) ⌝ }
+    ensures { λ r. ⌜ FirstBad (now (rows .entry)) (now (texts .entry)) n r ⌝ }
+{
+    let mut i: usize = 0;
+    while i < n {
+        if !text_good(rows, texts, i) {
+            return i;
+        }
+        i += 1;
+    }
+    n
+}
+
+// Refusals 38 and 39 of the first `n` rows.
+pub(crate) fn judge(rows: &[u32], texts: &[u8], n: usize) -> Check
+    requires { ⌜ 4 * n ≤ length (now rows) ⌝ }
+    ensures { λ r. ⌜ verdictOf r ≡ rowsFault (now (rows .entry)) (now (texts .entry)) n 0 ⌝ }
+{
+    let bad = first_bad(rows, texts, n);
+    if bad < n {
+        return match repeats::in_list(rows, bad + 1) {
+            First::At(i) => Check::Refused {
+                number: 38,
+                place: i,
+            },
+            First::Nothing => Check::Refused {
+                number: 39,
+                place: bad,
+            },
+        };
+    }
+    match repeats::in_list(rows, n) {
+        First::At(i) => Check::Refused {
+            number: 38,
+            place: i,
+        },
+        First::Nothing => Check::Good,
+    }
+}

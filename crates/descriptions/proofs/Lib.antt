@@ -1,0 +1,4 @@
+pub mod EntryAnswers
+pub mod OpenLaws
+pub mod Promises
+pub mod RepeatLaws

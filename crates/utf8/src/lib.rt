@@ -1,0 +1,97 @@
+// UTF-8 by RFC 3629: the length of the longest good beginning of a text.
+ghost use mathlib.Core.Path.{_≡_};
+ghost use Prim.Native.Nat.{_<_};
+ghost use lib.ListN.{length, getD, drop};
+ghost use Rattle.utf8.specs.Utf8.{range, inRange, charLength, goodLength};
+ghost use Rattle.utf8.specs.Leads.{lowSecond, highSecond};
+
+// The byte at `at`; 256, which no range of the table has, behind the end.
+fn byte_at(s: &[u8], at: usize) -> u64
+    ensures { λ r. ⌜ r ≡ getD (now (s .entry)) at 256 ⌝ }
+{
+    if at < s.len() {
+        return s[at] as u64;
+    }
+    256
+}
+
+fn within(b: u64, low: u64, high: u64) -> bool
+    ensures { λ r. ⌜ r ≡ inRange (range low high) b ⌝ }
+{
+    (low <= b) & (b <= high)
+}
+
+// The least second byte behind the first byte `a`: 160 after 224 and 144 after 240, where a lower one would write a shorter character at length.
+fn low_second(a: u64) -> u64
+    ensures { λ r. ⌜ r ≡ lowSecond a ⌝ }
+{
+    if a == 224 {
+        return 160;
+    }
+    if a == 240 {
+        return 144;
+    }
+    128
+}
+
+// The greatest second byte: 159 after 237, where a greater one makes a surrogate, and 143 after 244, where it makes a character above 10FFFF.
+fn high_second(a: u64) -> u64
+    ensures { λ r. ⌜ r ≡ highSecond a ⌝ }
+{
+    if a == 237 {
+        return 159;
+    }
+    if a == 244 {
+        return 143;
+    }
+    191
+}
+
+// How many bytes the character at `at` has that begins with the byte `a` above 127: 0 where none stands there.
+fn long_char(s: &[u8], at: usize, a: u64) -> usize
+    requires { ⌜ (at < length (now s)) × (a ≡ getD (now s) at 256) × (127 < a) ⌝ }
+    ensures { λ r. ⌜ r ≡ charLength (drop at (now (s .entry))) ⌝ }
+{
+    if a < 194 {
+        return 0;
+    }
+    if 244 < a {
+        return 0;
+    }
+    if !within(byte_at(s, at + 1), low_second(a), high_second(a)) {
+        return 0;
+    }
+    if a < 224 {
+        return 2;
+    }
+    if !within(byte_at(s, at + 2), 128, 191) {
+        return 0;
+    }
+    if a < 240 {
+        return 3;
+    }
+    if !within(byte_at(s, at + 3), 128, 191) {
+        return 0;
+    }
+    4
+}
+
+// The length of the longest beginning of the text that is UTF-8. Bytes up to 127 are characters by themselves and cost one test each.
+pub fn good_length(s: &[u8]) -> usize
+    ensures { λ r. ⌜ r ≡ goodLength (now (s .entry)) ⌝ }
+{
+    let mut at: usize = 0;
+    while at < s.len() {
+        let a = s[at] as u64;
+        if a < 128 {
+            at += 1;
+            continue;
+        }
+        let n = long_char(s, at, a);
+        if n == 0 {
+            return at;
+        }
+        at += n;
+    }
+    at
+}
