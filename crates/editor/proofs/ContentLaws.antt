@@ -54,7 +54,7 @@ use Rattle.edits.proofs.ReadBack.{
   link-keeps,
 }
 use Rattle.editor.specs.ReadsBack.{Content, nothing, holds, contentOf, Holds, DataBytes, OwnPair, Apart, OtherPair}
-use Rattle.editor.proofs.CallLaws.{hundred-fine}
+use Rattle.planning.proofs.PlanLaws.{hundred-fine}
 
 -- an entry's chunk is there
 chunk-there : (m : Model) (i : ℕ) → Sound m → i < length (m .refs) → refAt m i .chunk < length (m .chunks)

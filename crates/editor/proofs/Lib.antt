@@ -1,5 +1,4 @@
 pub mod CallLaws
-pub mod GivenLaws
 pub mod AddCall
 pub mod RemoveCall
 pub mod ReplaceCall

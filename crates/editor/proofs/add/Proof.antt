@@ -1,3 +1,4 @@
+-- The call is add_entry's: each four bytes are the number in them.
 use denote.Ref.{now}
 use Rattle.edits.specs.Edit.{add}
 use Rattle.edits.specs.Run.{edit}

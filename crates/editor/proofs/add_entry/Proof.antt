@@ -14,8 +14,10 @@ use Rattle.edits.specs.Run.{edit, fault, after, afterEdit, editedFile, written}
 use Rattle.edits.specs.Run.{state}
 use Prim.Native.Nat.{ℕ, _+_, _%_}
 use mathlib.Core.List.{List}
-use Rattle.editor.proofs.AddCall.{Ready, ready, record-written}
-use Rattle.editor.proofs.CallLaws.{plan-no, gave-refused, gave-done}
+use Rattle.planning.proofs.PlanLaws.{plan-no}
+use Rattle.planning.proofs.AddPlan.{Ready, ready}
+use Rattle.editor.proofs.AddCall.{record-written}
+use Rattle.editor.proofs.CallLaws.{gave-refused, gave-done}
 use borrow.Author.Needs.{needs}
 use Rattle.editor.proofs.add_entry.Statement.{statement}
 use Rattle.editor.proofs.add_entry.Tie as tie
@@ -82,7 +84,7 @@ returns-2 c =
     (c .before .before .before .before .before .before .before .before .add-bytes .ensures
     ∙ ap (λ (z : List ℕ). written b (a .len) (file (added (model (take (a .len) b)) (a .usage) (a .number) (chunkOf (a .kind) z)))) h)
     (c .before .before .before .put-record .ensures
-    ∙ record-written (a .profile) b (a .len) (length (now (a .jrn))) (a .used) (a .usage) (a .number) (a .kind) (now (a .d)) (bytes o) (now (a .jrn))
+    ∙ record-written (take (a .len) b) (a .used) (a .usage) (a .number) (a .kind) (now (a .d)) (now (a .jrn))
     (o .count .given .0 .0) (r .stands .entries))
 
 pub add-entry-spec : {M : Type 1} → statement M

@@ -1,3 +1,4 @@
+-- A buffer under 24 bytes is refused and kept; in any other the constant's bytes are the blank file's.
 use mathlib.Core.Path.{_∙_}
 use Rattle.blorb.specs.Bytes.{be32}
 use Rattle.edits.specs.Blank.{blankFile}

@@ -1,13 +1,10 @@
+-- The call is link_entry's: each four bytes are the number in them.
 use Rattle.edits.specs.Edit.{link}
 use Rattle.edits.specs.Run.{edit}
 use Rattle.editor.proofs.CallLaws.{called-as}
 use borrow.Author.Needs.{needs}
 use Rattle.editor.proofs.link.Statement.{statement}
 use Rattle.editor.proofs.link.Tie as tie
-use Rattle.editor.proofs.link.Reads as reads
-use Rattle.editor.proofs.link.Lts as lts
-use Rattle.editor.proofs.code_of.Reads as code-of-reads
-use Rattle.editor.proofs.link_entry.Reads as link-entry-reads
 
 code-of-requires : tie.Need-code-of-requires
 code-of-requires c κs = search needs

@@ -1,3 +1,4 @@
+-- A plan to go on tells that there is room for the new entry and its record; the record and the entry are then written by their own promises.
 use native.Mathlib.Omega.{arith}
 use mathlib.Core.Path.{sym, _∙_}
 use lib.ListN.{length, take}
@@ -8,18 +9,12 @@ use Rattle.blorb.proofs.Accept.{bytes-all}
 use Rattle.blorb.proofs.AllLaws.{all-take}
 use Rattle.edits.specs.Edit.{link}
 use Rattle.edits.specs.Run.{edit, state, fault}
-use Rattle.editor.proofs.LinkCall.{linking-no, ready, insertable, start-small, made}
+use Rattle.planning.proofs.LinkPlan.{linking-no, ready}
+use Rattle.editor.proofs.LinkCall.{insertable, start-small, made}
 use Rattle.editor.proofs.CallLaws.{gave-refused}
 use borrow.Author.Needs.{needs}
 use Rattle.editor.proofs.link_entry.Statement.{statement}
 use Rattle.editor.proofs.link_entry.Tie as tie
-use Rattle.editor.proofs.link_entry.Reads as reads
-use Rattle.editor.proofs.link_entry.Lts as lts
-use Rattle.editor.proofs.Answer.done.Reads as done-reads
-use Rattle.editor.proofs.Answer.refused.Reads as refused-reads
-use Rattle.editor.proofs.link_plan.Reads as link-plan-reads
-use Rattle.moves.proofs.put_record.Reads as put-record-reads
-use Rattle.rewrite.proofs.insert_entry.Reads as insert-entry-reads
 
 link-plan-requires : tie.Need-link-plan-requires
 link-plan-requires c κs = search needs

@@ -1,3 +1,4 @@
+-- The call is remove_entry's: the four bytes are the number in them.
 use Rattle.edits.specs.Edit.{remove}
 use Rattle.edits.specs.Run.{edit}
 use Rattle.editor.proofs.CallLaws.{called-as}

@@ -1,3 +1,4 @@
+-- A plan to go on tells what goes and what is kept, and that there is room for the record; the record and the bytes are then written by their own promises.
 use native.Mathlib.Omega.{arith}
 use mathlib.Core.Path.{sym, _∙_}
 use lib.ListN.{length, take}
@@ -9,7 +10,8 @@ use Rattle.blorb.proofs.AllLaws.{all-take}
 use Rattle.edits.specs.Edit.{remove}
 use Rattle.edits.specs.Run.{edit, fault}
 use Rattle.edits.specs.Run.{state}
-use Rattle.editor.proofs.RemoveCall.{ready, removal-no, body-short, shrinks, removable, part-in, used-room, record-room, made}
+use Rattle.planning.proofs.RemovePlan.{ready, removal-no, body-short, shrinks}
+use Rattle.editor.proofs.RemoveCall.{removable, part-in, used-room, record-room, made}
 use Rattle.editor.proofs.CallLaws.{gave-refused}
 use borrow.Author.Needs.{needs}
 use Rattle.editor.proofs.remove_entry.Statement.{statement}

@@ -1,3 +1,4 @@
+-- The call is replace_chunk's: each four bytes are the number in them.
 use denote.Ref.{now}
 use Rattle.edits.specs.Edit.{replace}
 use Rattle.edits.specs.Run.{edit}

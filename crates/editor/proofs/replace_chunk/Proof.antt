@@ -11,8 +11,9 @@ use Rattle.blorb.proofs.AllLaws.{all-take}
 use Rattle.edits.specs.Edit.{replace}
 use Rattle.edits.specs.Run.{edit, fault}
 use Rattle.edits.specs.Run.{state}
-use Rattle.editor.proofs.RemoveCall.{body-short}
-use Rattle.editor.proofs.ReplaceCall.{Ready, ready, change-no, inside, length-now, replaceable, part-in, used-room, record-room, made}
+use Rattle.planning.proofs.RemovePlan.{body-short}
+use Rattle.planning.proofs.ReplacePlan.{Ready, ready, change-no, inside, length-now}
+use Rattle.editor.proofs.ReplaceCall.{replaceable, part-in, used-room, record-room, made}
 use Rattle.editor.proofs.CallLaws.{gave-refused}
 use borrow.Author.Needs.{needs}
 use Rattle.editor.proofs.replace_chunk.Statement.{statement}

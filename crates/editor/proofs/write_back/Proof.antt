@@ -1,3 +1,4 @@
+-- By the record's kind the plan tells what the writer asks, and the writer's promise is the file before the edit (UndoBack).
 use native.Mathlib.Omega.{arith}
 use mathlib.Core.Path.{ap, _∙_}
 use mathlib.Core.List.{List}

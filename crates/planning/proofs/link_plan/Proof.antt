@@ -1,16 +1,18 @@
+-- The plan goes by the order of the refusals: what opening tells, 22, what link_fault judges, 24 and 25. At each place the found original tells what the
+-- next call asks.
 use native.Mathlib.Omega.{arith}
 use mathlib.Core.Path.{sym, _∙_}
 use lib.ListN.{take}
 use lib.Seq.{length-take-le}
 use denote.Ref.{now}
 use Rattle.blorb.specs.Bytes.{Byte}
-use Rattle.blorb.proofs.Accept.{bytes-all}
 use Rattle.blorb.specs.All.{All}
+use Rattle.blorb.proofs.Accept.{bytes-all}
 use Rattle.blorb.proofs.AllLaws.{all-take}
-use Rattle.editor.proofs.RemoveCall.{told, plan-unopened, plan-22, body-short, shrinks, listed, plan-refused, plan-fine}
+use Rattle.planning.proofs.LinkPlan.{told, told-original, told-place, plan-unopened, plan-22, plan-refused, plan-fine}
 use borrow.Author.Needs.{needs}
-use Rattle.editor.proofs.remove_plan.Statement.{statement}
-use Rattle.editor.proofs.remove_plan.Tie as tie
+use Rattle.planning.proofs.link_plan.Statement.{statement}
+use Rattle.planning.proofs.link_plan.Tie as tie
 
 opened-requires : tie.Need-opened-requires
 opened-requires c κs = search needs
@@ -33,59 +35,72 @@ returns c =
     let b = now (a .buf) in
     let bytes : All Byte (take (a .len) b) = all-take Byte (a .len) b
     (bytes-all b (λ i. omega (arith, c .before .before .before .before .before .before .shared-slice-known .given i))) in
-    plan-22 (a .profile) b (a .len) (a .room) (a .used) (a .usage) (a .number) bytes 0 (c .before .before .before .facts .given .0 .0)
+    plan-22 (a .profile) b (a .len) (a .room) (a .used) (a .usage) (a .number) (a .alias) (a .chosen) bytes 0 (c .before .before .before .facts .given .0 .0)
     (sym (c .before .before .before .before .before .opened .ensures) ∙ c .before .before .before .facts .given .1) (c .enum-told .given .1)
 
-gone-size-requires : tie.Need-gone-size-requires
-gone-size-requires c κs =
-    let a = c .before .before .before .before .before .before .before .before .args in
+slice-aggregate-link-place : tie.Need-slice-aggregate-link-place
+slice-aggregate-link-place c =
+    let a = c .before .before .before .before .before .before .before .before .before .args in
     let b = now (a .buf) in
     let bytes : All Byte (take (a .len) b) = all-take Byte (a .len) b
-    (bytes-all b (λ i. omega (arith, c .before .before .before .before .before .before .before .shared-slice-known .given i))) in
-    let w = told (a .profile) b (a .len) (a .room) (a .used) (a .usage) (a .number) bytes 0 (c .before .before .before .before .facts .given .0 .0)
-    (sym (c .before .before .before .before .before .before .opened .ensures) ∙ c .before .before .before .before .facts .given .1)
-    (c .before .target .given .0 .0) (c .before .target .given .1) in
-    body-short (a .profile) b (a .len) (a .room) (a .used) (a .usage) (a .number) bytes (c .before .target .given .0 .0) (w .found) (w .piece-is)
+    (bytes-all b (λ i. omega (arith, c .before .before .before .before .before .before .before .before .shared-slice-known .given i))) in
+    sym (length-take-le (a .len) b (told (a .profile) b (a .len) (a .room) (a .used) (a .usage) (a .number) (a .alias) (a .chosen) bytes 0
+    (c .before .before .before .before .before .facts .given .0 .0) (sym (c .before .before .before .before .before .before .before .opened .ensures)
+    ∙ c .before .before .before .before .before .facts .given .1) (c .before .before .target .given .0 .0)
+    (c .before .before .target .given .1) .found .stands .inside))
 
-kept-number-requires : tie.Need-kept-number-requires
-kept-number-requires c κs = search needs
+link-place-requires : tie.Need-link-place-requires
+link-place-requires c κs =
+    let a = c .before .before .before .before .before .before .before .before .before .args in
+    let b = now (a .buf) in
+    let bytes : All Byte (take (a .len) b) = all-take Byte (a .len) b
+    (bytes-all b (λ i. omega (arith, c .before .before .before .before .before .before .before .before .shared-slice-known .given i))) in
+    told-original (a .profile) b (a .len) (a .room) (a .used) (a .usage) (a .number) (a .alias) (a .chosen) bytes 0
+    (c .before .before .before .before .before .facts .given .0 .0) (sym (c .before .before .before .before .before .before .before .opened .ensures)
+    ∙ c .before .before .before .before .before .facts .given .1) (c .before .before .target .given .0 .0) (c .before .before .target .given .1)
 
-cast-body : tie.Need-cast-body
-cast-body c = search needs
-
-slice-aggregate-remove-fault : tie.Need-slice-aggregate-remove-fault
-slice-aggregate-remove-fault c =
+slice-aggregate-link-fault : tie.Need-slice-aggregate-link-fault
+slice-aggregate-link-fault c =
     let a = c .before .before .before .before .before .before .before .before .before .before .before .args in
     let b = now (a .buf) in
     let bytes : All Byte (take (a .len) b) = all-take Byte (a .len) b
     (bytes-all b (λ i. omega (arith, c .before .before .before .before .before .before .before .before .before .before .shared-slice-known .given i))) in
-    let w = told (a .profile) b (a .len) (a .room) (a .used) (a .usage) (a .number) bytes 0
+    sym (length-take-le (a .len) b (told (a .profile) b (a .len) (a .room) (a .used) (a .usage) (a .number) (a .alias) (a .chosen) bytes 0
     (c .before .before .before .before .before .before .before .facts .given .0 .0)
     (sym (c .before .before .before .before .before .before .before .before .before .opened .ensures)
     ∙ c .before .before .before .before .before .before .before .facts .given .1) (c .before .before .before .before .target .given .0 .0)
-    (c .before .before .before .before .target .given .1) in
-    sym (length-take-le (a .len) b (w .found .stands .inside))
+    (c .before .before .before .before .target .given .1) .found .stands .inside))
 
-remove-fault-requires : tie.Need-remove-fault-requires
-remove-fault-requires c κs =
+link-fault-requires : tie.Need-link-fault-requires
+link-fault-requires c κs =
     let a = c .before .before .before .before .before .before .before .before .before .before .before .args in
     let b = now (a .buf) in
     let bytes : All Byte (take (a .len) b) = all-take Byte (a .len) b
     (bytes-all b (λ i. omega (arith, c .before .before .before .before .before .before .before .before .before .before .shared-slice-known .given i))) in
-    let w = told (a .profile) b (a .len) (a .room) (a .used) (a .usage) (a .number) bytes 0
+    told-place (a .profile) b (a .len) (a .room) (a .used) (a .usage) (a .number) (a .alias) (a .chosen) bytes 0
     (c .before .before .before .before .before .before .before .facts .given .0 .0)
     (sym (c .before .before .before .before .before .before .before .before .before .opened .ensures)
     ∙ c .before .before .before .before .before .before .before .facts .given .1) (c .before .before .before .before .target .given .0 .0)
-    (c .before .before .before .before .target .given .1) in
-    listed (a .profile) b (a .len) (a .room) (a .used) (a .usage) (a .number) bytes
-    (c .before .before .before .before .before .before .before .facts .given .0 .0) (c .before .before .before .before .target .given .0 .0) w
-    (c .before .before .gone-size .result) (c .before .before .gone-size .ensures)
-
-cast-with-room : tie.Need-cast-with-room
-cast-with-room c = search needs
+    (c .before .before .before .before .target .given .1) _ (c .before .link-place .ensures)
 
 add-with-room : tie.Need-add-with-room
-add-with-room c = search needs
+add-with-room c =
+    let a = c .before .before .before .before .before .before .before .before .before .before .before .before .args in
+    let b = now (a .buf) in
+    let bytes : All Byte (take (a .len) b) = all-take Byte (a .len) b
+    (bytes-all b (λ i. omega (
+      arith,
+      c .before .before .before .before .before .before .before .before .before .before .before .shared-slice-known .given
+          i,
+    ))) in
+    omega (
+      arith,
+      told (a .profile) b (a .len) (a .room) (a .used) (a .usage) (a .number) (a .alias) (a .chosen) bytes 0
+          (c .before .before .before .before .before .before .before .before .facts .given .0 .0)
+          (sym (c .before .before .before .before .before .before .before .before .before .before .opened .ensures)
+          ∙ c .before .before .before .before .before .before .before .before .facts .given .1)
+          (c .before .before .before .before .before .target .given .0 .0) (c .before .before .before .before .before .target .given .1) .found .stands .short,
+    )
 
 sub-with-room : tie.Need-sub-with-room
 sub-with-room c =
@@ -97,33 +112,11 @@ sub-with-room c =
       c .before .before .before .before .before .before .before .before .before .before .before .shared-slice-known .given
           i,
     ))) in
-    let w = told (a .profile) b (a .len) (a .room) (a .used) (a .usage) (a .number) bytes 0
+    told (a .profile) b (a .len) (a .room) (a .used) (a .usage) (a .number) (a .alias) (a .chosen) bytes 0
     (c .before .before .before .before .before .before .before .before .facts .given .0 .0)
     (sym (c .before .before .before .before .before .before .before .before .before .before .opened .ensures)
     ∙ c .before .before .before .before .before .before .before .before .facts .given .1)
-    (c .before .before .before .before .before .target .given .0 .0) (c .before .before .before .before .before .target .given .1) in
-    shrinks (a .profile) b (a .len) (a .room) (a .used) (a .usage) (a .number) bytes (c .before .before .before .before .before .target .given .0 .0)
-    (w .found) (w .piece-is) (c .before .before .before .gone-size .result) (c .before .before .before .gone-size .ensures)
-
-add-with-room-2 : tie.Need-add-with-room-2
-add-with-room-2 c = search needs
-
-sub-with-room-2 : tie.Need-sub-with-room-2
-sub-with-room-2 c =
-    let a = c .before .before .before .before .before .before .before .before .before .before .before .before .args in
-    let b = now (a .buf) in
-    let bytes : All Byte (take (a .len) b) = all-take Byte (a .len) b
-    (bytes-all b (λ i. omega (
-      arith,
-      c .before .before .before .before .before .before .before .before .before .before .before .shared-slice-known .given
-          i,
-    ))) in
-    let w = told (a .profile) b (a .len) (a .room) (a .used) (a .usage) (a .number) bytes 0
-    (c .before .before .before .before .before .before .before .before .facts .given .0 .0)
-    (sym (c .before .before .before .before .before .before .before .before .before .before .opened .ensures)
-    ∙ c .before .before .before .before .before .before .before .before .facts .given .1)
-    (c .before .before .before .before .before .target .given .0 .0) (c .before .before .before .before .before .target .given .1) in
-    w .found .used-in
+    (c .before .before .before .before .before .target .given .0 .0) (c .before .before .before .before .before .target .given .1) .found .used-in
 
 with-room-requires : tie.Need-with-room-requires
 with-room-requires c κs = search needs
@@ -140,8 +133,8 @@ returns-2 c =
     let b = now (a .buf) in
     let bytes : All Byte (take (a .len) b) = all-take Byte (a .len) b
     (bytes-all b (λ i. omega (arith, c .before .before .before .before .shared-slice-known .given i))) in
-    plan-unopened (a .profile) b (a .len) (a .room) (a .used) (a .usage) (a .number) bytes 0 (c .before .k .given .0 .0) (c .before .k .given .0 .1 .0)
-    (sym (c .before .before .before .opened .ensures) ∙ c .before .k .given .1)
+    plan-unopened (a .profile) b (a .len) (a .room) (a .used) (a .usage) (a .number) (a .alias) (a .chosen) bytes 0 (c .before .k .given .0 .0)
+    (c .before .k .given .0 .1 .0) (sym (c .before .before .before .opened .ensures) ∙ c .before .k .given .1)
 
 returns-3 : tie.Need-returns-3
 returns-3 c =
@@ -153,21 +146,16 @@ returns-3 c =
       c .before .before .before .before .before .before .before .before .before .before .before .before .before .before .before .shared-slice-known .given
           i,
     ))) in
-    let w = told (a .profile) b (a .len) (a .room) (a .used) (a .usage) (a .number) bytes 0
+    plan-refused (a .profile) b (a .len) (a .room) (a .used) (a .usage) (a .number) (a .alias) (a .chosen) bytes 0
     (c .before .before .before .before .before .before .before .before .before .before .before .before .facts .given .0 .0)
     (sym (c .before .before .before .before .before .before .before .before .before .before .before .before .before .before .opened .ensures)
     ∙ c .before .before .before .before .before .before .before .before .before .before .before .before .facts .given .1)
     (c .before .before .before .before .before .before .before .before .before .target .given .0 .0)
-    (c .before .before .before .before .before .before .before .before .before .target .given .1) in
-    plan-refused (a .profile) b (a .len) (a .room) (a .used) (a .usage) (a .number) bytes
-    (c .before .before .before .before .before .before .before .before .before .before .before .before .facts .given .0 .0)
-    (c .before .before .before .before .before .before .before .before .before .target .given .0 .0) w
-    (c .before .before .before .before .before .before .before .gone-size .result)
-    (c .before .before .before .before .before .before .before .gone-size .ensures)
-    (c .before .before .before .before .before .before .kept-number .result) (c .before .before .before .before .before .before .kept-number .ensures)
-    (c .before .before .before .before .remove-fault .result) (c .before .before .before .with-room .result)
-    (c .before .before .before .before .remove-fault .ensures) (c .before .before .before .with-room .ensures) (c .before .k2 .given .0 .0)
-    (c .before .k2 .given .0 .1 .0) (c .before .k2 .given .1)
+    (c .before .before .before .before .before .before .before .before .before .target .given .1)
+    (c .before .before .before .before .before .before .link-place .result) (c .before .before .before .before .before .before .link-place .ensures .0)
+    (c .before .before .before .before .link-fault .result) (c .before .before .before .with-room .result)
+    (c .before .before .before .before .link-fault .ensures) (c .before .before .before .with-room .ensures)
+    (c .before .k2 .given .0 .0) (c .before .k2 .given .0 .1 .0) (c .before .k2 .given .1)
 
 returns-4 : tie.Need-returns-4
 returns-4 c =
@@ -178,22 +166,19 @@ returns-4 c =
       arith,
       c .before .before .before .before .before .before .before .before .before .before .before .before .before .before .shared-slice-known .given i,
     ))) in
-    let w = told (a .profile) b (a .len) (a .room) (a .used) (a .usage) (a .number) bytes 0
+    plan-fine (a .profile) b (a .len) (a .room) (a .used) (a .usage) (a .number) (a .alias) (a .chosen) bytes 0
     (c .before .before .before .before .before .before .before .before .before .before .before .facts .given .0 .0)
     (sym (c .before .before .before .before .before .before .before .before .before .before .before .before .before .opened .ensures)
     ∙ c .before .before .before .before .before .before .before .before .before .before .before .facts .given .1)
     (c .before .before .before .before .before .before .before .before .target .given .0 .0)
-    (c .before .before .before .before .before .before .before .before .target .given .1) in
-    plan-fine (a .profile) b (a .len) (a .room) (a .used) (a .usage) (a .number) bytes
-    (c .before .before .before .before .before .before .before .before .before .before .before .facts .given .0 .0)
-    (c .before .before .before .before .before .before .before .before .target .given .0 .0) w
-    (c .before .before .before .before .before .before .gone-size .result) (c .before .before .before .before .before .before .gone-size .ensures)
-    (c .before .before .before .before .before .kept-number .result) (c .before .before .before .before .before .kept-number .ensures)
-    (c .before .before .before .remove-fault .result) (c .before .before .with-room .result) (c .before .before .before .remove-fault .ensures)
-    (c .before .before .with-room .ensures) (c .enum-told2 .given .1)
+    (c .before .before .before .before .before .before .before .before .target .given .1) (c .before .before .before .before .before .link-place .result)
+    (c .before .before .before .before .before .link-place .ensures .0) (c .before .before .before .link-fault .result)
+    (c .before .before .with-room .result)
+    (c .before .before .before .link-fault .ensures) (c .before .before .with-room .ensures)
+    (c .enum-told2 .given .1)
 
-pub remove-plan-spec : {M : Type 1} → statement M
-remove-plan-spec =
+pub link-plan-spec : {M : Type 1} → statement M
+link-plan-spec =
     tie.close
     (tie.spec
     opened-requires
@@ -202,16 +187,12 @@ remove-plan-spec =
     enum-known-target
     enum-told
     returns
-    gone-size-requires
-    kept-number-requires
-    cast-body
-    slice-aggregate-remove-fault
-    remove-fault-requires
-    cast-with-room
+    slice-aggregate-link-place
+    link-place-requires
+    slice-aggregate-link-fault
+    link-fault-requires
     add-with-room
     sub-with-room
-    add-with-room-2
-    sub-with-room-2
     with-room-requires
     enum-known-k-2
     enum-told-2

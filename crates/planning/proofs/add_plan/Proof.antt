@@ -14,10 +14,10 @@ use Rattle.blorb.proofs.AllLaws.{all-take}
 use Rattle.reader.specs.declared.Inspection.the-variants.{Whole}
 use Rattle.judging.proofs.OpenLaws.{asked}
 use Rattle.rewrite.specs.Rewriting.{Stands}
-use Rattle.editor.proofs.AddCall.{told-stands, told-pair, plan-unopened, plan-30, plan-refused, plan-fine}
+use Rattle.planning.proofs.AddPlan.{told-stands, told-pair, plan-unopened, plan-30, plan-refused, plan-fine}
 use borrow.Author.Needs.{needs}
-use Rattle.editor.proofs.add_plan.Statement.{statement}
-use Rattle.editor.proofs.add_plan.Tie as tie
+use Rattle.planning.proofs.add_plan.Statement.{statement}
+use Rattle.planning.proofs.add_plan.Tie as tie
 
 bytes : (c : tie.After-facts) → All Byte (take (c .before .before .before .before .before .args .len) (now
     (c .before .before .before .before .before .args .buf)))

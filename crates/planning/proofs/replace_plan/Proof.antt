@@ -10,11 +10,11 @@ use Rattle.blorb.specs.Bytes.{Byte}
 use Rattle.blorb.proofs.Accept.{bytes-all}
 use Rattle.blorb.specs.All.{All}
 use Rattle.blorb.proofs.AllLaws.{all-take}
-use Rattle.editor.proofs.RemoveCall.{Told, told, body-short}
-use Rattle.editor.proofs.ReplaceCall.{plan-unopened, plan-22, plan-23, plan-30, inside, own, plan-refused, plan-fine}
+use Rattle.planning.proofs.RemovePlan.{Told, told, body-short}
+use Rattle.planning.proofs.ReplacePlan.{plan-unopened, plan-22, plan-23, plan-30, inside, own, plan-refused, plan-fine}
 use borrow.Author.Needs.{needs}
-use Rattle.editor.proofs.replace_plan.Statement.{statement}
-use Rattle.editor.proofs.replace_plan.Tie as tie
+use Rattle.planning.proofs.replace_plan.Statement.{statement}
+use Rattle.planning.proofs.replace_plan.Tie as tie
 
 bytes : (c : tie.After-facts) → All Byte (take (c .before .before .before .before .before .args .len) (now
     (c .before .before .before .before .before .args .buf)))

@@ -1,3 +1,4 @@
+-- 52 and 20 are tested in front of the inspection, in the order of the definition; the reader's own contract tells the rest.
 use mathlib.Core.Path.{sym, ap, _∙_}
 use lib.ListN.{length, take}
 use lib.Seq.{length-take-le}
@@ -10,8 +11,8 @@ use Rattle.reader.specs.Inspecting.{inspectionOf}
 use Rattle.blorb.specs.Model.{model}
 use Rattle.judging.proofs.OpenLaws.{opened-unknown, opened-first, opened-second, opened-third}
 use borrow.Author.Needs.{needs}
-use Rattle.editor.proofs.opened.Statement.{statement}
-use Rattle.editor.proofs.opened.Tie as tie
+use Rattle.planning.proofs.opened.Statement.{statement}
+use Rattle.planning.proofs.opened.Tie as tie
 
 returns : tie.Need-returns
 returns c =

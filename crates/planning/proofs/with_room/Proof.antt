@@ -1,9 +1,10 @@
+-- What was judged comes first, then 24, then 25: each test that stops is the first of the definition that does.
 use mathlib.Core.Path.{ap, _∙_}
 use Rattle.judging.specs.Outcomes.{verdictOf}
-use Rattle.editor.proofs.CallLaws.{room-judged, room-24, room-25, room-fine}
+use Rattle.planning.proofs.PlanLaws.{room-judged, room-24, room-25, room-fine}
 use borrow.Author.Needs.{needs}
-use Rattle.editor.proofs.with_room.Statement.{statement}
-use Rattle.editor.proofs.with_room.Tie as tie
+use Rattle.planning.proofs.with_room.Statement.{statement}
+use Rattle.planning.proofs.with_room.Tie as tie
 
 enum-known-judged : tie.Need-enum-known-judged
 enum-known-judged c = search needs

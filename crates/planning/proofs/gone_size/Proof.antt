@@ -1,6 +1,7 @@
+-- A shared chunk stays; of one that goes, data of at most 16 MiB with header and padding fits 32 bits.
 use borrow.Author.Needs.{needs}
-use Rattle.editor.proofs.gone_size.Statement.{statement}
-use Rattle.editor.proofs.gone_size.Tie as tie
+use Rattle.planning.proofs.gone_size.Statement.{statement}
+use Rattle.planning.proofs.gone_size.Tie as tie
 
 returns : tie.Need-returns
 returns c = search needs

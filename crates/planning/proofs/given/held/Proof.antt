@@ -1,8 +1,8 @@
 -- The part that is left of the data is the definition's: from what is left out on, or nothing where there is less.
-use Rattle.editor.proofs.GivenLaws.{held-none, held-part}
+use Rattle.planning.proofs.GivenLaws.{held-none, held-part}
 use borrow.Author.Needs.{needs}
-use Rattle.editor.proofs.given.held.Statement.{statement}
-use Rattle.editor.proofs.given.held.Tie as tie
+use Rattle.planning.proofs.given.held.Statement.{statement}
+use Rattle.planning.proofs.given.held.Tie as tie
 
 returns : tie.Need-returns
 returns c = held-none _ _ _ (c .before .before .left-out .ensures .0) (c .before .if1 .taken)

@@ -1,8 +1,8 @@
 -- The data given to add and replace: whether it is whole, test by test, and the data as the chunk holds it.
-use mathlib.Core.Path.{_≡_, refl, sym, ap, _∙_}
+use mathlib.Core.Path.{_≡_, sym, _∙_}
 use Prim.Native.Nat.{ℕ, _+_, _-_, _≤_, _<_}
 use mathlib.Core.List.{List, []}
-use mathlib.Core.Bool.{true, false, _&&_, _||_, not}
+use mathlib.Core.Bool.{true, false, _||_, not}
 use native.Mathlib.Omega.{arith}
 use lib.ListN.{length, take, drop, length-drop, drop-of-length-le}
 use lib.Seq.{take-all}
@@ -38,7 +38,3 @@ module _ (t : ℕ) (d : List ℕ) where
   pub held-part : (k : ℕ) → k ≡ leftOut t → take (length d - (8 - k)) (drop (8 - k) d) ≡ held t d
   unfolding held
   held-part k e = take-all (length d - (8 - k)) (drop (8 - k) d) (simp length-drop (omega arith)) ∙ rw e
-
-  pub held-length : length (held t d) ≤ length d
-  unfolding held
-  held-length = simp length-drop (omega arith)

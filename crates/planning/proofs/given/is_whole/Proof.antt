@@ -1,9 +1,9 @@
 -- The code's tests are the definition's, one by one, behind that of the type.
 use mathlib.Core.Path.{sym, _∙_}
-use Rattle.editor.proofs.GivenLaws.{whole-other, whole-short, whole-unnamed, whole-sized}
+use Rattle.planning.proofs.GivenLaws.{whole-other, whole-short, whole-unnamed, whole-sized}
 use borrow.Author.Needs.{needs}
-use Rattle.editor.proofs.given.is_whole.Statement.{statement}
-use Rattle.editor.proofs.given.is_whole.Tie as tie
+use Rattle.planning.proofs.given.is_whole.Statement.{statement}
+use Rattle.planning.proofs.given.is_whole.Tie as tie
 
 returns : tie.Need-returns
 returns c = whole-other _ _ (c .if1 .taken)
