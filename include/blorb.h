@@ -60,10 +60,10 @@ extern "C" {
 
 /* The version of this header, as one number major * 1000000 + minor * 1000 + patch. A major version may change what a call takes. */
 #define BLORB_VERSION_MAJOR 2
-#define BLORB_VERSION_MINOR 4
+#define BLORB_VERSION_MINOR 5
 #define BLORB_VERSION_PATCH 0
 #define BLORB_VERSION (BLORB_VERSION_MAJOR * 1000000 + BLORB_VERSION_MINOR * 1000 + BLORB_VERSION_PATCH)
-#define BLORB_VERSION_TEXT "2.4.0"
+#define BLORB_VERSION_TEXT "2.5.0"
 
 /* The version of the archive that the program is linked with: BLORB_VERSION, where header and archive belong together. */
 uint32_t blorb_version(void);
@@ -584,6 +584,36 @@ static inline blorb_build_answer blorb_editor_table_build(const blorb_editor *e,
 static inline blorb_check_answer blorb_editor_table_check(const blorb_editor *e, const uint32_t *table, size_t numbers)
 {
     blorb_check_answer a = blorb_table_check(e->file, blorb_editor_lent(e), e->profile, table, numbers);
+    a.refusal = blorb_editor_refusal(e, a.refusal);
+    return a;
+}
+
+static inline blorb_check_answer blorb_editor_columns_check(const blorb_editor *e, const uint32_t *columns, size_t numbers)
+{
+    blorb_check_answer a = blorb_columns_check(e->file, blorb_editor_lent(e), e->profile, columns, numbers);
+    a.refusal = blorb_editor_refusal(e, a.refusal);
+    return a;
+}
+
+static inline blorb_scaled_answer blorb_editor_scaled(const blorb_editor *e, uint64_t window_width, uint64_t window_height,
+                                                      uint32_t picture, uint64_t width, uint64_t height)
+{
+    blorb_scaled_answer a = blorb_scaled(e->file, blorb_editor_lent(e), e->profile, window_width, window_height, picture, width, height);
+    a.refusal = blorb_editor_refusal(e, a.refusal);
+    return a;
+}
+
+/* The text is at e->file + start, until the next edit or undo. */
+static inline blorb_text_answer blorb_editor_text(const blorb_editor *e, size_t i)
+{
+    blorb_text_answer a = blorb_text(e->file, blorb_editor_lent(e), e->profile, i);
+    a.refusal = blorb_editor_refusal(e, a.refusal);
+    return a;
+}
+
+static inline blorb_text_answer blorb_editor_text_of(const blorb_editor *e, const char usage[4], uint32_t number)
+{
+    blorb_text_answer a = blorb_text_of(e->file, blorb_editor_lent(e), e->profile, usage, number);
     a.refusal = blorb_editor_refusal(e, a.refusal);
     return a;
 }

@@ -16,7 +16,7 @@
 
 const struct library libraries[LIBRARIES] = {LIBRARY(blorb), LIBRARY(plain), LIBRARY(fast)};
 
-static const double GOAL_PLAIN = 1.2, GOAL_FAST = 2.5, GOAL_MOVE = 0.9;
+static const double GOAL_PLAIN = 1.2, GOAL_FAST = 1.3, GOAL_MOVE = 0.9;
 static struct times edit_times, undo_times;
 static unsigned rows, over_plain, over_fast;
 

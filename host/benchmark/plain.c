@@ -1,8 +1,9 @@
 /*
- * The same checks and edits as the library's, with the same algorithms, as straightforward C: one walk over the chunks, along the
- * index as far as that tells the next one; each entry's chunk sought by walking on from the last one found, or from the index for the
- * one entry that lies before and is refused; earlier pairs looked at only for an entry whose number is not above all before it of its
- * usage; no scratch but eight numbers; edits in place.
+ * The same checks and edits as the library's, with the same algorithms, as straightforward C. A good file is known in one pass over
+ * chunks and entries side by side, which remembers the last usage and type that are allowed together. Any other file is judged in
+ * turn: one walk over the chunks; each entry's chunk sought by walking on from the last one found, or from the index for the one entry
+ * that lies before and is refused. Both look at earlier pairs only for an entry whose number is not above all before it of its usage.
+ * No scratch but eight numbers; edits in place.
  */
 #include "calls.h"
 #include "format.h"
@@ -19,41 +20,122 @@ static size_t skip(const uint8_t *file, size_t at)
     return at + chunk_size(get32(file + at + 4));
 }
 
-/*
- * The walk as long as each next chunk begins where the next entry of the index says: the processor can then read on along the index
- * instead of waiting for each length. Gives back where it ends.
- */
-static size_t walk_along(const uint8_t *file, size_t size, size_t at, bool *ordinary)
+static bool same_pair(const uint8_t *file, size_t i, size_t j)
 {
-    for (size_t p = entry_at(1) + 8; p + 4 <= size && at < size; p += 12) {
-        size_t guess = get32(file + p), next;
-        if (chunk_whole(file, size, at, &next).refusal != 0)
+    return memcmp(file + entry_at(i), file + entry_at(j), 8) == 0;
+}
+
+/* Whether an entry before entry j has its pair; all of its usage have numbers below `top`. */
+static bool repeats(const uint8_t *file, size_t j, uint64_t top)
+{
+    if (get32(file + entry_at(j) + 4) >= top)
+        return false;
+    for (size_t i = 0; i < j; i++)
+        if (same_pair(file, i, j))
+            return true;
+    return false;
+}
+
+/* Where the top of the entry's usage is kept: the usages differ in the low three bits of their first byte. */
+static uint64_t *top_of(uint64_t tops[8], const uint8_t *entry)
+{
+    return &tops[entry[0] % 8];
+}
+
+static void raise_top(uint64_t *top, uint32_t number)
+{
+    if (number >= *top)
+        *top = (uint64_t)number + 1;
+}
+
+/* ---- In one pass: false where the file has to be judged in turn. */
+
+/* The walk from `at` up to `to`, or to the first chunk that has a fault or is an index. Gives back where it ends. */
+static size_t pass_over(const uint8_t *file, size_t size, size_t at, size_t to, bool *ordinary)
+{
+    for (size_t next; at < to && at < size; at = next) {
+        if (chunk_whole(file, size, at, &next).refusal != 0 || get32(file + at) == RIDX)
             return at;
         if (special(get32(file + at)))
             *ordinary = false;
-        if (next != guess)
-            return next;
-        at = guess;
     }
     return at;
 }
 
+/* The way from `*at`, behind the last entry's chunk, to the chunk at `start`; `*at` becomes where the one behind that begins. */
+static bool step_to(const uint8_t *file, size_t size, size_t *at, size_t start, bool *ordinary)
+{
+    if (pass_over(file, size, *at, start, ordinary) != start || start >= size)
+        return false;
+    if (chunk_whole(file, size, start, at).refusal != 0 || get32(file + start) == RIDX)
+        return false;
+    if (special(get32(file + start)))
+        *ordinary = false;
+    return true;
+}
+
+/* A usage and a type that are allowed together whatever the data and the number are. */
+struct allowed {
+    uint64_t usage, type;
+};
+
+/* Whether the entry at `e`, whose chunk begins at `start`, gives no cause for 12, 14 and 15. */
+static bool suits(const uint8_t *file, uint32_t profile, size_t e, size_t start, struct allowed *last)
+{
+    uint32_t usage = get32(file + e), type = get32(file + start);
+
+    if (usage == last->usage && type == last->type)
+        return true;
+    if (!type_allowed(profile, usage, type, file + start + 8, get32(file + start + 4)))
+        return false;
+    if (usage == BLORB_EXEC && get32(file + e + 4) != 0)
+        return false;
+    if (type != RECT && type != FORM && usage != BLORB_EXEC)
+        *last = (struct allowed){usage, type};
+    return true;
+}
+
+static bool side_by_side(const uint8_t *file, size_t size, uint32_t profile, struct reading *r)
+{
+    const uint64_t none = UINT64_MAX;
+    uint64_t tops[8] = {0}, found = none;
+    struct allowed last = {none, none};
+    size_t at = entry_at(r->count);
+
+    for (size_t j = 0; j < r->count; j++) {
+        size_t e = entry_at(j), start = get32(file + e + 8);
+        uint64_t *top = top_of(tops, file + e);
+        if (start != found && !step_to(file, size, &at, start, &r->ordinary))
+            return false;
+        if (!suits(file, profile, e, start, &last) || repeats(file, j, *top))
+            return false;
+        raise_top(top, get32(file + e + 4));
+        found = start;
+    }
+    return pass_over(file, size, at, size, &r->ordinary) == size;
+}
+
+static bool in_one_pass(const uint8_t *file, size_t size, uint32_t profile, struct reading *r)
+{
+    if (head(file, size, profile).refusal != 0 || size < entry_at(0) || get32(file + 12) != RIDX || index_shape(file).refusal != 0)
+        return false;
+    *r = (struct reading){get32(file + 20), true};
+    return size >= entry_at(r->count) && side_by_side(file, size, profile, r);
+}
+
+/* ---- In turn. */
+
 /* Refusals 6, 28, 29 and 7. */
 static struct verdict walk(const uint8_t *file, size_t size, bool *ordinary)
 {
-    size_t at, next;
+    size_t next;
 
     *ordinary = true;
-    if (size == 12)
-        return (struct verdict){0, 0};
-    struct verdict v = chunk_whole(file, size, 12, &at);
-    if (v.refusal != 0)
-        return v;
-    for (at = walk_along(file, size, at, ordinary); at < size; at = next) {
-        v = chunk_whole(file, size, at, &next);
+    for (size_t at = 12; at < size; at = next) {
+        struct verdict v = chunk_whole(file, size, at, &next);
         if (v.refusal != 0)
             return v;
-        if (special(get32(file + at)))
+        if (at != 12 && special(get32(file + at)))
             *ordinary = false;
     }
     return (struct verdict){0, 0};
@@ -98,12 +180,7 @@ static struct verdict entry_fault(const uint8_t *file, size_t size, uint32_t pro
     return (struct verdict){0, 0};
 }
 
-static bool same_pair(const uint8_t *file, size_t i, size_t j)
-{
-    return memcmp(file + entry_at(i), file + entry_at(j), 8) == 0;
-}
-
-/* Refusals 12 to 16 and 27. The usages differ in the low three bits of their first byte. */
+/* Refusals 12 to 16 and 27. */
 static struct verdict entries(const uint8_t *file, size_t size, uint32_t profile, size_t count)
 {
     uint64_t tops[8] = {0};
@@ -111,18 +188,15 @@ static struct verdict entries(const uint8_t *file, size_t size, uint32_t profile
 
     for (size_t j = 0; j < count; j++) {
         size_t e = entry_at(j), before = found;
+        uint64_t *top = top_of(tops, file + e);
         struct verdict v = entry_fault(file, size, profile, base, e, &found);
         if (v.refusal != 0)
             return v;
-        uint64_t number = get32(file + e + 4), *top = &tops[file[e] % 8];
-        if (number >= *top)
-            *top = number + 1;
-        else
-            for (size_t i = 0; i < j; i++)
-                if (same_pair(file, i, j))
-                    return (struct verdict){BLORB_REPEATED, e};
+        if (repeats(file, j, *top))
+            return (struct verdict){BLORB_REPEATED, e};
         if (found < before)
             return (struct verdict){BLORB_ORDER, e + 8};
+        raise_top(top, get32(file + e + 4));
     }
     return (struct verdict){0, 0};
 }
@@ -171,7 +245,8 @@ static struct verdict optional(const uint8_t *file, size_t size, size_t count)
     return (struct verdict){0, 0};
 }
 
-static struct verdict judge(const uint8_t *file, size_t size, uint32_t profile, struct reading *r)
+/* Refusals 52, 1 to 16 and 27 to 29. */
+static struct verdict judge_in_turn(const uint8_t *file, size_t size, uint32_t profile, struct reading *r)
 {
     struct verdict v = head(file, size, profile);
 
@@ -191,7 +266,15 @@ static struct verdict judge(const uint8_t *file, size_t size, uint32_t profile, 
     if (v.refusal != 0)
         return v;
     r->count = get32(file + 20);
-    v = entries(file, size, profile, r->count);
+    return entries(file, size, profile, r->count);
+}
+
+static struct verdict judge(const uint8_t *file, size_t size, uint32_t profile, struct reading *r)
+{
+    struct verdict v = {0, 0};
+
+    if (!in_one_pass(file, size, profile, r))
+        v = judge_in_turn(file, size, profile, r);
     if (v.refusal != 0 || r->ordinary)
         return v;
     return optional(file, size, r->count);

@@ -199,6 +199,43 @@ static double read_in_order(size_t count)
     return t[READ_ONLY];
 }
 
+/* What a check of these rows takes beyond the read. */
+static double time_check(const uint8_t *f, size_t length, size_t count, const uint32_t *rows)
+{
+    static double all[MOST_TABLE_ROUNDS];
+    double begun = now();
+    unsigned rounds = 0;
+
+    for (; rounds < MOST_TABLE_ROUNDS && (rounds < 9 || now() - begun < TABLE_ROW_TIME); rounds++) {
+        double from = now();
+        sink = blorb_read(f, length, BLORB_PLAIN).count;
+        double between = now();
+        sink = blorb_table_check(f, length, BLORB_PLAIN, rows, 3 * count).refusal;
+        all[rounds] = now() - between - (between - from);
+    }
+    return median(all, rounds);
+}
+
+/* The check of a table that is right but for the start in its last row, which is refused there. */
+static void print_refused(void)
+{
+    puts("\n| Numbers | Right us | Stale us | / right |\n|---|--:|--:|--:|");
+    for (unsigned order = 0; order < ORDERS; order++) {
+        size_t count = BLORB_MAX_ENTRIES, length;
+        uint8_t *f = file_of(count, order, &length);
+        blorb_table_build(f, length, BLORB_PLAIN, table, MOST_NUMBERS);
+        double right = time_check(f, length, count, table);
+        table[3 * count - 1] += 2;
+        blorb_check_answer a = blorb_table_check(f, length, BLORB_PLAIN, table, 3 * count);
+        if (a.refusal != BLORB_TABLE_STALE || a.place != count - 1)
+            exit(1);
+        double stale = time_check(f, length, count, table);
+        printf("| %-8s | %8.2f | %8.2f | %5.1f |\n", orders[order], right / 1e3, stale / 1e3, stale / right);
+        fflush(stdout);
+        free(f);
+    }
+}
+
 /* Every resource of a full file: looked up one by one, or by one check and a search for each. */
 static void print_opening(void)
 {
@@ -229,5 +266,6 @@ void print_tables(void)
         for (unsigned order = 0; order < ORDERS; order++)
             print_one(counts[i], order, in_order);
     }
+    print_refused();
     print_opening();
 }

@@ -70,12 +70,14 @@ int settle_table(const place *p, in_place answer)
         discard(p, p->table_temp);
         return CARRIED_OUT;
     }
-    if (install(p, p->table_temp, p->table) == 0 && confirm(p) == 0)
-        return CARRIED_OUT;
-    int error = errno;
-    discard(p, p->table_temp);
-    errno = error;
-    return say_failed(p->table_path, "the file is edited, but its finding table is still the old one");
+    const char *advice = "Do not edit again for that: `blorb table FILE` writes the table anew.";
+    if (install(p, p->table_temp, p->table) != 0) {
+        discard(p, p->table_temp);
+        return say_error(p->table_path, "the file is edited, but its finding table is still the old one", errno, advice);
+    }
+    if (confirm(p) != 0)
+        return say_error(p->table_path, "the file is edited and its new finding table in place, but the disk has not confirmed the table", errno, advice);
+    return CARRIED_OUT;
 }
 
 int run_table(const request *r)

@@ -201,7 +201,7 @@ static const char *advice_for(int error)
     }
 }
 
-static int say_error(const char *file, const char *what, int error, const char *advice)
+int say_error(const char *file, const char *what, int error, const char *advice)
 {
     say_file(file);
     fprintf(stderr, ": %s: %s.\n", what, strerror(error));

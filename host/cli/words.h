@@ -53,7 +53,10 @@ void say_doubt(const char *file, const char *about, uint64_t number);
 /* That another run of this program is being waited for. */
 void say_waiting(const char *file);
 
-/* A failure that errno describes. Gives FAILED. */
+/* A failure that this errno describes, and what to do. Gives FAILED. */
+int say_error(const char *file, const char *what, int error, const char *advice);
+
+/* The same by errno itself, with the usual advice. */
 int say_failed(const char *file, const char *what);
 
 /* The same of standard output. */

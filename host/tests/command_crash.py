@@ -3,7 +3,7 @@ import errno
 import itertools
 import os
 
-from building import blorb
+from building import be, blorb, chunk
 from command_kit import (EACH, ENDED_BY_SHIM, contents, done, editing_reference, expect, failed, jpeg, live_records, restore, run, same,
                          tried, version_1)
 
@@ -134,20 +134,28 @@ def ended_at_every_step(work):
         expect(EACH > 1 or kinds == {"old", "new"}, f"{step[0]}: both pairs were met")
 
 
+# A file with a text, and the list that its 'RDes' comes of.
+LIST, TEXT = "list", b"An eel, and a comma."
+RDES = chunk(b"RDes", be(1) + b"Pict" + be(1) + be(len(TEXT)) + TEXT)
+DESCRIBED = blorb([(b"Pict", 1, 0)], [(b"JPEG", jpeg()), (b"RDes", RDES[8:])])
+
+
 def single_calls(work):
-    """new, get -o and forms -o: the words, the name of the file written, what it was before, and what it becomes."""
-    get = "get", work / FILE, "Pict", "1", "-o", work / "out"
-    forms = "forms", work / FILE, "0", "-o", work / "out"      # a Blorb file is a FORM
-    return [(("new", work / "n.blb"), "n.blb", None, editing_reference.BLANK),
-            (get, "out", None, jpeg()), (get, "out", b"old", jpeg()), (forms, "out", None, START), (forms, "out", b"old", START)]
+    """new, and get, forms and describe with -o: the words, the name of the file written, what it was before, and what it becomes."""
+    file, out = work / FILE, ("-o", work / "out")
+    written = [(("get", file, "Pict", "1", *out), jpeg()), (("forms", file, "0", *out), DESCRIBED),      # a Blorb file is a FORM
+               (("describe", file, "Pict", "1", *out), TEXT), (("describe", file, "--write", work / LIST, *out), RDES)]
+    return [(("new", work / "n.blb"), "n.blb", None, editing_reference.BLANK)] + [
+        (words, "out", old, wanted) for words, wanted in written for old in (None, b"old")]
 
 
 def single_before(work, name, old):
-    restore(work, {FILE: START} if old is None else {FILE: START, name: old})
+    held = {FILE: DESCRIBED, LIST: b"Pict 1 " + TEXT}
+    restore(work, held if old is None else {**held, name: old})
 
 
 def single_files(work):
-    """new, get -o and forms -o, ended at every step: there is the old file or the whole new one."""
+    """The same, ended at every step: there is the old file or the whole new one."""
     for words, name, old, wanted in single_calls(work):
         seen = set()
         for n in itertools.count(1):
@@ -174,7 +182,7 @@ def steps_of(work, *words, **more):
 
 
 def single_files_failing(work):
-    """new, get -o and forms -o, each step failing instead: what is said about the file is so, and nothing else is left."""
+    """The same, each step failing instead: what is said about the file is so, and nothing else is left."""
     for words, name, old, wanted in single_calls(work):
         single_before(work, name, old)
         said = set()
@@ -187,7 +195,7 @@ def single_files_failing(work):
             same(left.get(name), wanted if result.status == 0 or unconfirmed else old, what)
             # A temporary file that cannot be removed stays; the file itself is as it should be.
             spare = {name + ".blorb-temp"} if step[0] == "unlink" else set()
-            same(set(left) - {name} - spare, {FILE}, what)
+            same(set(left) - {name} - spare, {FILE, LIST}, what)
             said.add((result.status, unconfirmed))
         same(said, {(0, False), (2, False), (2, True)}, f"{words}: all three were met")
 

@@ -54,7 +54,7 @@ def trees(work):
         held, rows = tree(dice, NAMES[n % 3], 1, n % 6)
         file.write_bytes(held)
         same(done("forms", file), printed(held, rows), f"the list of tree {n}")
-        for i, (_, start, length, depth) in enumerate(rows[:8]):
+        for i, (_, start, length, depth) in enumerate(rows):
             wanted = held[start:start + 8 + length]
             same(done("forms", file, str(i)), wanted, f"FORM {i} of tree {n}")
             done("forms", file, str(i), "-o", out)

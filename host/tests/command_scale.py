@@ -1,4 +1,5 @@
 """Scaled pictures: sizes read from real pictures, sides by a reference in fractions, and each refusal with what is said of it."""
+import json
 import shutil
 import struct
 import subprocess
@@ -7,9 +8,14 @@ import zlib
 from fractions import Fraction
 
 from building import Dice, blorb
-from command_kit import be, done, expect, failed, jpeg, png, refused, run, same
+from command_kit import ROOT, be, done, expect, failed, jpeg, png, refused, run, same
 
 MOST = 65535
+# Whole pictures in host/tests/data that programs of Debian 12 made, with the sizes that they were asked for: ImageMagick the plain ones, cjpeg the
+# progressive one, netpbm the interlaced PNG and the GIF of version 87a. The last JPEG is cjpeg's, with a smaller one of 16 by 11 in front of its own
+# header as a thumbnail, put in by libexif's `exif`.
+REAL = (("plain.png", "PNG ", (37, 23)), ("interlaced.png", "PNG ", (41, 29)), ("baseline.jpg", "JPEG", (53, 31)), ("progressive.jpg", "JPEG", (61, 19)),
+        ("thumbnail.jpg", "JPEG", (67, 45)), ("plain.gif", "GIF ", (43, 17)), ("version87a.gif", "GIF ", (27, 39)))
 GIF = b"GIF89a" + struct.pack("<HH", 33, 21) + bytes(20)
 SKIPPED = set()
 
@@ -31,7 +37,7 @@ def jpegs_of(width, height):
     """Whole JPEGs of these sides as cjpeg makes them: usual, progressive, grey, with restart markers; and one with fill bytes before its markers."""
     if shutil.which("cjpeg") is None:
         if "cjpeg" not in SKIPPED:
-            print("  scale: cjpeg is not there; only a JPEG of one pixel is tried", file=sys.stderr)
+            print("  scale: cjpeg is not there; of JPEGs only those in host/tests/data and one of one pixel are tried", file=sys.stderr)
         SKIPPED.add("cjpeg")
         return []
     picture = b"P6 %d %d 255\n" % (width, height) + bytes(n * 7 % 256 for n in range(3 * width * height))
@@ -72,6 +78,21 @@ def told_sizes(work):
         file.write_bytes(blorb([(b"Pict", 1, 0)], [(kind, data)]))
         failed("scale", file, "1", "10x10", saying="does not tell its width and height")
         same(scaled(file, 1, (10, 10), (4, 5)), ((4, 5), (4, 5)), "a size that is given does")
+
+
+def real_pictures(work):
+    """Pictures that other programs made: the data tells the type and the size, and comes out as it went in. No tool is needed."""
+    file = work / "game.blb"
+    done("new", file)
+    for n, (name, kind, size) in enumerate(REAL):
+        done("add", file, "Pict", str(n), ROOT / "host/tests/data" / name, "--adrift")
+        same(scaled(file, n, (100, 50), None, "--adrift"), (size, size), f"the size of {name}")
+        same(done("get", file, "Pict", str(n), "--adrift"), (ROOT / "host/tests/data" / name).read_bytes(), f"{name} as it went in")
+    told = json.loads(done("list", file, "--json", "--adrift"))["resources"]
+    same([(r["type"], r["width"], r["height"], r["suits"]) for r in told], [(kind, *size, True) for _, kind, size in REAL], "list tells the same")
+    for line, (name, _, (width, height)) in zip(done("list", file, "--long", "--adrift").decode().splitlines()[1:], REAL):
+        expect(f", {width} by {height}, " in line, f"{name}: {line}")
+    same(run("check", file, "--adrift").err, "", "check warns of none of them")
 
 
 def expected(windows, row, window, size):
@@ -169,4 +190,4 @@ def scale_misuse(work):
     same(scaled(file, 1, (0, 0), (3, 4)), ((3, 4), (3, 4)), "a file without a 'Reso'")
 
 
-PARTS = (told_sizes, sides_by_reference, scale_refusals, scale_warnings, scale_misuse)
+PARTS = (told_sizes, real_pictures, sides_by_reference, scale_refusals, scale_warnings, scale_misuse)

@@ -1,10 +1,14 @@
 """The finding table beside a file: written, brought up to date by every edit, checked, and caught where it is stale."""
+import errno
+import itertools
+
 from building import blorb
 from command_crash import ADD, FILE, LINK, REMOVE, REMOVE_SHARED, REPLACE, SAME, START, UNDO, UNDO_ONE, call, steps_of
-from command_kit import ENDED_BY_SHIM, be, contents, done, expect, failed, jpeg, reference, refused, restore, run, same
+from command_kit import EACH, ENDED_BY_SHIM, be, contents, done, expect, failed, jpeg, reference, refused, restore, run, same, tried
 import table_reference
 
 TABLE = FILE + ".table"
+TABLE_CALL = ("table",), b""
 OTHER = blorb([(b"Pict", 1, 0), (b"Pict", 2, 0), (b"Data", 4, 1)], [(b"JPEG", jpeg()), (b"TEXT", b"odd"), (b"ANNO", b"x")])
 
 
@@ -99,13 +103,12 @@ def stale_tables(work):
     now = table.read_bytes()
     wrong += [now[:n] for n in range(len(now))] + [now + bytes(n) for n in (1, 2, 3, 4, 11, 12)]
     wrong += [now[:i] + bytes([now[i] ^ 1 << bit]) + now[i + 1:] for i in range(len(now)) for bit in range(8)]
-    for n, held in enumerate(wrong):
+    for held in wrong:
         table.write_bytes(held)
         what, number, place = judged(file.read_bytes(), held)
         same((what, number), ("refused", 35), "by the reference")
         refused(35, place, "check", file)
-        if n % 16 == 0:
-            refused(35, place, "find", file, "Data", "9")
+        refused(35, place, "find", file, "Data", "9")
     same(call(work, REPLACE).status, 0, "an edit beside a stale table")
     up_to_date(work, "an edit beside a stale table")
     table.write_bytes(right)
@@ -113,35 +116,78 @@ def stale_tables(work):
     up_to_date(work, "a stale table written anew")
 
 
-def tables_at_every_step(work):
-    """Ended before each step and in the middle of each write: the table is right, or the check refuses it."""
-    cases = [([], ("table",)), ([], ADD), ([ADD], REPLACE), ([ADD], SAME), ([ADD], REMOVE), ([ADD, REPLACE], UNDO_ONE), ([ADD], UNDO_ONE),
-             ([ADD], LINK), ([LINK], UNDO_ONE)]
-    for earlier, step in cases:
+# What was done before with a table beside the file, and the call under test.
+CASES = (([], TABLE_CALL), ([], ADD), ([ADD], REPLACE), ([ADD], SAME), ([ADD], REMOVE), ([ADD, REPLACE], UNDO_ONE), ([ADD], UNDO_ONE),
+         ([ADD], LINK), ([LINK], UNDO_ONE))
+
+
+def prepared(work):
+    """Of each case: the folder, the call, what is in the folder before it and after it, and its steps."""
+    for earlier, step in CASES:
         folder = work / "beside"
         folder.mkdir(exist_ok=True)
         restore(folder, {FILE: START})
         done("table", folder / FILE)
         for each in earlier:
             same(call(folder, each).status, 0, f"{each[0]} in preparation")
-        words, data = (step, b"") if step == ("table",) else step
-        if step == ("table",):
+        words, data = step
+        if step == TABLE_CALL:
             (folder / TABLE).write_bytes(b"old")
         before = contents(folder)
         steps = steps_of(folder, words[0], folder / FILE, *words[1:], stdin=data)
+        yield folder, step, before, contents(folder), steps
+
+
+def goes_on(folder, what):
+    """The next edit brings the table up to date, and nothing is left of the interrupted call."""
+    same(call(folder, (("add", "Data", "88", "TEXT", "-"), b"after")).status, 0, f"{what}: another edit")
+    up_to_date(folder, f"{what}: another edit")
+    same(set(contents(folder)), {FILE, UNDO, TABLE}, f"{what}: nothing is left of the interrupted call")
+
+
+def tables_at_every_step(work):
+    """Ended before each step and in the middle of each write: the table is right, or the check refuses it."""
+    for folder, step, before, _, steps in prepared(work):
         ends = [(n, {}) for n in range(1, len(steps) + 1)]
         ends += [(n, {"CRASH_HALF": "1"}) for n, _ in ends if steps[n - 1][0] == "write"]
         met = set()
         for n, half in ends:
             restore(folder, before)
-            what = f"{words} with a table ended at step {n}{' in its middle' if half else ''}"
-            result = run(words[0], folder / FILE, *words[1:], stdin=data, shim={"CRASH_AT": str(n), **half})
-            same(result.status, ENDED_BY_SHIM, what)
+            what = f"{step[0]} with a table ended at step {n}{' in its middle' if half else ''}"
+            same(call(folder, step, shim={"CRASH_AT": str(n), **half}).status, ENDED_BY_SHIM, what)
             met.add(caught(folder, what))
-            same(call(folder, (("add", "Data", "88", "TEXT", "-"), b"after")).status, 0, f"{what}: another edit")
-            up_to_date(folder, f"{what}: another edit")
-            same(set(contents(folder)), {FILE, UNDO, TABLE}, f"{what}: nothing is left of the interrupted call")
-        expect("right" in met, f"{words}: a right table was met")
+            goes_on(folder, what)
+        expect("right" in met, f"{step[0]}: a right table was met")
+
+
+# What a call that ends with status 2 says of FILE and FILE.table, and which of the two are then the new ones.
+OLD_TABLE, NEW_TABLE = "but its finding table is still the old one", "but the disk has not confirmed the table"
+UNCONFIRMED = "the new file is in place, but the disk has not confirmed it"
+SAID = {OLD_TABLE: {FILE}, NEW_TABLE: {FILE, TABLE}, UNCONFIRMED: {FILE, TABLE}}
+
+
+def tables_failing_at_every_step(work):
+    """Each step fails instead: file and table are the old or the new ones as the status and the message say."""
+    for folder, step, before, after, steps in prepared(work):
+        met = set()
+        for (n, each), error in tried(itertools.product(enumerate(steps, 1), (errno.ENOSPC, errno.EIO))):
+            restore(folder, before)
+            result = call(folder, step, shim={"CRASH_AT": str(n), "CRASH_FAIL": str(error)})
+            left, what = contents(folder), f"{step[0]} with a table failing at step {n}, {each}: {result}"
+            said = [sentence for sentence in SAID if sentence in result.err]
+            expect(result.status == 0 and not result.err or result.status == 2 and result.err.count("\n") >= 2 and len(said) <= 1, what)
+            new = {FILE, TABLE} if result.status == 0 else SAID[said[0]] if said else set()
+            same({name: left[name] for name in (FILE, TABLE)}, {name: (after if name in new else before)[name] for name in (FILE, TABLE)}, what)
+            # A temporary file that cannot be removed stays until the next edit.
+            spare = {each[1]} if each[0] == "unlink" else set()
+            same(set(left) - {FILE, TABLE, UNDO} - spare, set(), what)
+            met.add((result.status, *said))
+            if step != TABLE_CALL:
+                expect(OLD_TABLE not in result.err or "blorb table FILE" in result.err, f"what to do: {what}")
+            caught(folder, what)
+            goes_on(folder, what)
+        wanted = {(0,), (2,), (2, UNCONFIRMED)} | ({(2, OLD_TABLE), (2, NEW_TABLE)} if step != TABLE_CALL else set())
+        expect(EACH > 1 or met == wanted, f"{step[0]}: all were met: {met}")
 
 
 def caught(folder, what):
@@ -157,4 +203,4 @@ def caught(folder, what):
     return "stale"
 
 
-PARTS = (tables, own_names, through_a_link, stale_tables, tables_at_every_step)
+PARTS = (tables, own_names, through_a_link, stale_tables, tables_at_every_step, tables_failing_at_every_step)

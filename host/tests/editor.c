@@ -2,6 +2,7 @@
  * The functions over blorb_editor, against the plain calls on buffers of their own: after each step answers, lengths and all bytes are the same.
  * The same text is compiled as C99, as C11 and as C++.
  */
+#include <stdbool.h>
 #include <stdio.h>
 #include <stdlib.h>
 #include <string.h>
@@ -75,6 +76,23 @@ static void undo(blorb_editor *e, uint64_t refusal)
     same(e, blorb_editor_undo(e), blorb_undo(file[1], ROOM, length, journal[1], JOURNAL, used, e->profile), refusal, "undo");
 }
 
+static bool same_text(blorb_text_answer a, blorb_text_answer b)
+{
+    return a.refusal == b.refusal && a.place == b.place && a.usage == b.usage && a.number == b.number && a.start == b.start && a.length == b.length;
+}
+
+static void columns_scaled_texts(const blorb_editor *e, const char *usage, uint32_t number, size_t rows)
+{
+    uint32_t columns[NUMBERS];
+    blorb_table_to_columns(table[1], 3 * rows, columns, NUMBERS);
+    blorb_check_answer a = blorb_editor_columns_check(e, columns, 3 * rows), b = blorb_columns_check(file[1], length, e->profile, columns, 3 * rows);
+    expect(a.refusal == b.refusal && a.place == b.place, "columns check");
+    blorb_scaled_answer c = blorb_editor_scaled(e, 600, 400, number, 60, 40), d = blorb_scaled(file[1], length, e->profile, 600, 400, number, 60, 40);
+    expect(c.refusal == d.refusal && c.place == d.place && c.width == d.width && c.height == d.height, "scaled");
+    expect(same_text(blorb_editor_text(e, 0), blorb_text(file[1], length, e->profile, 0)), "text");
+    expect(same_text(blorb_editor_text_of(e, usage, number), blorb_text_of(file[1], length, e->profile, usage, number)), "text of");
+}
+
 /* The calls that only read: on the file of the plain calls, which has the same bytes. */
 static void reads(const blorb_editor *e, const char *usage, uint32_t number)
 {
@@ -90,6 +108,7 @@ static void reads(const blorb_editor *e, const char *usage, uint32_t number)
     blorb_check_answer m = blorb_editor_table_check(e, table[0], 3 * (size_t)b.rows);
     blorb_check_answer n = blorb_table_check(file[1], length, e->profile, table[1], 3 * (size_t)c.rows);
     expect(m.refusal == n.refusal && m.place == n.place && (b.refusal != 0 || m.refusal == 0), "check");
+    columns_scaled_texts(e, usage, number, (size_t)b.rows);
 }
 
 /* A run from the blank file to three resources and back. */
@@ -168,6 +187,9 @@ static void beyond(uint32_t profile, uint64_t refusal)
     expect(blorb_editor_entry(&e, 0).refusal == refusal && blorb_editor_lookup(&e, "Data", 7).refusal == refusal, "entry, lookup: 20");
     expect(blorb_editor_table_build(&e, table[0], NUMBERS).refusal == refusal, "build: 20");
     expect(blorb_editor_table_check(&e, table[0], NUMBERS).refusal == refusal, "check: 20");
+    expect(blorb_editor_columns_check(&e, table[0], NUMBERS).refusal == refusal, "columns check: 20");
+    expect(blorb_editor_scaled(&e, 1, 1, 1, 1, 1).refusal == refusal, "scaled: 20");
+    expect(blorb_editor_text(&e, 0).refusal == refusal && blorb_editor_text_of(&e, "Data", 7).refusal == refusal, "texts: 20");
     expect(blorb_editor_undo(&e).refusal == refusal && e.length == (size_t)-1, "undo: 20");
     expect(blorb_editor_link(&e, "Data", 7, "Data", 8).refusal == refusal && e.length == (size_t)-1, "link: 20");
     expect(blorb_editor_add(&e, "Data", 7, "TEXT", few, 3).refusal == refusal && blorb_editor_remove(&e, "Data", 7).refusal == refusal

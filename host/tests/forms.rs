@@ -41,11 +41,17 @@ fn list(tally: &mut Tally, rng: &mut Rng, lent: &mut Lent, file: &[u8], rows: &R
     }
 }
 
+/// Each FORM of a file with no more than so many is picked; of a file with more some.
+const ALL_PICKED: usize = 400;
+
 fn picks(tally: &mut Tally, rng: &mut Rng, lent: &mut Lent, file: &[u8], rows: &Rows) {
     let count = rows.as_ref().map_or(0, Vec::len);
     let wraps = [usize::MAX, 1 << 32, (1 << 32) + rng.below(count + 1), usize::MAX / 4 + 1];
     let mut numbers = vec![0, count, rng.below(count + 2), rng.pick(&wraps)];
-    numbers.extend((0..count.min(3)).map(|_| rng.below(count)));
+    match count <= ALL_PICKED {
+        true => numbers.extend(1..count),
+        false => numbers.extend((0..4).map(|_| rng.below(count)).chain([count - 1])),
+    }
     for i in numbers {
         let expected = forms::pick(rows, i);
         let found = archive::forms_pick(lent, i);

@@ -97,7 +97,7 @@ pub fn expect(tally: &mut Tally, rng: &mut Rng, call: &Call, state: &State, numb
 }
 
 /// The reading calls on a file, under an unknown profile too.
-fn check_file_and_52(tally: &mut Tally, rng: &mut Rng, file: &[u8]) {
+pub fn check_file_and_52(tally: &mut Tally, rng: &mut Rng, file: &[u8]) {
     check_file(tally, rng, file);
     let unknown = rng.unknown_profile();
     check_file_under(tally, rng, file, unknown);

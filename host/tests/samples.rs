@@ -1,9 +1,9 @@
 //! The sample files of the scope paper and of the requests, with the numbers that they name. They test the reference as much as the library.
 
 use crate::generate::{self, Rng};
-use crate::large::{add, expect, link, remove, replace};
+use crate::large::{add, check_file_and_52, expect, link, remove, replace};
 use crate::reference::{self, Call, Chunk, Entry, File, Record, Refusal, State, Tag, ADRIFT, PLAIN};
-use crate::{check_expected, check_file, forms, sounds, Tally};
+use crate::{check_expected, check_file, check_file_under, forms, sounds, Tally};
 
 pub fn samples(tally: &mut Tally, rng: &mut Rng) {
     for profile in [PLAIN, ADRIFT] {
@@ -84,7 +84,7 @@ fn refused(tally: &mut Tally, rng: &mut Rng, a: &[u8], b: &[u8]) {
     ];
     for (file, number, place) in samples {
         check_expected(tally, rng, &file, Some(Refusal { number, place }));
-        check_file(tally, rng, &file);
+        check_file_and_52(tally, rng, &file);
     }
 }
 
@@ -104,6 +104,8 @@ fn under_profiles(tally: &mut Tally, rng: &mut Rng, file: &[u8], plain: Option<(
         if profile <= ADRIFT {
             rng.profile = profile;
             check_file(tally, rng, file);
+        } else {
+            check_file_under(tally, rng, file, profile);
         }
     }
 }
@@ -147,7 +149,7 @@ fn whole_samples(tally: &mut Tally, rng: &mut Rng) {
     if found != Ok([u32::from_be_bytes(*b"FORM") as u64, 36, 13]) || a.file[36..49] != aiff[..] {
         tally.fail("lookup", &format!("the same 13 bytes must come out, found {found:?}"));
     }
-    check_file(tally, rng, file_of(&a));
+    check_file_and_52(tally, rng, file_of(&a));
     // A replacement's record keeps what the chunk held, and its undo gives that back.
     let b = expect(tally, rng, &replace(b"Snd ", 3, b"FORM", b"FORM\0\0\0\x04AIFF".to_vec()), &a, 0);
     if b.used - a.used != 34 || file_of(&expect(tally, rng, &Call::Undo, &b, 0)) != file_of(&a) {

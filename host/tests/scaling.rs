@@ -127,7 +127,8 @@ fn any_asking(rng: &mut Rng, pictures: &[u32], windows: &[u32; 6]) -> Asking {
     Asking { window: [sides[0], sides[1]], picture, size: [sides[2], sides[3]] }
 }
 
-/// 'Reso' chunks of as many rows as a file can have: in order, in no order, and with a repeat at the last row or across half of them.
+/// 'Reso' chunks of as many rows as a file can have: in order, in no order, and with a repeat at the last row or across half of them; each under an
+/// unknown profile too.
 pub fn largest(tally: &mut Tally, rng: &mut Rng) {
     const ROWS: usize = (reference::LIMIT - 24 - 8 - 24) / 28;
     let scattered = |i: usize| (i as u32).wrapping_mul(2_654_435_761);
@@ -151,5 +152,7 @@ pub fn largest(tally: &mut Tally, rng: &mut Rng) {
         if sides != (refusal == 0).then_some([9, 18]) {
             tally.fail(&describe(&read, &asking), &format!("must give {refusal}, gave {sides:?}"));
         }
+        let unknown = rng.unknown_profile();
+        check_call(tally, &mut lent, &Read { profile: unknown, view: reference::read(&file, unknown), ..read }, &asking);
     }
 }

@@ -15,7 +15,7 @@ import subprocess
 import sys
 from pathlib import Path
 
-from stack_calls import CALLS, LEVELS, MOST_ARRAY, NESTED, SMALL, groups_of_c, limits_of
+from stack_calls import CALLS, KEPT, LEVELS, MOST_ARRAY, NESTED, SMALL, groups_of_c, limits_of
 
 OUTSIDE = ("memmove", "memset")
 RETURN = 8                # bytes of a return address
@@ -339,16 +339,21 @@ def check_arrays(f, call):
         raise Breach(f"{f.name}, which {call} runs: fills or copies bytes in bulk, {outside or 'by an instruction'}")
 
 
-def checked(archive, groups, limits, inner=(), nested=NESTED):
+def checked(archive, groups, limits, inner=(), kept=(), nested=NESTED):
     """
-    Figure and way down of each call; raises Breach. `inner` are reading and grouping functions that have no C call, where the compiler has kept them
-    apart; `nested` are those that may call each other, in grouping calls.
+    Figure and way down of each call, and of those of `inner` that are there; raises Breach. `inner` are reading and grouping functions that have no C call:
+    they are looked at where the compiler has kept them apart, which it must have done with those of `kept`. `nested` are the functions that may call
+    each other, in grouping calls.
     """
     code, tables = functions_of(archive), tables_of(archive)
     functions = {name: Function(name, where, lines, tables, code) for name, (where, lines) in code.items()}
     depths = deepest(functions, nested)
-    for name in inner:
-        for below in sorted(reached(functions, name)) if name in functions else []:
+    for name in kept:
+        if name not in functions:
+            raise Breach(f"the archive has no {name} apart from what calls it, so its code cannot be looked at")
+    found = [name for name in inner if name in functions]
+    for name in found:
+        for below in sorted(reached(functions, name)):
             check_arrays(functions[below], name)
     for name, group in groups.items():
         if name not in functions:
@@ -361,7 +366,7 @@ def checked(archive, groups, limits, inner=(), nested=NESTED):
             raise Breach(f"recursion: {name}, which runs {', '.join(sorted(met))}")
         if depths[name][0] > limits[group]:
             raise Breach(f"{name}: {depths[name][0]} bytes of stack by {' > '.join(depths[name][1])}; the header allows {limits[group]}")
-    return {name: depths[name] for name in groups}
+    return {name: depths[name] for name in groups}, {name: depths[name] for name in found}
 
 
 def exported(archive):
@@ -379,7 +384,7 @@ def main():
         sys.exit(f"stack_archive: stack_calls.py has not the archive's calls: {exported(given.archive) ^ set(groups)}")
     try:
         inner = [source for group, c, source in CALLS if c is None and group in SMALL]
-        figures = checked(given.archive, groups, limits_of(given.header.read_text()), inner)
+        figures, apart = checked(given.archive, groups, limits_of(given.header.read_text()), inner, KEPT)
     except Breach as breach:
         sys.exit(f"stack_archive: {breach}")
     lines = [f"{name} {depth}" for name, (depth, _) in figures.items()]
@@ -387,7 +392,10 @@ def main():
         given.figures.write_text("\n".join(lines) + "\n")
     for name, (depth, way) in figures.items():
         print(f"  {name:22} {depth:5}  {' > '.join(way)}")
-    print(f"stack_archive: ok, {len(figures)} calls")
+    for name in inner:
+        found = f"{apart[name][0]:5}  no C call; found" if name in apart else "       no C call; not in the archive, so its source alone is looked at"
+        print(f"  {name:22} {found}")
+    print(f"stack_archive: ok, {len(figures)} calls and {len(apart)} of {len(inner)} functions without one")
 
 
 if __name__ == "__main__":

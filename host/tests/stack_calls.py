@@ -43,6 +43,8 @@ CALLS = [
 LIMITS = {"reading": "BLORB_STACK_READING", "building": "BLORB_STACK_READING", "grouping": "BLORB_STACK_GROUPS", "lists": "BLORB_STACK_LISTS",
           "editing": "BLORB_STACK_EDITING"}
 SMALL = ("reading", "grouping")
+# Of the reading and grouping calls without a function in C those that the archive must have all the same, for its code to be looked at: every edit runs it.
+KEPT = ("reader::inspect",)
 MOST_ARRAY = 64           # bytes of an array that a call of these groups may hold
 NESTED = frozenset({"groups::readers::form_in", "groups::readers::group_in"})
 LEVELS = 16

@@ -130,6 +130,15 @@ ARCHIVE = [
 ]
 
 
+# A function without a C call beside an editing call: its body, the functions looked at, those that must be there, and what the refusal has to say.
+INNER = [
+    ("with an array of 64 bytes", NUMBERS.replace("@N@", "8"), ("step",), ("step",), None),
+    ("with an array of 72 bytes", NUMBERS.replace("@N@", "9"), ("step",), ("step",), ("array of", "in bulk")),
+    ("that is not there", NUMBERS.replace("@N@", "9"), ("elsewhere",), (), None),
+    ("that is not there and must be", NUMBERS.replace("@N@", "8"), ("elsewhere",), ("elsewhere",), ("has no elsewhere",)),
+]
+
+
 def judged(what, found, wanted):
     """`found` is what the check said, None where it accepted."""
     if wanted is None and found is not None or wanted is not None and (found is None or not any(w in found for w in wanted)):
@@ -158,24 +167,34 @@ def source_plants(folder):
         judged(f"source, {what}", found, None if wanted is None else (wanted,))
 
 
-def archive_plants(folder):
+def compiled(folder, body):
+    """Both forms of the plant: in sections of their own, and in one."""
     compiler = shlex.split(os.environ.get("CC", "cc"))
     flags = ["-O2", "-w", "-fno-stack-protector", "-fcf-protection=none", "-fPIC", "-c"]
-    for k, (what, body, group, wanted) in enumerate(ARCHIVE):
-        code, built = folder / f"{k}.c", folder / f"{k}.o"
-        code.write_text(CODE.replace("@BODY@", body))
-        for sections in ("-ffunction-sections", "-fno-function-sections"):
-            subprocess.run([*compiler, *flags, sections, "-o", str(built), str(code)], check=True)
-            limits = {"reading": 512, "editing": 768, "grouping": 1024}
+    code, built = folder / "plant.c", folder / "plant.o"
+    code.write_text(CODE.replace("@BODY@", body))
+    for sections in ("-ffunction-sections", "-fno-function-sections"):
+        subprocess.run([*compiler, *flags, sections, "-o", str(built), str(code)], check=True)
+        yield sections, built
+
+
+def archive_plants(folder):
+    limits = {"reading": 512, "editing": 768, "grouping": 1024}
+    for what, body, group, wanted in ARCHIVE:
+        for sections, built in compiled(folder, body):
             found = said(lambda: stack_archive.checked(built, {"blorb_read": group}, limits, nested=MAY_RECURSE), stack_archive.Breach)
             judged(f"archive, {what}, {sections}", found, wanted)
+    for what, body, inner, kept, wanted in INNER:
+        for sections, built in compiled(folder, body):
+            found = said(lambda: stack_archive.checked(built, {"blorb_read": "editing"}, limits, inner, kept, MAY_RECURSE), stack_archive.Breach)
+            judged(f"archive, a function {what}, {sections}", found, wanted)
 
 
 def main():
     with tempfile.TemporaryDirectory() as folder:
         source_plants(Path(folder) / "source")
         archive_plants(Path(folder))
-    print(f"stack_selftest: ok, {len(SOURCE)} planted sources and {len(ARCHIVE)} planted archives")
+    print(f"stack_selftest: ok, {len(SOURCE)} planted sources and {len(ARCHIVE) + len(INNER)} planted archives")
 
 
 if __name__ == "__main__":

@@ -312,7 +312,7 @@ pub fn longest(tally: &mut Tally, rng: &mut Rng) {
 }
 
 /// 'RDes' chunks of as many texts as a file can have, all of no bytes, in order and with a repeat at the last one; and of a quarter as many falling and in
-/// no order, for which the time grows with the square. Each is written from its rows too.
+/// no order, for which the time grows with the square. Each is read under an unknown profile too, and written from its rows.
 pub fn largest(tally: &mut Tally, rng: &mut Rng) {
     const TEXTS: usize = (reference::LIMIT - 24 - 8 - 4) / 12;
     const FEWER: usize = TEXTS / 4;
@@ -328,7 +328,10 @@ pub fn largest(tally: &mut Tally, rng: &mut Rng) {
         let chunk = chunk_of(&texts);
         let file = reference::File { chunks: vec![reference::Chunk { tag: *b"RDes", data: reference_data(&chunk) }], entries: Vec::new() }.write();
         let read = Read { file: &file, profile: rng.profile, view: reference::read(&file, rng.profile), known: reference::read(&file, rng.profile) };
-        let found = by_entry(tally, &mut Lent::new(&file, 0), &read, count - 1);
+        let mut lent = Lent::new(&file, 0);
+        let found = by_entry(tally, &mut lent, &read, count - 1);
+        let unknown = rng.unknown_profile();
+        by_entry(tally, &mut lent, &Read { profile: unknown, view: reference::read(&file, unknown), ..read }, count - 1);
         let length = check_write(tally, rng, &rows, &[], &vec![7; chunk.len() + 1]);
         if found.is_some() != (refusal == 0) || length != (refusal == 0).then_some(chunk.len()) {
             tally.fail("blorb_text or blorb_texts_write", &format!("the largest 'RDes' must give {refusal}, gave {found:?} and {length:?}"));
