@@ -426,7 +426,7 @@ typedef struct blorb_write_answer {
  * begins and how many bytes it has. A partial last row is not looked at. Texts may overlap or be the same bytes. Put into a file as its only
  * 'RDes', behind the index, the chunk gives back the same pairs and texts in the same order.
  *
- * The time is as with reading, and besides proportional to the bytes of all texts that the rows name: 200 rows over one text of 16 MB take 3 s.
+ * The time is as with reading, and besides proportional to the bytes of all texts that the rows name: 200 rows over one text of 16 MB take 2 s.
  * The list is judged before its size, so this holds of refused lists too, also of those with more rows than any chunk has room for: with ten
  * million rows that do not rise it is minutes.
  * Refusals, row by row 38 before 39, then 40.

@@ -1,1 +1,2 @@
 pub mod FileBack
+pub mod Instance

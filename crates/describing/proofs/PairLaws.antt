@@ -68,18 +68,18 @@ apart-none : (k : ℕ → ℕ) (n : ℕ) → Apart k 0 n → (i : ℕ) → i < n
 unfolding Apart
 apart-none k n d i l = among-none k (k i) i (λ j m e. d j i (omega arith) m l e)
 
--- the verdict on the rows from the answer of the search
+-- the verdict on the rows from the answer of the search among the first m; where it finds nothing, the bad row has to be one of these
 module _ (rows texts : List ℕ) (b : (i : ℕ) → getD rows i 0 < 4294967296) (n t : ℕ) (bad : FirstBad rows texts n t) where
   fresh : (m : ℕ) → Apart (listKey rows) 0 m → (i : ℕ) → i < m → repeated rows texts i ≡ false
   fresh m d i l = sym (key-repeats rows texts b i) ∙ apart-none (listKey rows) m d i l
 
-  pub found-38 : (m j : ℕ) → m ≤ n → m ≤ t + 1 → firstRepeat (listKey rows) m ≡ At j → refuse 38 j ≡ rowsFault rows texts n 0
-  found-38 m j h l e =
+  pub found-38 : (m j : ℕ) → firstRepeat (listKey rows) m ≡ At j → m ≤ n → m ≤ t + 1 → refuse 38 j ≡ rowsFault rows texts n 0
+  found-38 m j e h l =
       let f = answer-at (listKey rows) m j e in
       judged-38 rows texts n t bad j (omega (arith, f .0)) (omega (arith, f .0)) (fresh j (f .2)) (sym (key-repeats rows texts b j) ∙ f .1)
 
-  pub found-39 : t < n → firstRepeat (listKey rows) (t + 1) ≡ Nothing → refuse 39 t ≡ rowsFault rows texts n 0
-  found-39 h e = judged-39 rows texts n t bad h (fresh (t + 1) (answer-nothing (listKey rows) (t + 1) e))
+  pub found-39 : (m : ℕ) → firstRepeat (listKey rows) m ≡ Nothing → t < n → t < m → refuse 39 t ≡ rowsFault rows texts n 0
+  found-39 m e h l = judged-39 rows texts n t bad h (λ i k. fresh m (answer-nothing (listKey rows) m e) i (omega arith))
 
   pub found-none : n ≤ t → firstRepeat (listKey rows) n ≡ Nothing → accept ≡ rowsFault rows texts n 0
   found-none h e = judged-good rows texts n t bad h (fresh n (answer-nothing (listKey rows) n e))

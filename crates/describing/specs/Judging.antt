@@ -3,14 +3,7 @@ use mathlib.Core.Path.{_≡_}
 use Prim.Native.Nat.{ℕ, _≤_, _<_}
 use mathlib.Core.List.{List}
 use mathlib.Core.Bool.{true, false}
-use Rattle.blorb.specs.Verdict.{Verdict, accept, refuse}
 use Rattle.describing.specs.Writing.{textGood}
-use Rattle.describing.specs.declared.judge.Check.{Check}
-use Rattle.describing.specs.declared.judge.Check.the-variants.{Good, Refused}
-
-abbrev pub verdictOf : Check → Verdict
-verdictOf Good = accept
-verdictOf (Refused k p) = refuse k p
 
 -- t is the first of n rows that has a bad text, or n
 pub record FirstBad (rows texts : List ℕ) (n t : ℕ) : Type 0 where

@@ -1,16 +1,13 @@
 // The rows of a list judged: refusals 38 and 39. The first bad text is found in one pass; whether a pair is repeated is then asked of the rows up to
 // that one only.
+use chunks::Check;
 use repeats::First;
 ghost use mathlib.Core.Path.{_≡_};
 ghost use Prim.Native.Nat.{_+_, _*_, _≤_};
 ghost use lib.ListN.{length};
+ghost use Rattle.chunks.specs.Walk.{verdictOf};
 ghost use Rattle.describing.specs.Writing.{textGood, rowsFault};
-ghost use Rattle.describing.specs.Judging.{FirstBad, verdictOf};
-
-pub(crate) enum Check {
-    Good,
-    Refused { number: u64, place: usize },
-}
+ghost use Rattle.describing.specs.Judging.{FirstBad};
 
 // Whether the text of row `i` lies in its slice and is UTF-8.
 fn text_good(rows: &[u32], texts: &[u8], i: usize) -> bool

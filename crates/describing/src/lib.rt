@@ -1,5 +1,5 @@
 // Writing descriptions (02, P7): the whole 'RDes' chunk of a list, header and padding in, into a lent buffer.
-use crate::judge::Check;
+use chunks::Check;
 ghost use mathlib.Core.Path.{_≡_};
 ghost use lib.ListN.{length};
 ghost use Rattle.describing.specs.Writing.{writingOf, writtenOf};

@@ -134,32 +134,33 @@ module _ (d : List ℕ) where
           go Nothing e =
               sym (clean-all ds (base + 4) count (clean count (omega arith) (answer-nothing (entryKey d 4) count e) g) (descs-length d count 4))
 
-      -- the text of entry t is the first bad one: a repeat up to t comes before it, else it decides
-      module _ (t at g : ℕ) (b : BadAt d count t at g) where
-        pub entries-again : (k p : ℕ) → repeatFault d base (t + 1) ≡ refuse k p → refuse k p ≡ entriesFault [] (base + 4) ds
+      -- the text of entry t is the first bad one, and n entries were asked for a repeat: one up to t comes before it; if there is none, and t is among
+      -- them, the bad text decides
+      module _ (t at g : ℕ) (b : BadAt d count t at g) (n : ℕ) where
+        pub entries-again : (k p : ℕ) → repeatFault d base n ≡ refuse k p → n ≤ t + 1 → refuse k p ≡ entriesFault [] (base + 4) ds
         unfolding repeatFault
-        entries-again k p e = go (firstRepeat (entryKey d 4) (t + 1)) refl e
+        entries-again k p e h = go (firstRepeat (entryKey d 4) n) refl e
           where
-            go : (r : First) → firstRepeat (entryKey d 4) (t + 1) ≡ r → repeatedBy d base r ≡ refuse k p → refuse k p ≡ entriesFault [] (base + 4) ds
+            go : (r : First) → firstRepeat (entryKey d 4) n ≡ r → repeatedBy d base r ≡ refuse k p → refuse k p ≡ entriesFault [] (base + 4) ds
             go (At j) f q =
-                let a = answer-at (entryKey d 4) (t + 1) j f in
-                sym q ∙ sym (fault-38 (t + 1) j (omega (arith, b .inside)) f (good-fewer t j (omega (arith, a .0)) (b .before)))
+                let a = answer-at (entryKey d 4) n j f in
+                sym q ∙ sym (fault-38 n j (omega (arith, b .inside)) f (good-fewer t j (omega (arith, a .0)) (b .before)))
             go Nothing f q = let z : _≡_ {A = ℕ} 0 1 = cc in absurd (omega arith)
 
-        pub entries-bad : repeatFault d base (t + 1) ≡ accept → refuse 39 (base + at + 12 + g) ≡ entriesFault [] (base + 4) ds
+        pub entries-bad : repeatFault d base n ≡ accept → n ≤ count → t < n → refuse 39 (base + at + 12 + g) ≡ entriesFault [] (base + 4) ds
         unfolding repeatFault Apart
-        entries-bad e = go (firstRepeat (entryKey d 4) (t + 1)) refl e
+        entries-bad e h m = go (firstRepeat (entryKey d 4) n) refl e
           where
-            go : (r : First) → firstRepeat (entryKey d 4) (t + 1) ≡ r → repeatedBy d base r ≡ accept
+            go : (r : First) → firstRepeat (entryKey d 4) n ≡ r → repeatedBy d base r ≡ accept
                 → refuse 39 (base + at + 12 + g) ≡ entriesFault [] (base + 4) ds
             go (At j) f q = let z : _≡_ {A = ℕ} 0 1 = cc in absurd (omega arith)
             go Nothing f q =
-                let a = answer-nothing (entryKey d 4) (t + 1) f in
+                let a = answer-nothing (entryKey d 4) n f in
                 let l : t < count = b .inside in
                 let i : t < length ds = rw (descs-length d count 4) l in
                 let x : entry t .text ≡ textAt d at = rw (entry-of d count t 4 none l, b .place) in
-                let c : Clean ds t = clean t (omega arith) (λ i j z m k. a i j z m (omega arith)) (b .before) in
-                let w = fresh-at (t + 1) t (omega arith) a (omega arith) in
+                let c : Clean ds t = clean t (omega arith) (λ i j z k o. a i j z k (omega arith)) (b .before) in
+                let w = fresh-at n t h a m in
                 let v : base + 4 + span (take t ds) + 12 + goodLength (entry t .text) ≡ base + at + 12 + g
                 = rw (x, ← b .measured, b .place) (omega (arith, place-is t (omega arith))) in
                 sym (clean-39 ds (base + 4) t c i w (ap goodText x ∙ b .bad) ∙ ap (refuse 39) v)

@@ -15,15 +15,8 @@ use Rattle.repeats.specs.declared.First.the-variants.{At, Nothing as Apart}
 use Rattle.descriptions.specs.Texts.{rdesVerdict}
 use Rattle.descriptions.specs.declared.Opened.{Opened}
 use Rattle.descriptions.specs.declared.Opened.the-variants.{One, Nothing, Refused}
-use Rattle.descriptions.specs.declared.reading.Check.{Check}
-use Rattle.descriptions.specs.declared.reading.Check.the-variants.{Good, Refused as Stopped}
 use Rattle.descriptions.specs.declared.reading.Texts.{Texts}
 use Rattle.descriptions.specs.declared.reading.Texts.the-variants.{Good as Fine, Bad}
-
--- a check's answer as a verdict
-abbrev pub verdictOf : Check → Verdict
-verdictOf Good = accept
-verdictOf (Stopped k p) = refuse k p
 
 abbrev pub Opens : Opened → (profile : ℕ) → List ℕ → Type 0
 Opens (One x m) profile f = (locatedOf profile f RDes ≡ located.One x m) × (rdesVerdict profile f ≡ accept)

@@ -85,8 +85,8 @@ abbrev pub textStart : Described → ℕ
 textStart (Given u k a m) = a
 textStart (Refused k p) = 0
 
-abbrev pub textAt : Described → ℕ × ℕ → ℕ × ℕ
-textAt r p = (p .0, textStart r + p .1)
+abbrev pub textPlace : Described → ℕ × ℕ → ℕ × ℕ
+textPlace r p = (p .0, textStart r + p .1)
 
 abbrev pub toldText : Told → List ℕ → List ℕ
 toldText (Text a m) f = take m (drop a f)
@@ -96,5 +96,5 @@ abbrev pub toldStart : Told → ℕ
 toldStart (Text a m) = a
 toldStart (Untold k p) = 0
 
-abbrev pub toldAt : Told → ℕ × ℕ → ℕ × ℕ
-toldAt r p = (p .0, toldStart r + p .1)
+abbrev pub toldPlace : Told → ℕ × ℕ → ℕ × ℕ
+toldPlace r p = (p .0, toldStart r + p .1)

@@ -1,12 +1,12 @@
 // Spoken descriptions: the texts of a file's 'RDes' chunk (02, P7), by entry and by the pair of a resource.
+use chunks::Check;
 use locate::Located;
-use reading::Check;
 
 mod reading;
 
 ghost use mathlib.Core.Path.{_≡_};
 ghost use Rattle.blorb.specs.Bytes.{rd32};
-ghost use Rattle.descriptions.specs.Texts.{describedOf, toldOf, textOf, textAt, toldText, toldAt};
+ghost use Rattle.descriptions.specs.Texts.{describedOf, toldOf, textOf, textPlace, toldText, toldPlace};
 ghost use Rattle.descriptions.specs.Opened.{Opens};
 
 // An entry: its pair, and where its text stands in the file; or the refusal.
@@ -111,7 +111,8 @@ pub fn describe(file: &[u8], profile: u32, i: u64) -> Described
 
 // The text that `describe` names: these very bytes, where they lie. It is empty where `describe` refuses.
 pub fn text(file: &[u8], profile: u32, i: u64) -> &[u8]
-    ensures { λ r. ⌜ (now r ≡ textOf (describedOf profile (now (file .entry)) i) (now (file .entry))) × (r .ptr ≡ textAt (describedOf profile (now (file .entry)) i) (file .entry .ptr)) ⌝ }
+    ensures { λ r. ⌜ (now r ≡ textOf (describedOf profile (now (file .entry)) i) (now (file .entry)))
+        × (r .ptr ≡ textPlace (describedOf profile (now (file .entry)) i) (file .entry .ptr)) ⌝ }
 {
     match describe(file, profile, i) {
         Described::Given {
@@ -164,7 +165,8 @@ pub fn tell(file: &[u8], profile: u32, usage: [u8; 4], number: u32) -> Told
 
 // The text that `tell` names: these very bytes, where they lie. It is empty where `tell` refuses.
 pub fn told_text(file: &[u8], profile: u32, usage: [u8; 4], number: u32) -> &[u8]
-    ensures { λ r. ⌜ (now r ≡ toldText (toldOf profile (now (file .entry)) (rd32 usage) number) (now (file .entry))) × (r .ptr ≡ toldAt (toldOf profile (now (file .entry)) (rd32 usage) number) (file .entry .ptr)) ⌝ }
+    ensures { λ r. ⌜ (now r ≡ toldText (toldOf profile (now (file .entry)) (rd32 usage) number) (now (file .entry)))
+        × (r .ptr ≡ toldPlace (toldOf profile (now (file .entry)) (rd32 usage) number) (file .entry .ptr)) ⌝ }
 {
     match tell(file, profile, usage, number) {
         Told::Text { start, length } => {

@@ -1,5 +1,6 @@
 // The entries of an 'RDes' chunk's data: refusals 37 to 39, an entry by its number, and the text of a pair.
 use crate::Told;
+use chunks::Check;
 use repeats::First;
 ghost use mathlib.Core.Path.{_≡_};
 ghost use Prim.Native.Nat.{_+_, _≤_, _<_};
@@ -7,14 +8,10 @@ ghost use mathlib.Core.Bool.{true, _&&_};
 ghost use mathlib.Core.List.{[]};
 ghost use lib.ListN.{length};
 ghost use lib.Dec.{eqb};
+ghost use Rattle.chunks.specs.Walk.{verdictOf};
 ghost use Rattle.rdes.specs.Rdes.{usageAt, numberAt, nextAt, fillsFrom, fills, descsFrom, entriesFault, chunkFault, offsetOf};
 ghost use Rattle.descriptions.specs.Texts.{tellFrom};
-ghost use Rattle.descriptions.specs.Opened.{verdictOf, FirstBad, repeatFault};
-
-pub enum Check {
-    Good,
-    Refused { number: u64, place: usize },
-}
+ghost use Rattle.descriptions.specs.Opened.{FirstBad, repeatFault};
 
 // The first entry with a bad text: its number, where it stands in the data, and the length of the text's longest good beginning.
 pub enum Texts {

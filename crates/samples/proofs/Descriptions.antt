@@ -16,6 +16,7 @@ use Rattle.descriptions.specs.declared.Described.the-variants.{Given, Refused}
 use Rattle.descriptions.specs.declared.Told.the-variants.{Text, Refused as Untold}
 use Rattle.samples.specs.Files.{A, eel}
 use Rattle.samples.specs.TextRows.{TextRow, good, describes, tells, TextRowHolds}
+use Rattle.samples.proofs.Parts.{parts}
 use Rattle.samples.proofs.Table.{computed}
 
 abbrev entry : ℕ → ℕ → List ℕ → List ℕ
@@ -73,6 +74,8 @@ texts =
     describes 0 (set (described 48 []) 7 76 ++ chunkBytes (chunkOf RDes (body (entry Data 7 eel)))) 0 (Refused 37 48) ∷ []))))))))))))))))))))))))
 
 pub text-samples : All TextRowHolds texts
-unfolding computed texts forms begins formLength charLength goodIn goodLength offsetOf fillsFrom fills descsFrom pairAmong rdes.entriesFault rdes.chunkFault ofType locatedOf rdesVerdict describedOf tellFrom toldOf
+unfolding computed texts forms begins formLength charLength goodIn goodLength offsetOf fillsFrom fills descsFrom pairAmong rdes.entriesFault rdes.chunkFault
+    ofType locatedOf rdesVerdict describedOf tellFrom toldOf
 text-samples =
-    (refl, (refl, (refl, (refl, (refl, (refl, (refl, (refl, (refl, (refl, (refl, (refl, (refl, (refl, (refl, (refl, (refl, (refl, (refl, (refl, (refl, (refl, (refl, (refl, (refl, tt)))))))))))))))))))))))))
+    parts TextRowHolds 9 texts (refl, (refl, (refl, (refl, (refl, (refl, (refl, (refl, (refl, tt)))))))))
+    (refl, (refl, (refl, (refl, (refl, (refl, (refl, (refl, (refl, (refl, (refl, (refl, (refl, (refl, (refl, (refl, tt))))))))))))))))

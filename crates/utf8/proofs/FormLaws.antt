@@ -128,10 +128,6 @@ module _ (a b c d : ℕ) where
     below 240 240 a (omega arith),
     below 241 243 a (omega arith),
     below 244 244 a (omega arith),
-    ne-eqb a 224 (λ e. omega arith),
-    ne-eqb a 240 (λ e. omega arith),
-    ne-eqb a 237 (λ e. omega arith),
-    ne-eqb a 244 (λ e. omega arith),
     lt-ltb a 224 (omega arith),
   ) refl
 

@@ -6,7 +6,7 @@ use lib.ListN.{length, drop}
 use lib.Dec.{eqb, ltb}
 use Rattle.utf8.specs.Utf8.{range, inRange, tailByte, goodIn}
 
--- the range of the second byte behind the first byte a
+-- the range of the second byte behind the first byte a from 224 on
 abbrev pub lowSecond : ℕ → ℕ
 lowSecond a = cond (eqb a 224) 160 (cond (eqb a 240) 144 128)
 
@@ -16,9 +16,8 @@ highSecond a = cond (eqb a 237) 159 (cond (eqb a 244) 143 191)
 -- the length of a character by its first byte, from 194 to 244, and those behind it
 abbrev pub byLead : ℕ → ℕ → ℕ → ℕ → ℕ
 byLead a b c d =
-    cond (inRange (range (lowSecond a) (highSecond a)) b)
-    (cond (ltb a 224) 2 (cond (inRange tailByte c) (cond (ltb a 240) 3 (cond (inRange tailByte d) 4 0)) 0))
-    0
+    cond (ltb a 224) (cond (inRange tailByte b) 2 0)
+    (cond (inRange (range (lowSecond a) (highSecond a)) b) (cond (inRange tailByte c) (cond (ltb a 240) 3 (cond (inRange tailByte d) 4 0)) 0) 0)
 
 -- the rows of the table of two, three and four bytes
 abbrev pub twoBytes : ℕ → ℕ → Bool

@@ -1,6 +1,7 @@
 // UTF-8 by RFC 3629: the length of the longest good beginning of a text.
 ghost use mathlib.Core.Path.{_≡_};
 ghost use Prim.Native.Nat.{_<_};
+ghost use mathlib.Core.Bool.{cond};
 ghost use lib.ListN.{length, getD, drop};
 ghost use Rattle.utf8.specs.Utf8.{range, inRange, charLength, goodLength};
 ghost use Rattle.utf8.specs.Leads.{lowSecond, highSecond};
@@ -47,22 +48,27 @@ fn high_second(a: u64) -> u64
     191
 }
 
-// How many bytes the character at `at` has that begins with the byte `a` above 127: 0 where none stands there.
-fn long_char(s: &[u8], at: usize, a: u64) -> usize
-    requires { ⌜ (at < length (now s)) × (a ≡ getD (now s) at 256) × (127 < a) ⌝ }
-    ensures { λ r. ⌜ r ≡ charLength (drop at (now (s .entry))) ⌝ }
+// Whether a character of two bytes begins with the byte `a` at `at`, one from 128 to 223. Any tail byte may be its second.
+fn two_bytes(s: &[u8], at: usize, a: u64) -> bool
+    requires { ⌜ (at < length (now s)) × (a ≡ getD (now s) at 256) × (127 < a) × (a < 224) ⌝ }
+    ensures { λ r. ⌜ charLength (drop at (now (s .entry))) ≡ cond r 2 0 ⌝ }
 {
     if a < 194 {
-        return 0;
+        return false;
     }
+    within(byte_at(s, at + 1), 128, 191)
+}
+
+// How many bytes the character at `at` has that begins with the byte `a` from 224 on: 0 where none stands there.
+fn long_char(s: &[u8], at: usize, a: u64) -> usize
+    requires { ⌜ (at < length (now s)) × (a ≡ getD (now s) at 256) × (223 < a) ⌝ }
+    ensures { λ r. ⌜ r ≡ charLength (drop at (now (s .entry))) ⌝ }
+{
     if 244 < a {
         return 0;
     }
     if !within(byte_at(s, at + 1), low_second(a), high_second(a)) {
         return 0;
-    }
-    if a < 224 {
-        return 2;
     }
     if !within(byte_at(s, at + 2), 128, 191) {
         return 0;
@@ -76,7 +82,8 @@ fn long_char(s: &[u8], at: usize, a: u64) -> usize
     4
 }
 
-// The length of the longest beginning of the text that is UTF-8. Bytes up to 127 are characters by themselves and cost one test each.
+// The length of the longest beginning of the text that is UTF-8. Bytes up to 127 are characters by themselves and cost one test each; characters of two
+// bytes are asked apart, so that where the next one stands is known before their bytes are.
 pub fn good_length(s: &[u8]) -> usize
     ensures { λ r. ⌜ r ≡ goodLength (now (s .entry)) ⌝ }
 {
@@ -85,6 +92,13 @@ pub fn good_length(s: &[u8]) -> usize
         let a = s[at] as u64;
         if a < 128 {
             at += 1;
+            continue;
+        }
+        if a < 224 {
+            if !two_bytes(s, at, a) {
+                return at;
+            }
+            at += 2;
             continue;
         }
         let n = long_char(s, at, a);

@@ -3,9 +3,9 @@ use mathlib.Core.Path.{_≡_, ap, sym, _∙_}
 use denote.Ref.{now}
 use borrow.Author.Needs.{needs}
 use Rattle.blorb.specs.Verdict.{accept}
+use Rattle.chunks.specs.Walk.{verdictOf}
 use Rattle.describing.specs.List.{countOf}
 use Rattle.describing.specs.Writing.{rowsFault}
-use Rattle.describing.specs.Judging.{verdictOf}
 use Rattle.describing.proofs.WriteLaws.{rows-refused, room-refused, told, fits, size-is, list-made}
 use Rattle.describing.proofs.write.Statement.{statement}
 use Rattle.describing.proofs.write.Tie as tie

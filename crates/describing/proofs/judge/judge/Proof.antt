@@ -18,23 +18,24 @@ returns c =
     let a = c .before .before .before .before .before .before .before .before .args in
     let searched = c .before .before .before .before .before in
     let found = sym (c .before .before .before .in-list .ensures) ∙ c .before .i .given .1 in
-    found-38 (now (a .rows)) (now (a .texts)) (small searched) (a .n) _ (searched .first-bad .ensures) (searched .first-bad .result + 1) _
-    (omega (arith, c .before .before .before .before .if1 .taken)) (omega arith) found
+    found-38 (now (a .rows)) (now (a .texts)) (small searched) (a .n) _ (searched .first-bad .ensures) _ _ found
+    (omega (arith, c .before .before .before .before .if1 .taken)) (omega arith)
 
 returns-2 : tie.Need-returns-2
 returns-2 c =
     let a = c .before .before .before .before .before .before .before .args in
     let searched = c .before .before .before .before in
     let found = sym (c .before .before .in-list .ensures) ∙ c .enum-told .given .1 in
-    found-39 (now (a .rows)) (now (a .texts)) (small searched) (a .n) _ (searched .first-bad .ensures) (c .before .before .before .if1 .taken) found
+    found-39 (now (a .rows)) (now (a .texts)) (small searched) (a .n) _ (searched .first-bad .ensures) _ found
+    (c .before .before .before .if1 .taken) (omega arith)
 
 returns-3 : tie.Need-returns-3
 returns-3 c =
     let a = c .before .before .before .before .before .before .before .before .args in
     let searched = c .before .before .before .before .before in
     let found = sym (c .before .before .before .in-list2 .ensures) ∙ c .before .i2 .given .1 in
-    found-38 (now (a .rows)) (now (a .texts)) (small searched) (a .n) _ (searched .first-bad .ensures) (a .n) _
-    (omega arith) (omega (arith, c .before .before .before .before .if1 .left)) found
+    found-38 (now (a .rows)) (now (a .texts)) (small searched) (a .n) _ (searched .first-bad .ensures) _ _ found
+    (omega arith) (omega (arith, c .before .before .before .before .if1 .left))
 
 returns-4 : tie.Need-returns-4
 returns-4 c =

@@ -8,7 +8,8 @@ use borrow.Author.Needs.{needs}
 use Rattle.blorb.specs.Bytes.{Byte}
 use Rattle.blorb.specs.All.{All}
 use Rattle.blorb.proofs.Accept.{bytes-all}
-use Rattle.descriptions.specs.Opened.{verdictOf, FirstBad, BadAt}
+use Rattle.chunks.specs.Walk.{verdictOf}
+use Rattle.descriptions.specs.Opened.{FirstBad, BadAt}
 use Rattle.descriptions.specs.declared.reading.Texts.{Texts}
 use Rattle.descriptions.proofs.EntryAnswers.{bad-within}
 use Rattle.descriptions.proofs.RepeatLaws.{entries-good, entries-again, entries-bad}
@@ -42,8 +43,8 @@ returns : tie.Need-returns
 returns c =
     let e = c .before .before .before .before .before in
     let o = e .before .before .before .before in
-    entries-again (now (o .args .d)) (o .args .count) (o .pre .0) (bytes (e .before .before)) (o .args .base) _ _ _ (bad e) _ _
-    (sym (c .before .before .before .repeated2 .ensures) ∙ ap verdictOf (c .before .number .given .1))
+    let asked = sym (c .before .before .before .repeated2 .ensures) ∙ ap verdictOf (c .before .number .given .1) in
+    entries-again (now (o .args .d)) (o .args .count) (o .pre .0) (bytes (e .before .before)) (o .args .base) _ _ _ (bad e) _ _ _ asked (omega arith)
 
 add-t12 : tie.Need-add-t12
 add-t12 c =
@@ -74,8 +75,9 @@ returns-3 : tie.Need-returns-3
 returns-3 c =
     let e = c .before .before .before .before in
     let o = e .before .before .before .before in
-    entries-bad (now (o .args .d)) (o .args .count) (o .pre .0) (bytes (e .before .before)) (o .args .base) _ _ _ (bad e)
-    (sym (c .before .before .repeated2 .ensures) ∙ ap verdictOf (c .enum-told2 .given .1))
+    let asked = sym (c .before .before .repeated2 .ensures) ∙ ap verdictOf (c .enum-told2 .given .1) in
+    entries-bad (now (o .args .d)) (o .args .count) (o .pre .0) (bytes (e .before .before)) (o .args .base) _ _ _ (bad e) _ asked
+    (omega (arith, bad e .inside)) (omega arith)
 
 pub judge-entries-spec : {M : Type 1} → statement M
 judge-entries-spec =
