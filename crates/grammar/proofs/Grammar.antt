@@ -1,5 +1,5 @@
 -- 02's sentences on group files as a grammar: a file is accepted exactly when its bytes are those of a tree of at most 16 levels that they allow, and the
--- list is that tree's FORMs, each once, by rising start.
+-- list is that tree's FORMs, each once, by rising start. The sentences are turned into the tables by which a file is read (Sentences) and back.
 use Prim.Native.Nat.{ℕ, zero, suc, _+_, _-_, _≤_, _<_}
 use mathlib.Core.Path.{_≡_, refl, ap, sym, _∙_}
 use mathlib.Core.List.{List, [], _∷_, _++_, append-nil}
@@ -26,7 +26,8 @@ use Rattle.groups.specs.Events.{Event, form, fault, members, chunk}
 use Rattle.groups.specs.Files.{Row, firstFault, forms, eventsOf, formsOf, fileFault}
 use Rattle.groups.proofs.Order.{Rising, file-rising}
 use Rattle.members.proofs.FaultLaws.{good-facts}
-use Rattle.grammar.specs.Tree.{Chunks, none, plain, holder, codeOf, bytes, Allowed, Within, ownRow, rowsFrom, Rise, FileOf}
+use Rattle.grammar.specs.Tree.{Chunks, none, plain, holder, codeOf, bytes, Each, Allowed, Within, ownRow, rowsFrom, Rise, FileOf}
+use Rattle.grammar.proofs.Sentences.{Placed, nests-named, placed-said, said-placed}
 use Rattle.grammar.proofs.TreeRead.{shows, shows-fine, shows-forms, kind-of-code, code-small, chunkFor, length-data}
 use Rattle.grammar.proofs.TreeRead.{next-at, filled, chunk-right, holder-events, tree-members}
 use Rattle.grammar.proofs.TreeBack.{Read, nothing, members-back, holder-again, chunk-fine}
@@ -59,17 +60,21 @@ module _ (f : List ℕ) (short : length f ≤ 16777216) (T : FileOf f) where
       let whole = filled f [] top 0 stands (omega arith) small (code-small (T .kind)) in
       omega (arith, n, whole)
 
+  -- its chunks stand where the tables let them
+  placed : Placed Top (treeOf T)
+  unfolding Each
+  placed = said-placed Top (treeOf T) (T .top, tt) (T .allowed)
+
   -- the file shows just the FORMs of its tree
   tree-events : eventsOf f ≡ shows (rowsFrom 0 1 (treeOf T))
-  unfolding rowsFrom
+  unfolding rowsFrom Placed Within
   tree-events =
       let k : Kind = T .kind in
       let b : List ℕ = bytes (T .members) in
-      let holding = nests-holds k (T .top) in
-      let right = chunk-right f [] top 0 stands (omega arith) small (code-small k) k (kind-of-code k holding) Top (T .top) 1 (length f)
+      let right = chunk-right f [] top 0 stands (omega arith) small (code-small k) k (kind-of-code k (placed .1)) Top (placed .2) 1 (length f)
       (omega (arith, to-end)) (λ q. omega (arith, length-data (T .type) b)) (λ q. omega arith) in
-      let own = holder-events f [] k (T .type) 0 1 b stands (omega arith) small holding (T .small) (rowsFrom (0 + 12) (1 + 1) (T .members))
-      (λ w q h. tree-members (T .members) f w (within k) 15 (1 + 1) (0 + 12) q h small (T .allowed) (T .levels) (λ one. omega arith)) in
+      let own = holder-events f [] k (T .type) 0 1 b stands (omega arith) small (placed .1) (placed .0) (rowsFrom (0 + 12) (1 + 1) (T .members))
+      (λ w q h. tree-members (T .members) f w (within k) 15 (1 + 1) (0 + 12) q h small (placed .3) (T .levels .1) (λ one. omega arith)) in
       right ∙ own ∙ ap shows (ap (λ (rs : List Row). ownRow k (T .type) 0 (4 + length b) 1 ++ rs) (sym (append-nil (rowsFrom (0 + 12) (1 + 1) (T .members)))))
 
   -- such a file is accepted
@@ -85,7 +90,7 @@ module _ (f : List ℕ) (short : length f ≤ 16777216) (T : FileOf f) where
 
 -- An accepted file is that of a tree: the one that is read.
 pub accepted-tree : (f : List ℕ) → All Byte f → fileFault f ≡ accept → FileOf f × (length f ≤ 16777216)
-unfolding fileFault chunk bytes
+unfolding fileFault chunk bytes Placed Within
 accepted-tree f all e =
     let a = then-accept _ _ e in
     let b = then-accept _ _ (a .1) in
@@ -99,15 +104,16 @@ accepted-tree f all e =
     let done : length f - nextAt f 0 ≡ 0 = omega (arith, last) in
     let whole = holder-again f all Top 1 (length f) 0 (omega arith) (own .0) holding inner [] (rw done) in
     let zero-less : length f - 0 ≡ length f = omega arith in
-    let all-of : take (length f - 0) (drop 0 f) ≡ f = rw zero-less (take-length f) in (
+    let all-of : take (length f - 0) (drop 0 f) ≡ f = rw zero-less (take-length f) in
+    let small = rd32-small (drop (0 + 8) f) (all-drop Byte (0 + 8) f all) in
+    let placed : Placed Top (holder (kindAt f 0) (rd32 (drop (0 + 8) f)) (inner .tree) none) = (small, holding, good .holds, inner .placed, tt) in (
       record {
         kind = kindAt f 0;
         type = rd32 (drop (0 + 8) f);
         members = inner .tree;
-        top = good .holds;
-        small = rd32-small (drop (0 + 8) f) (all-drop Byte (0 + 8) f all);
-        allowed = inner .allowed;
-        levels = inner .levels;
+        top = nests-named (kindAt f 0) (good .holds);
+        allowed = placed-said Top _ placed .1;
+        levels = ((λ n. omega arith), inner .levels, tt);
         whole = sym whole ∙ all-of;
       },
       short,

@@ -1,4 +1,4 @@
+pub mod Sentences
 pub mod TreeRead
 pub mod TreeBack
 pub mod Grammar
-pub mod Sentences

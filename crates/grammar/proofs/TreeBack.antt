@@ -28,7 +28,8 @@ use Rattle.members.proofs.FaultLaws.{good-facts}
 use Rattle.groups.specs.Events.{Event, form, fault, chunkBy, members, chunk}
 use Rattle.groups.specs.Files.{firstFault}
 use Rattle.groups.proofs.EventLaws.{members-on}
-use Rattle.grammar.specs.Tree.{Chunks, none, plain, holder, codeOf, bytes, Allowed, Within}
+use Rattle.grammar.specs.Tree.{Chunks, none, plain, holder, codeOf, bytes, Within}
+use Rattle.grammar.proofs.Sentences.{Placed, named-nests}
 
 -- no fault in two lists of events is no fault in either
 fine-append : (xs ys : List Event) → firstFault (xs ++ ys) ≡ accept → (firstFault xs ≡ accept) × (firstFault ys ≡ accept)
@@ -143,12 +144,12 @@ module _ (f : List ℕ) (all : All Byte f) (p : Place) (d end at : ℕ) (inside 
 pub record Read (f : List ℕ) (p : Place) (d end at : ℕ) : Type 0 where
   pub tree : Chunks
   pub same : take (end - at) (drop at f) ≡ bytes tree
-  pub allowed : Allowed p tree
+  pub placed : Placed p tree
   pub levels : Within (17 - d) tree
 
 pub nothing : (f : List ℕ) (p : Place) (d end at : ℕ) → end ≤ at → Read f p d end at
-unfolding bytes Allowed Within
-nothing f p d end at h = let z : end - at ≡ 0 = omega arith in record { tree = none; same = rw z; allowed = tt; levels = tt }
+unfolding bytes Placed Within
+nothing f p d end at h = let z : end - at ≡ 0 = omega arith in record { tree = none; same = rw z; placed = tt; levels = tt }
 
 -- a FORM, group or PROP, and the bytes of what stands behind it
 pub holder-again : (f : List ℕ) (all : All Byte f) (p : Place) (d end at : ℕ) (inside : end ≤ length f) (ok : memberFault f p d end at ≡ accept)
@@ -167,28 +168,28 @@ holder-again f all p d end at inside ok q inner b e =
 module _ (f : List ℕ) (all : All Byte f) (p : Place) (d end at : ℕ) (inside : end ≤ length f) (ok : memberFault f p d end at ≡ accept)
     (rest : Read f (behind p (kindAt f at)) d end (nextAt f at)) where
   with-plain : isPlain (kindAt f at) ≡ true → Read f p d end at
-  unfolding bytes Allowed Within
+  unfolding bytes Placed Within
   with-plain q =
       let k : kindAt f at ≡ Plain = plain-is (kindAt f at) q in
       let holds = good-facts f p d end at ok .holds in
-      let behind-it : Allowed (behind p Plain) (rest .tree) = rw k at (rest .allowed) in
+      let behind-it : Placed (behind p Plain) (rest .tree) = rw k at (rest .placed) in
       record {
         tree = plain (rd32 (drop at f)) (take (sizeAt f at) (drop (at + 8) f)) (rest .tree);
         same = front-again f all p d end at inside ok (bytes (rest .tree)) (rest .same);
-        allowed = (rd32-small (drop at f) (all-drop Byte at f all), k, rw k at holds, behind-it);
+        placed = (rd32-small (drop at f) (all-drop Byte at f all), k, rw k at holds, behind-it);
         levels = rest .levels;
       }
 
   with-holder : isPlain (kindAt f at) ≡ false → Read f (within (kindAt f at)) (d + 1) (endAt f at) (at + 12) → Read f p d end at
-  unfolding bytes Allowed Within
+  unfolding bytes Placed Within
   with-holder q inner =
       let good = good-facts f p d end at ok in
       let less : 17 - (d + 1) ≡ 17 - d - 1 = omega arith in
       record {
         tree = holder (kindAt f at) (rd32 (drop (at + 8) f)) (inner .tree) (rest .tree);
         same = holder-again f all p d end at inside ok q inner (bytes (rest .tree)) (rest .same);
-        allowed = (rd32-small (drop (at + 8) f) (all-drop Byte (at + 8) f all), q, good .holds, inner .allowed, rest .allowed);
-        levels = ((λ n. let h = good .shallow n in omega arith), rw less at (inner .levels), rest .levels);
+        placed = (rd32-small (drop (at + 8) f) (all-drop Byte (at + 8) f all), q, good .holds, inner .placed, rest .placed);
+        levels = ((λ n. let h = good .shallow (named-nests (kindAt f at) n) in omega arith), rw less at (inner .levels), rest .levels);
       }
 
   with-chunk : (isPlain (kindAt f at) ≡ false → Read f (within (kindAt f at)) (d + 1) (endAt f at) (at + 12)) → Read f p d end at

@@ -25,7 +25,8 @@ use Rattle.members.proofs.FaultLaws.{fits-plain, fits-four, fault-none}
 use Rattle.groups.specs.Events.{Event, form, chunkBy, members, chunk}
 use Rattle.groups.specs.Files.{Row, firstFault, forms}
 use Rattle.groups.proofs.EventLaws.{members-end, members-on}
-use Rattle.grammar.specs.Tree.{Chunks, none, plain, holder, codeOf, bytes, Allowed, Within, ownRow, rowsFrom}
+use Rattle.grammar.specs.Tree.{Chunks, none, plain, holder, codeOf, bytes, Within, ownRow, rowsFrom}
+use Rattle.grammar.proofs.Sentences.{Placed, nests-named}
 
 -- rows as events: FORMs and no fault
 unfoldable pub shows : List Row → List Event
@@ -239,9 +240,9 @@ module _ (f z : List ℕ) (k : Kind) (t at d : ℕ) (b : List ℕ) (e : drop at 
       own ∙ rw (close, inner) (sym (shows-append (ownRow k t at (4 + length b) d) rows))
 
 pub tree-members : (ms : Chunks) (f y : List ℕ) (p : Place) (n d at : ℕ) → drop at f ≡ bytes ms ++ y → at ≤ length f → length f < W
-    → Allowed p ms → Within n ms → (1 ≤ n → d + n ≤ 17)
+    → Placed p ms → Within n ms → (1 ≤ n → d + n ≤ 17)
     → members f p d (at + length (bytes ms)) at ≡ shows (rowsFrom at d ms)
-unfolding bytes Allowed Within rowsFrom shows
+unfolding bytes Placed Within rowsFrom shows
 tree-members none f y p n d at e l small ok levels inv = members-end f p d (at + 0) at (omega arith)
 tree-members (plain t b rest) f y p n d at e l small ok levels inv =
     let c : Chunk = chunkOf t b in
@@ -266,7 +267,7 @@ tree-members (holder k t ms rest) f y p n d at e l small ok levels inv =
     let code = code-small k in
     let nx = next-at f (bytes rest ++ y) c at (e ∙ append-assoc (chunkBytes c) (bytes rest) y) l small code in
     let first = step f y c (bytes rest) at e l small code k kind p (ok .2) d (λ q. omega (arith, four))
-    (λ q. let one = levels .0 q in omega (arith, inv one)) in
+    (λ q. let one = levels .0 (nests-named k q) in omega (arith, inv one)) in
     let inside = end-in f y c (bytes rest) at e l small code k kind p (ok .2) in
     let sum = end-is f y c (bytes rest) at e l small code k kind p (ok .2) in
     let parted = e ∙ append-assoc (chunkBytes c) (bytes rest) y in

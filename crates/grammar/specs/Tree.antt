@@ -1,9 +1,9 @@
 -- The artists' group files as trees (02, P9): FORMs, groups, PROPs and plain chunks, their bytes, which of them 02's sentences allow, and the
--- list of their FORMs. Nothing here reads a file.
+-- list of their FORMs. Nothing here reads a file, and nothing is taken from the tables by which a file is read but the names of the kinds and their codes.
 use Prim.Native.Nat.{ℕ, suc, _+_, _-_, _≤_, _<_}
 use mathlib.Core.Path.{_≡_}
 use mathlib.Core.List.{List, [], _∷_, _++_}
-use mathlib.Core.Bool.{Bool, true, false}
+use mathlib.Core.Logic.{_⊎_}
 use lib.ListN.{length}
 use Rattle.blorb.specs.Bytes.{be32}
 use Rattle.blorb.specs.Format.{chunkOf, sized, chunkBytes}
@@ -11,8 +11,7 @@ use Rattle.blorb.specs.Sound.{W}
 use Rattle.blorb.specs.Tags.{FORM}
 use Rattle.members.specs.declared.Kind.{Kind}
 use Rattle.members.specs.declared.Kind.the-variants.{Form, List as Lst, Cat, Prop, Plain}
-use Rattle.members.specs.declared.Place.{Place}
-use Rattle.members.specs.Kinds.{LIST, CAT, PROP, kindOf, nests, isPlain, mayHold, behind, within}
+use Rattle.members.specs.Kinds.{LIST, CAT, PROP}
 use Rattle.groups.specs.Files.{Row}
 
 -- A row of chunks, one behind the other: none; a plain chunk with its type and data, and the chunks behind it; a FORM, group or PROP with its
@@ -36,14 +35,12 @@ bytes none = []
 bytes (plain t d rest) = chunkBytes (chunkOf t d) ++ bytes rest
 bytes (holder k t members rest) = chunkBytes (chunkOf (codeOf k) (be32 t ++ bytes members)) ++ bytes rest
 
--- "A FORM holds chunks, FORMs and groups; beside FORMs a group's members may be groups again, and a 'LIST' may begin with 'PROP's .. a PROP holds plain
--- chunks only and stands nowhere else": these chunks may stand at p, each with what it holds. A type is a number of four bytes, and that of a
--- plain chunk is none of the four.
-unfoldable pub Allowed : Place → Chunks → Type 0
-Allowed p none = Unit {0}
-Allowed p (plain t d rest) = (t < W) × (kindOf t ≡ Plain) × (mayHold p Plain ≡ true) × Allowed (behind p Plain) rest
-Allowed p (holder k t members rest) =
-    (t < W) × (isPlain k ≡ false) × (mayHold p k ≡ true) × Allowed (within k) members × Allowed (behind p k) rest
+-- "'LIST' and 'CAT ' groups"
+abbrev pub Group : Kind → Type 0
+Group k = (k ≡ Lst) ⊎ (k ≡ Cat)
+
+abbrev pub FormOrGroup : Kind → Type 0
+FormOrGroup k = (k ≡ Form) ⊎ Group k
 
 -- of each chunk of a row by itself, not of what it holds
 unfoldable pub Each : (Kind → Type 0) → Chunks → Type 0
@@ -55,18 +52,33 @@ Each P (holder k t members rest) = P k × Each P rest
 unfoldable pub PropsFirst : Chunks → Type 0
 PropsFirst none = Unit {0}
 PropsFirst (plain t d rest) = ⊥
-PropsFirst (holder Prop t members rest) = PropsFirst rest
-PropsFirst (holder Form t members rest) = Each (λ k. nests k ≡ true) rest
-PropsFirst (holder Lst t members rest) = Each (λ k. nests k ≡ true) rest
-PropsFirst (holder Cat t members rest) = Each (λ k. nests k ≡ true) rest
-PropsFirst (holder Plain t members rest) = ⊥
+PropsFirst (holder k t members rest) = ((k ≡ Prop) × PropsFirst rest) ⊎ (FormOrGroup k × Each FormOrGroup rest)
+
+-- "A FORM holds chunks, FORMs and groups; beside FORMs a group's members may be groups again, and a 'LIST' may begin with 'PROP's .. a PROP holds plain
+-- chunks only": the members that a chunk of kind k may have. A PROP "stands nowhere else": no other line names it. A plain chunk has data, not members.
+abbrev pub Holds : Kind → Chunks → Type 0
+Holds Form members = Each (λ k. (k ≡ Plain) ⊎ FormOrGroup k) members
+Holds Cat members = Each FormOrGroup members
+Holds Lst members = PropsFirst members
+Holds Prop members = Each (λ k. k ≡ Plain) members
+Holds Plain members = ⊥
+
+-- the type of a plain chunk: a number of four bytes that is none of the four
+abbrev pub PlainType : ℕ → Type 0
+PlainType t = (t < W) × (t ≡ FORM → ⊥) × (t ≡ LIST → ⊥) × (t ≡ CAT → ⊥) × (t ≡ PROP → ⊥)
+
+-- every FORM, group and PROP among these chunks and in them holds what it may
+unfoldable pub Allowed : Chunks → Type 0
+Allowed none = Unit {0}
+Allowed (plain t d rest) = PlainType t × Allowed rest
+Allowed (holder k t members rest) = (t < W) × Holds k members × Allowed members × Allowed rest
 
 -- "a level more in each FORM, group or PROP": no FORM or group stands deeper than n levels from here on. A PROP is a level for what it holds, and may itself
 -- stand below the last: 42 names "a FORM or group".
 unfoldable pub Within : ℕ → Chunks → Type 0
 Within n none = Unit {0}
 Within n (plain t d rest) = Within n rest
-Within n (holder k t members rest) = (nests k ≡ true → 1 ≤ n) × Within (n - 1) members × Within n rest
+Within n (holder k t members rest) = (FormOrGroup k → 1 ≤ n) × Within (n - 1) members × Within n rest
 
 -- "four 32-bit numbers a row: form type, start, length field, depth": of a FORM at this start and depth; no other kind has a row
 abbrev pub ownRow : Kind → ℕ → ℕ → ℕ → ℕ → List Row
@@ -94,8 +106,7 @@ pub record FileOf (f : List ℕ) : Type 0 where
   pub kind : Kind
   pub type : ℕ
   pub members : Chunks
-  pub top : nests kind ≡ true
-  pub small : type < W
-  pub allowed : Allowed (within kind) members
-  pub levels : Within 15 members
+  pub top : FormOrGroup kind
+  pub allowed : Allowed (holder kind type members none)
+  pub levels : Within 16 (holder kind type members none)
   pub whole : bytes (holder kind type members none) ≡ f

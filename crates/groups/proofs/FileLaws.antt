@@ -1,12 +1,11 @@
 -- Laws of a whole file: what the code's walk says of the verdict, the list of FORMs and one FORM.
 use Prim.Native.Nat.{ℕ, zero, suc, _+_, _-_, _*_, _/_, _≤_, _<_}
 use mathlib.Core.Path.{_≡_, refl, ap, sym, _∙_}
-use mathlib.Core.List.{List, [], _∷_, _++_, append-assoc, append-nil}
+use mathlib.Core.List.{List, [], _∷_, _++_}
 use mathlib.Core.Bool.{Bool, true, false}
 use native.Mathlib.Omega.{arith}
 use native.Mathlib.Nat.{zero-add}
-use lib.ListN.{length, getD, take, drop, length-append, length-drop, take-append-drop}
-use lib.Seq.{length-take-le, take-at, drop-at, drop-drop}
+use lib.ListN.{length, getD, drop}
 use lib.Dec.{eqb, leb, ltb}
 use borrow.Author.Tests.{le-leb, lt-leb, eq-eqb, ne-eqb, lt-ltb, le-ltb, ltb-true}
 use Rattle.blorb.specs.Verdict.{Verdict, accept, refuse, _then_, check}
@@ -25,7 +24,7 @@ use Rattle.groups.specs.Events.{Event, form, fault, chunkBy, unlessEnd, 
 use Rattle.members.proofs.FaultLaws.{good-facts}
 use Rattle.groups.specs.Files.{Row, noRow, firstFault, forms, eventsOf, formsOf, fileFault, rowNumbers, rowsNumbers, listOf, listed, pickOf, pickedBy}
 use Rattle.groups.specs.Scan.{store, Outcome, good, bad, outcome, scan, andScan, scanFile, pickOutcome}
-use Rattle.groups.proofs.ScanLaws.{store-before, store-past}
+use Rattle.groups.proofs.StoreLaws.{stores, stores-all, stores-pick}
 
 -- the whole file, by the top chunk's events
 module _ (f : List ℕ) (base : ℕ) (rows : List ℕ) where
@@ -45,11 +44,6 @@ module _ (f : List ℕ) (base : ℕ) (rows : List ℕ) where
     pub file-good : (n : ℕ) (r : List ℕ) → good n r ≡ scan base 0 rows (eventsOf f) → nextAt f 0 ≡ length f → good n r ≡ scanFile base rows f
     unfolding scanFile
     file-good n r e x = rw (le-leb (length f) 16777216 h, ← e, eq-eqb (nextAt f 0) (length f) x)
-
--- rows stored one after another
-unfoldable pub stores : ℕ → ℕ → List ℕ → List Row → List ℕ
-stores base n rows [] = rows
-stores base n rows (r ∷ rs) = stores base (n + 1) (store base n rows (r .type) (r .start) (r .size) (r .depth)) rs
 
 scan-accept : (base n : ℕ) (rows : List ℕ) (es : List Event) → firstFault es ≡ accept
     → scan base n rows es ≡ good (n + length (forms es)) (stores base n rows (forms es))
@@ -116,43 +110,18 @@ module _ (f : List ℕ) (base : ℕ) (rows : List ℕ) where
   pub file-count : (n : ℕ) (r : List ℕ) → good n r ≡ scanFile base rows f → (n ≡ length (formsOf f)) × (r ≡ stores base 0 rows (formsOf f))
   file-count n r e = let q = e ∙ file-accept (file-fine n r e) in (cc, cc)
 
-pub outcome-rows : (s : Scan) (l : List ℕ) (n : ℕ) (r : List ℕ) → outcome s l ≡ good n r → l ≡ r
+outcome-rows : (s : Scan) (l : List ℕ) (n : ℕ) (r : List ℕ) → outcome s l ≡ good n r → l ≡ r
 outcome-rows (Fine k) l n r e = cc
 outcome-rows (Broken k p) l n r e = let z : _≡_ {A = ℕ} 0 1 = cc in absurd (omega arith)
 
+-- a walk that stores from the first row on leaves all rows
+pub rows-from-first : (f : List ℕ) (base : ℕ) (rows : List ℕ) (s : Scan) (l : List ℕ) → outcome s l ≡ scanFile base rows f → fileFault f ≡ accept → base ≡ 0
+    → l ≡ stores 0 0 rows (formsOf f)
+rows-from-first f base rows s l e fine z =
+    let same : scanFile base rows f ≡ good (length (formsOf f)) (stores 0 0 rows (formsOf f)) = rw z (file-accept f 0 rows fine) in
+    outcome-rows s l _ _ (e ∙ same)
+
 -- all rows stored
-put : (n : ℕ) (rows v : List ℕ) → 4 * n + 4 ≤ length rows → length v ≡ 4
-    → (take (4 * (n + 1)) (take (4 * n) rows ++ v ++ drop (4 * n + 4) rows) ≡ take (4 * n) rows ++ v)
-    × ((j : ℕ) → drop (4 * (n + 1) + j) (take (4 * n) rows ++ v ++ drop (4 * n + 4) rows) ≡ drop (4 * (n + 1) + j) rows)
-    × (length (take (4 * n) rows ++ v ++ drop (4 * n + 4) rows) ≡ length rows)
-put n rows v h e =
-    let p : List ℕ = take (4 * n) rows ++ v in
-    let l1 : length (take (4 * n) rows) ≡ 4 * n = length-take-le (4 * n) rows (omega arith) in
-    let l2 : length p ≡ 4 * (n + 1) = length-append (take (4 * n) rows) v ∙ (omega arith) in
-    let q : 4 * n + 4 ≡ 4 * (n + 1) = omega arith in
-    let d : drop (4 * (n + 1)) (p ++ drop (4 * n + 4) rows) ≡ drop (4 * n + 4) rows = drop-at p (drop (4 * n + 4) rows) (4 * (n + 1)) l2 in (
-      take-at p (drop (4 * n + 4) rows) (4 * (n + 1)) l2,
-      (λ j. sym (drop-drop j (4 * (n + 1)) (p ++ drop (4 * n + 4) rows)) ∙ ap (drop j) d ∙ drop-drop j (4 * n + 4) rows ∙ rw q),
-      length-append p (drop (4 * n + 4) rows) ∙ rw (length-drop (4 * n + 4) rows) (omega arith),
-    )
-
-stores-all : (n : ℕ) (rows : List ℕ) (rs : List Row) → 4 * (n + length rs) ≤ length rows
-    → stores 0 n rows rs ≡ take (4 * n) rows ++ rowsNumbers rs ++ drop (4 * (n + length rs)) rows
-unfolding stores rowsNumbers store
-stores-all n rows [] h =
-    let q : n + 0 ≡ n = omega arith in
-    rw (q, append-nil (take (4 * n) rows)) (sym (take-append-drop (4 * n) rows))
-stores-all n rows (r ∷ rs) h =
-    let z : n - 0 ≡ n = omega arith in
-    let l : 4 * n + 4 ≤ length rows = omega arith in
-    let w = put n rows (rowNumbers r) l refl in
-    let m : List ℕ = take (4 * n) rows ++ rowNumbers r ++ drop (4 * n + 4) rows in
-    let lm : 4 * (n + 1 + length rs) ≤ length m = rw (w .2) (omega arith) in
-    let k : 4 * (n + 1 + length rs) ≡ 4 * (n + 1) + 4 * length rs = omega arith in
-    let k2 : 4 * (n + 1) + 4 * length rs ≡ 4 * (n + suc (length rs)) = omega arith in
-    let s : store 0 n rows (r .type) (r .start) (r .size) (r .depth) ≡ m = rw (le-leb 0 n (omega arith), z, le-leb (4 * n + 4) (length rows) l) in
-    rw s (stores-all (n + 1) m rs lm ∙ rw (k, w .0, w .1 (4 * length rs), k2, append-assoc (take (4 * n) rows) (rowNumbers r) (rowsNumbers rs)))
-
 pub all-stored : (f rows : List ℕ) → 4 * length (formsOf f) ≤ length rows
     → stores 0 0 rows (formsOf f) ≡ rowsNumbers (formsOf f) ++ drop (4 * length (formsOf f)) rows
 all-stored f rows h =
@@ -178,42 +147,6 @@ module _ (f rows : List ℕ) where
     listed-fine h =
         let l : 4 * length (formsOf f) ≤ length rows = omega arith in
         (rw (e, le-leb (4 * length (formsOf f)) (length rows) l), all-stored f rows l ∙ rw (e, le-leb (4 * length (formsOf f)) (length rows) l))
-
--- one row stored
-stores-after : (i n : ℕ) (rows : List ℕ) (rs : List Row) → i < n → length rows ≡ 4 → stores i n rows rs ≡ rows
-unfolding stores
-stores-after i n rows [] h l = refl
-stores-after i n rows (r ∷ rs) h l =
-    let p : length rows < 4 * (n - i) + 4 = omega arith in
-    rw (← store-past i n rows (r .type) (r .start) (r .size) (r .depth) (omega arith) p) (stores-after i (n + 1) rows rs (omega arith) l)
-
-put-only : (rows v : List ℕ) → length rows ≡ 4 → take 0 rows ++ v ++ drop 4 rows ≡ v
-put-only rows v l =
-    let d : drop 4 rows ≡ [] = rw (← l) (drop-all rows) in
-    rw d (append-nil v)
-  where
-    drop-all : (x : List ℕ) → drop (length x) x ≡ []
-    drop-all [] = refl
-    drop-all (y ∷ x) = drop-all x
-
-store-here : (n t a m d : ℕ) (rows : List ℕ) → length rows ≡ 4 → store n n rows t a m d ≡ t ∷ (a ∷ (m ∷ (d ∷ [])))
-unfolding store
-store-here n t a m d rows l =
-    let z : n - n ≡ 0 = omega arith in
-    let h : 4 ≤ length rows = omega arith in
-    rw (le-leb n n (omega arith), z, le-leb 4 (length rows) h) (put-only rows (t ∷ (a ∷ (m ∷ (d ∷ [])))) l)
-
-stores-pick : (j n : ℕ) (rows : List ℕ) (rs : List Row) → j < length rs → length rows ≡ 4 → stores (n + j) n rows rs ≡ rowNumbers (getD rs j noRow)
-unfolding stores
-stores-pick j n rows [] h l = absurd (omega arith)
-stores-pick zero n rows (r ∷ rs) h l =
-    let q : n + 0 ≡ n = omega arith in
-    let s : store n n rows (r .type) (r .start) (r .size) (r .depth) ≡ rowNumbers r = store-here n (r .type) (r .start) (r .size) (r .depth) rows l in
-    rw (q, s) (stores-after n (n + 1) (rowNumbers r) rs (omega arith) refl)
-stores-pick (suc j) n rows (r ∷ rs) h l =
-    let b : n < n + suc j = omega arith in
-    let q : n + suc j ≡ n + 1 + j = omega arith in
-    rw (← store-before (n + suc j) n rows (r .type) (r .start) (r .size) (r .depth) b, q) (stores-pick j (n + 1) rows rs (omega arith) l)
 
 -- a pick's ways out
 module _ (f : List ℕ) (i : ℕ) where

@@ -4,10 +4,8 @@ use mathlib.Core.Path.{_≡_, refl, ap, sym, _∙_}
 use mathlib.Core.List.{List, [], _∷_, _++_}
 use mathlib.Core.Bool.{Bool, true, false}
 use native.Mathlib.Omega.{arith}
-use lib.ListN.{length, drop, set}
-use lib.Seq.{sets-eq}
+use lib.ListN.{length, drop}
 use lib.Dec.{leb}
-use borrow.Author.Tests.{le-leb, lt-leb}
 use Rattle.blorb.specs.Bytes.{rd32}
 use Rattle.blorb.specs.Verdict.{Verdict, accept, refuse}
 use Rattle.members.specs.declared.Kind.{Kind}
@@ -15,7 +13,9 @@ use Rattle.members.specs.declared.Kind.the-variants.{Form, List as Lst, Cat, Pr
 use Rattle.members.specs.declared.Place.{Place}
 use Rattle.members.specs.declared.Place.the-variants.{InForm, ListHead, InGroup, InProp}
 use Rattle.groups.specs.declared.readers.Member.the-variants.{Refused as Stopped, Form as OfForm, Group as OfGroup, Passed}
+use Rattle.members.specs.declared.Quick.the-variants.{Plain as QuickPlain, Form as QuickForm}
 use Rattle.members.specs.Kinds.{nests, isPlain, behind}
+use Rattle.members.specs.Quick.{QuickTells}
 use Rattle.members.specs.Faults.{kindAt, sizeAt, endAt, nextAt, memberFault}
 use Rattle.groups.specs.Events.{Event, form, fault, chunkBy, unlessEnd, membersGo, members, chunk}
 use Rattle.groups.specs.Files.{firstFault}
@@ -209,6 +209,16 @@ module _ (f : List ℕ) (p : Place) (d end at base n : ℕ) (rows : List ℕ) wh
       let g = by-group f d at base n _ _ rows _ (λ q e a. members f q (d + 1) e a) _ propped (memberFault f p d end at) (kindAt f at) q c x y e in
       (g .0, opens c x y (g .1) (g .2) (g .3) (g .4) (g .5) (g .6))
 
+-- what a quick look tells is the member
+module _ (f : List ℕ) (p : Place) (d end at : ℕ) where
+  pub quick-passed : (next : ℕ) → QuickTells f p d end at (QuickPlain next) → Passed next (behind p Plain) ≡ memberAt f p d end at
+  unfolding memberAt
+  quick-passed next told = rw (told .0, told .1, told .2)
+
+  pub quick-form : (close next : ℕ) → QuickTells f p d end at (QuickForm close next) → OfForm close next (behind p Form) ≡ memberAt f p d end at
+  unfolding memberAt
+  quick-form close next told = rw (told .0, told .1, told .2, told .3)
+
 module _ (f : List ℕ) (d end at : ℕ) where
   pub prop-end : end ≤ at → accept ≡ firstFault (members f InProp d end at)
   unfolding firstFault
@@ -231,24 +241,3 @@ module _ (f : List ℕ) (d end at : ℕ) where
     prop-next e =
         let g = good-facts f InProp d end at e in
         sym (ap firstFault (members-on f InProp d end at h l) ∙ rw (e, plain-chunk (kindAt f at) _ (g .holds)))
-
--- a row of the slice
-module _ (base n : ℕ) (rows : List ℕ) (t a m d : ℕ) where
-  pub store-before : n < base → rows ≡ store base n rows t a m d
-  unfolding store
-  store-before h = rw (lt-leb base n h)
-
-  module _ (h : base ≤ n) where
-    pub store-past : length rows < 4 * (n - base) + 4 → rows ≡ store base n rows t a m d
-    unfolding store
-    store-past l = rw (le-leb base n h, lt-leb (4 * (n - base) + 4) (length rows) l)
-
-    pub store-put : 4 * (n - base) + 4 ≤ length rows
-        → set (set (set (set rows (4 * (n - base)) t) (4 * (n - base) + 1) a) (4 * (n - base) + 2) m) (4 * (n - base) + 3) d ≡ store base n rows t a m d
-    unfolding store
-    store-put l =
-        let i : ℕ = 4 * (n - base) in
-        let p1 : i + 1 ≡ suc i = omega arith in
-        let p2 : i + 2 ≡ suc (suc i) = omega arith in
-        let p3 : i + 3 ≡ suc (suc (suc i)) = omega arith in
-        rw (le-leb base n h, le-leb (4 * (n - base) + 4) (length rows) l, p1, p2, p3) (sets-eq (t ∷ a ∷ m ∷ d ∷ []) rows i l)

@@ -75,7 +75,7 @@ module _ (T : Turn) where
 
   -- The member's own reader, with a level less, has answered o and left the slice r: that is the scan of the member alone,
   module _ (o : Scan) (r : List ℕ) where
-    pub of-form : (c x : ℕ) (y : Place) → judged T ≡ OfForm c x y
+    of-form : (c x : ℕ) (y : Place) → judged T ≡ OfForm c x y
         → outcome o r ≡ scan (T .base) (T .n) (T .rows) (formShows (T .f) (16 - (T .left - 1)) (17 - (T .left - 1)) c (T .at))
         → outcome o r ≡ ofMember T
     unfolding scan
@@ -85,7 +85,7 @@ module _ (T : Turn) where
         let deeper : 17 - (T .left - 1) ≡ 17 - T .left + 1 = omega (arith, g .1 .shallow, T .low) in
         e ∙ rw (own, deeper, g .1 .closes) (g .0)
 
-    pub of-group : (q : Place) (c x : ℕ) (y : Place) → judged T ≡ OfGroup q c x y
+    of-group : (q : Place) (c x : ℕ) (y : Place) → judged T ≡ OfGroup q c x y
         → outcome o r ≡ scan (T .base) (T .n) (T .rows) (members (T .f) q (17 - (T .left - 1)) c (T .at + 12))
         → outcome o r ≡ ofMember T
     of-group q c x y v e =
@@ -94,16 +94,39 @@ module _ (T : Turn) where
         e ∙ rw (deeper, g .1 .closes) (g .0)
 
     -- so the walk stops where it stopped, and goes on behind the member where it didn't
-    pub inner-stops : outcome o r ≡ ofMember T → (j q : ℕ) → o ≡ Broken j q → outcome o r ≡ fromHere T
+    inner-stops : outcome o r ≡ ofMember T → (j q : ℕ) → o ≡ Broken j q → outcome o r ≡ fromHere T
     inner-stops e j q w =
         rw w (turn-bad (T .f) (T .p) (17 - T .left) (T .end) (T .at) (T .base) (T .n) (T .rows) (T .on) (T .inside) j q r (rw w at e))
 
-    pub inner-goes : outcome o r ≡ ofMember T → (c x : ℕ) (y : Place) → Opens (T .f) (T .p) (17 - T .left) (T .end) (T .at) c x y
+    inner-goes : outcome o r ≡ ofMember T → (c x : ℕ) (y : Place) → Opens (T .f) (T .p) (17 - T .left) (T .end) (T .at) c x y
         → (k : ℕ) → o ≡ Fine k → Next T k r x y
     inner-goes e c x y g k w = next-by k r x y (rw w at e) (g .nexts) (g .afters)
+
+    -- a FORM, read by its own reader
+    module _ (c x : ℕ) (y : Place) (v : judged T ≡ OfForm c x y)
+        (e : outcome o r ≡ scan (T .base) (T .n) (T .rows) (formShows (T .f) (16 - (T .left - 1)) (17 - (T .left - 1)) c (T .at))) where
+      pub form-stops : (j q : ℕ) → o ≡ Broken j q → outcome o r ≡ fromHere T
+      form-stops j q w = inner-stops (of-form c x y v e) j q w
+
+      pub form-goes : (k : ℕ) → o ≡ Fine k → Next T k r x y
+      form-goes k w = inner-goes (of-form c x y v e) c x y (opens-form c x y v) k w
+
+    -- a group
+    module _ (p : Place) (c x : ℕ) (y : Place) (v : judged T ≡ OfGroup p c x y)
+        (e : outcome o r ≡ scan (T .base) (T .n) (T .rows) (members (T .f) p (17 - (T .left - 1)) c (T .at + 12))) where
+      pub group-stops : (j q : ℕ) → o ≡ Broken j q → outcome o r ≡ fromHere T
+      group-stops j q w = inner-stops (of-group p c x y v e) j q w
+
+      pub group-goes : (k : ℕ) → o ≡ Fine k → Next T k r x y
+      group-goes k w = inner-goes (of-group p c x y v e) c x y (opens-group p c x y v) k w
 
 -- a FORM's row is stored before its members are read
 pub form-first : (f : List ℕ) (base n own inner end at : ℕ) (rows r : List ℕ) → r ≡ store base n rows (rd32 (drop (at + 8) f)) at (sizeAt f at) own
     → scan base (n + 1) r (members f InForm inner end (at + 12)) ≡ scan base n rows (formShows f own inner end at)
 unfolding scan
 form-first f base n own inner end at rows r e = rw e
+
+-- the top FORM has depth 1, and its members have 2
+pub top-form : (f : List ℕ) (base own inner end : ℕ) (rows : List ℕ) {o : Outcome} → o ≡ scan base 0 rows (formShows f own inner end 0) → own ≡ 1 → inner ≡ 2
+    → o ≡ scan base (0 + 1) (store base 0 rows (rd32 (drop (0 + 8) f)) 0 (sizeAt f 0) 1) (members f InForm 2 end (0 + 12))
+top-form f base own inner end rows e p q = e ∙ rw (p, q) (sym (form-first f base 0 1 2 end 0 rows _ refl))

@@ -92,3 +92,12 @@ pickOf f i = pickedBy (fileFault f) (formsOf f) i
 abbrev pub partOf : Picking → List ℕ → List ℕ
 partOf (Picked a n) f = take n (drop a f)
 partOf (Missing k p) f = []
+
+-- where that part begins in the caller's slice; the empty part of a refused call at its first byte
+abbrev pub partStart : Picking → ℕ
+partStart (Picked a n) = a
+partStart (Missing k p) = 0
+
+-- where it lies in memory, for a slice that lies at p: a block and an offset in it
+abbrev pub partAt : Picking → ℕ × ℕ → ℕ × ℕ
+partAt k p = (p .0, partStart k + p .1)

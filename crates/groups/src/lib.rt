@@ -3,7 +3,7 @@ mod readers;
 
 ghost use mathlib.Core.Path.{_≡_};
 ghost use lib.ListN.{length};
-ghost use Rattle.groups.specs.Files.{listOf, listed, pickOf, partOf};
+ghost use Rattle.groups.specs.Files.{listOf, listed, pickOf, partOf, partAt};
 
 pub enum Listing {
     Listed(usize),
@@ -63,9 +63,10 @@ pub fn pick(file: &[u8], i: usize) -> Picking
     }
 }
 
-// FORM i's bytes; empty where pick refuses.
+// FORM i's bytes, where they lie in `file`; empty, at its first byte, where pick refuses.
 pub fn picked(file: &[u8], i: usize) -> &[u8]
-    ensures { λ r. ⌜ now r ≡ partOf (pickOf (now (file .entry)) i) (now (file .entry)) ⌝ }
+    ensures { λ r. ⌜ (now r ≡ partOf (pickOf (now (file .entry)) i) (now (file .entry)))
+        × (r .ptr ≡ partAt (pickOf (now (file .entry)) i) (file .entry .ptr)) ⌝ }
 {
     match pick(file, i) {
         Picking::Picked { start, length } => {

@@ -3,6 +3,7 @@ use crate::Scan;
 use chunks::Check;
 use members::Kind;
 use members::Place;
+use members::Quick;
 use members::faults;
 use members::kinds;
 ghost use mathlib.Core.Path.{_≡_};
@@ -106,6 +107,25 @@ fn member_at(s: &[u8], place: Place, depth: usize, end: usize, at: usize) -> Mem
     }
 }
 
+// The member at `at`, by a quick look where that tells enough.
+fn next_member(s: &[u8], place: Place, depth: usize, end: usize, at: usize) -> Member
+    requires { ⌜ (at ≤ end) × (end ≤ length (now s)) × (length (now s) ≤ 16777216) × (depth ≤ 17) ⌝ }
+    ensures { λ r. ⌜ r ≡ memberAt (now (s .entry)) place depth end at ⌝ }
+{
+    match faults::quick_look(s, place, depth, end, at) {
+        Quick::Plain(next) => Member::Passed(next, kinds::behind_group(place, Kind::Plain)),
+        Quick::Form(close, next) => {
+            Member::Form(close, next, kinds::behind_group(place, Kind::Form))
+        }
+        Quick::Unsure => match member_at(s, place, depth, end, at) {
+            Member::Refused { number, place } => Member::Refused { number, place },
+            Member::Form(close, next, after) => Member::Form(close, next, after),
+            Member::Group(inside, close, next, after) => Member::Group(inside, close, next, after),
+            Member::Passed(next, after) => Member::Passed(next, after),
+        },
+    }
+}
+
 // The FORM at `at`, whose data ends at `end`: its row, then its members. left: how many levels may still begin in it.
 fn form_in(
     s: &[u8],
@@ -124,7 +144,7 @@ fn form_in(
     let mut k = n + 1;
     let depth = 17 - left;
     while i < end {
-        match member_at(s, Place::InForm, depth, end, i) {
+        match next_member(s, Place::InForm, depth, end, i) {
             Member::Refused { number, place } => {
                 return Scan::Refused { number, place };
             }
@@ -171,7 +191,7 @@ fn group_in(
     let mut p = place;
     let depth = 17 - left;
     while i < end {
-        match member_at(s, p, depth, end, i) {
+        match next_member(s, p, depth, end, i) {
             Member::Refused { number, place } => {
                 return Scan::Refused { number, place };
             }

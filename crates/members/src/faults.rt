@@ -1,6 +1,7 @@
 // The header of a member, and its refusals: 41 to 44.
 use crate::Kind;
 use crate::Place;
+use crate::Quick;
 use crate::kinds;
 use chunks::Check;
 ghost use mathlib.Core.Path.{_≡_};
@@ -9,6 +10,7 @@ ghost use lib.ListN.{length};
 ghost use Rattle.chunks.specs.declared.Check.the-variants.{Refused};
 ghost use Rattle.chunks.specs.Walk.{verdictOf};
 ghost use Rattle.members.specs.Faults.{kindAt, sizeAt, endAt, nextAt, fits, padded, memberFault};
+ghost use Rattle.members.specs.Quick.{QuickTells};
 
 pub fn kind_at(s: &[u8], at: usize) -> Kind
     requires { ⌜ at + 8 ≤ length (now s) ⌝ }
@@ -101,4 +103,43 @@ pub fn member_fault(s: &[u8], place: Place, depth: usize, end: usize, at: usize)
         return refused(44, at);
     }
     Check::Good
+}
+
+// Most members are FORMs and, in a FORM, plain chunks: those without a fault are found with one look at the header.
+pub fn quick_look(s: &[u8], place: Place, depth: usize, end: usize, at: usize) -> Quick
+    requires { ⌜ (at ≤ end) × (end ≤ length (now s)) ⌝ }
+    ensures { λ r. ⌜ QuickTells (now (s .entry)) place depth end at r ⌝ }
+{
+    if end - at < 8 {
+        return Quick::Unsure;
+    }
+    let m = size_at(s, at);
+    let close = at + 8 + m;
+    if end < close {
+        return Quick::Unsure;
+    }
+    if !pad_ok(s, end, at) {
+        return Quick::Unsure;
+    }
+    let next = close + m % 2;
+    match kind_at(s, at) {
+        Kind::Plain => {
+            if !kinds::may_hold(place, Kind::Plain) {
+                return Quick::Unsure;
+            }
+            Quick::Plain(next)
+        }
+        Kind::Form => {
+            if (m < 4) | (16 < depth) {
+                return Quick::Unsure;
+            }
+            if !kinds::may_hold(place, Kind::Form) {
+                return Quick::Unsure;
+            }
+            Quick::Form(close, next)
+        }
+        Kind::List => Quick::Unsure,
+        Kind::Cat => Quick::Unsure,
+        Kind::Prop => Quick::Unsure,
+    }
 }

@@ -19,3 +19,10 @@ pub enum Place {
     InGroup,
     InProp,
 }
+
+// What a quick look at a member tells: a plain chunk or a FORM without a fault, by where its data ends and where the next member begins, or nothing.
+pub enum Quick {
+    Plain(usize),
+    Form(usize, usize),
+    Unsure,
+}

@@ -1,9 +1,10 @@
 -- The first walk has no room for a row, so it judges and counts; the second stores all rows, for which there is room.
+use native.Mathlib.Omega.{arith}
 use mathlib.Core.Path.{_≡_, ap, sym, _∙_}
 use denote.Ref.{now}
 use Rattle.groups.specs.declared.Scan.{Scan}
 use Rattle.groups.specs.Scan.{outcome, scanFile, good, bad}
-use Rattle.groups.proofs.FileLaws.{file-fine, file-count, file-accept, file-refused, outcome-rows, listed-refused, listed-small, listed-fine}
+use Rattle.groups.proofs.FileLaws.{file-fine, file-count, file-refused, rows-from-first, listed-refused, listed-small, listed-fine}
 use mathlib.Core.List.{[], _∷_}
 use borrow.Author.Needs.{needs}
 use Rattle.groups.proofs.list.Statement.{statement}
@@ -32,7 +33,7 @@ returns-2 c =
     let f = file-fine (now (a .file)) 0 (0 ∷ []) _ _ e in
     let h = c .before .before .before .before .if1 .left in
     let l = listed-fine (now (a .file)) (now (a .rows)) f (rw (k .0) at h) in
-    (rw (k .0) (l .0), outcome-rows (w .result) (w .last .1 .0) _ _ (w .ensures ∙ file-accept (now (a .file)) 0 (now (a .rows)) f) ∙ l .1)
+    (rw (k .0) (l .0), rows-from-first (now (a .file)) _ (now (a .rows)) (w .result) (w .last .1 .0) (w .ensures) f (omega arith) ∙ l .1)
 
 returns-3 : tie.Need-returns-3
 returns-3 c =

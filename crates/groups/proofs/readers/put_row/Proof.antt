@@ -3,7 +3,7 @@ use native.Mathlib.Omega.{arith}
 use Prim.Native.Nat.{_+_, _*_, _-_, _<_, _≤_}
 use lib.ListN.{length, length-set}
 use denote.Ref.{now}
-use Rattle.groups.proofs.ScanLaws.{store-before, store-past, store-put}
+use Rattle.groups.proofs.StoreLaws.{store-before, store-past, store-put}
 use borrow.Author.Needs.{needs}
 use Rattle.groups.proofs.readers.put_row.Statement.{statement}
 use Rattle.groups.proofs.readers.put_row.Tie as tie

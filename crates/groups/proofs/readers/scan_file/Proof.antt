@@ -1,8 +1,10 @@
 -- Length, top and what is behind it, in this order; the rows are the top's.
+use native.Mathlib.Omega.{arith}
 use mathlib.Core.Path.{_≡_, ap, sym, _∙_}
 use lib.ListN.{length}
 use denote.Ref.{now}
 use Rattle.members.specs.declared.Place.the-variants.{Top}
+use Rattle.members.specs.Faults.{nextAt}
 use Rattle.groups.specs.declared.Scan.{Scan}
 use Rattle.groups.specs.Files.{eventsOf}
 use Rattle.groups.specs.Scan.{outcome, scan, good, bad}
@@ -34,7 +36,8 @@ returns-2 c =
     = sym (ap (λ (x : Scan). outcome x (m .last .1 .0)) (v .1)) ∙ m .ensures in
     let q = c .before .next-at .ensures in
     let short = c .before .before .before .before .before .before .before .before .before .if1 .left in
-    rw q (file-tail (now (a .s)) (a .base) (now (a .rows)) short _ _ e (λ z. c .if2 .taken (q ∙ z)))
+    let more : nextAt (now (a .s)) 0 ≡ length (now (a .s)) → ⊥ = λ z. omega (arith, q, c .if2 .taken) in
+    rw q (file-tail (now (a .s)) (a .base) (now (a .rows)) short _ _ e more)
 
 returns-3 : tie.Need-returns-3
 returns-3 c =
@@ -44,7 +47,8 @@ returns-3 c =
     let e : good (v .0 .0) (m .last .1 .0) ≡ scan (a .base) 0 (now (a .rows)) (eventsOf (now (a .s)))
     = sym (ap (λ (x : Scan). outcome x (m .last .1 .0)) (v .1)) ∙ m .ensures in
     let short = c .before .before .before .before .before .before .before .before .before .if1 .left in
-    file-good (now (a .s)) (a .base) (now (a .rows)) short _ _ e (sym (c .before .next-at .ensures) ∙ c .if2 .left)
+    let ends : nextAt (now (a .s)) 0 ≡ length (now (a .s)) = omega (arith, c .before .next-at .ensures, c .if2 .left) in
+    file-good (now (a .s)) (a .base) (now (a .rows)) short _ _ e ends
 
 returns-4 : tie.Need-returns-4
 returns-4 c =

@@ -8,7 +8,7 @@ use Rattle.members.specs.declared.Place.the-variants.{Top}
 use Rattle.groups.specs.declared.readers.Member.the-variants.{Refused as Stopped, Form as OfForm, Group as OfGroup, Passed}
 use Rattle.groups.specs.Scan.{memberAt}
 use Rattle.groups.proofs.ScanLaws.{member-bad, member-passed, member-form, member-group}
-use Rattle.groups.proofs.TurnLaws.{form-first}
+use Rattle.groups.proofs.TurnLaws.{top-form}
 use Rattle.groups.proofs.readers.top_in.Statement.{statement}
 use Rattle.groups.proofs.readers.top_in.Tie as tie
 
@@ -53,8 +53,8 @@ returns-3 c =
     let told : memberAt (now (a .s)) Top 1 (length (now (a .s))) 0 ≡ OfForm (v .0 .0) (v .0 .1 .0) (v .0 .1 .1 .0)
     = sym (c .before .before .before .before .before .before .before .member-at .ensures) ∙ v .1 in
     let g = member-form (now (a .s)) Top 1 (length (now (a .s))) 0 (a .base) 0 (now (a .rows)) _ _ _ told in
-    let row = form-first (now (a .s)) (a .base) 0 1 2 (v .0 .0) 0 (now (a .rows)) _ refl in
-    c .before .before .form-in .ensures ∙ sym row ∙ rw (g .1 .closes) (g .0)
+    let m = c .before .before .form-in in
+    top-form (now (a .s)) (a .base) _ _ _ (now (a .rows)) (m .ensures) (omega arith) (omega arith) ∙ rw (g .1 .closes) (g .0)
 
 returns-4 : tie.Need-returns-4
 returns-4 c =
