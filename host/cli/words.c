@@ -125,9 +125,15 @@ static const char *remedy_for(uint64_t number)
     return NULL;
 }
 
+/* The library's sentence. Its 22 is one for resources, texts and FORMs; of the other two say_not_there tells. */
+static const char *sentence_for(uint64_t number)
+{
+    return number == BLORB_NOT_THERE ? "there is no such resource" : blorb_sentence(number);
+}
+
 static int say_sentence(uint64_t number, const char *about, const char *advice)
 {
-    fprintf(stderr, "%s%s", blorb_sentence(number), about[0] != '\0' ? ": " : "");
+    fprintf(stderr, "%s%s", sentence_for(number), about[0] != '\0' ? ": " : "");
     say_safely(about);
     fputs(".\n", stderr);
     say_advice(advice != NULL ? advice : remedy_for(number));

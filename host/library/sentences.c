@@ -60,7 +60,7 @@ const char *blorb_sentence(uint64_t refusal)
     case BLORB_RECORD:
         return "the last edit cannot be undone";
     case BLORB_NOT_THERE:
-        return "there is no such resource";
+        return "what was asked for is not there";
     case BLORB_SHARED:
         return "another resource shares the chunk, and would change too";
     case BLORB_FILE_ROOM:

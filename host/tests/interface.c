@@ -1921,6 +1921,7 @@ static void test_sentences(void)
         next += (size_t)listed;
     }
     expect(next == KNOWN, "every number of the header has a sentence");
+    expect(strstr(blorb_sentence(BLORB_NOT_THERE), "resource") == NULL, "22 is given for rows, texts and FORMs too");
     for (size_t i = 0; i < KNOWN; i++)
         for (size_t k = 0; k < i; k++)
             expect(strcmp(blorb_sentence(known[i]), blorb_sentence(known[k])) != 0, "no sentence stands for two numbers");

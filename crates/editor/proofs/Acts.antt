@@ -1,7 +1,7 @@
 -- A run of the code (01, Whole runs): "A run is any list of adds, replacements, removals and undos, refused ones included"; "links count
 -- as edits" (02, P8).
--- Each call holds what the contract of that very function tells its caller: `Learnt` is what the checker makes of the function's `ensures` in
--- src/lib.rt, at its arguments, its answer and what it left. So a contract that says less makes another type here, and DemandThree fails.
+-- Each call holds what the contract of that very function tells its caller: `Learnt` is what the checker makes of the function's `ensures`, at its
+-- arguments, its answer and what it left. So a contract that says less makes another type here, and DemandThree fails.
 use mathlib.Core.Path.{_≡_}
 use Prim.Native.Nat.{ℕ}
 use mathlib.Core.List.{List, [], _∷_}

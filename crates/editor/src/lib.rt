@@ -252,7 +252,8 @@ pub fn add(
     kind: [u8; 4],
     d: &[u8],
 ) -> Answer
-    ensures { λ r. ⌜ Called profile (state (now (buf .entry)) len (now (jrn .entry)) used) (edit (add (rd32 usage) number (rd32 kind) (now (d .entry)))) r (now (buf .exit)) (now (jrn .exit)) ⌝ }
+    ensures { λ r. ⌜ Called profile (state (now (buf .entry)) len (now (jrn .entry)) used) (edit (add (rd32 usage) number (rd32 kind)
+        (now (d .entry)))) r (now (buf .exit)) (now (jrn .exit)) ⌝ }
 {
     let u = code_of(usage);
     let t = code_of(kind);

@@ -6,7 +6,6 @@ use groups::Listing;
 use groups::Picking;
 use libc::STDIN_FILENO;
 ghost use mathlib.Core.Path.{_≡_};
-ghost use Prim.Native.Nat.{_<_};
 ghost use lib.ListN.{length};
 
 fn room() -> [u8; 1048576]
@@ -21,28 +20,13 @@ fn slice_room() -> [u32; 16384]
     [7; 16384]
 }
 
-fn wide(x: u32) -> u64
-    ensures { λ r. ⌜ r < 4294967296 ⌝ }
-{
-    x as u64
-}
-
-// A sum of the numbers that depends on their order.
-fn checksum(t: &[u32]) -> u64 {
-    let mut sum = 0;
-    for i in 0..t.len() {
-        sum = sum % 16777213 * 257 + wide(t[i]) + 1;
-    }
-    sum
-}
-
 // The answer of the list, and what is in the slice then.
 fn say_list(file: &[u8], rows: &mut [u32]) {
     match groups::list(file, rows) {
         Listing::Listed(n) => sampling::labelled(b"rows ", n as u64),
         Listing::Refused { number, place } => sampling::refused(number, place),
     }
-    sampling::labelled(b" sum ", checksum(rows));
+    sampling::labelled(b" sum ", sampling::checksum_of_numbers(rows));
     sampling::text(b"\n");
 }
 

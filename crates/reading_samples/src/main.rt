@@ -9,6 +9,7 @@ use reader::Asked;
 use reader::Looked;
 use reader::Reading;
 use sampling::checksum;
+use sampling::four_bytes;
 use sampling::labelled;
 use sampling::refused;
 use sampling::text;
@@ -23,14 +24,7 @@ fn room() -> [u8; 1048576]
 
 // The four bytes of a usage or a type.
 fn tag(code: u64) {
-    text(
-        &[
-            (code / 16777216 % 256) as u8,
-            (code / 65536 % 256) as u8,
-            (code / 256 % 256) as u8,
-            (code % 256) as u8,
-        ],
-    );
+    text(&four_bytes(code));
 }
 
 fn verdict(file: &[u8], profile: u32) {

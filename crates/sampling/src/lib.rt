@@ -1,6 +1,9 @@
 // What the programs that run samples share: what they print, and the numbers that stand packed in their input.
 use libc::STDOUT_FILENO;
+ghost use mathlib.Core.Path.{_≡_};
 ghost use Prim.Native.Nat.{_<_, _^_};
+ghost use Rattle.blorb.specs.Bytes.{be32};
+ghost use Rattle.sampling.specs.Samples.{checksumOf, loaded};
 
 pub fn text(s: &[u8]) {
     io::write_all(STDOUT_FILENO, s);
@@ -22,7 +25,13 @@ pub fn refused(k: u64, place: usize) {
 }
 
 fn wide(x: u8) -> u64
-    ensures { λ r. ⌜ r < 256 ⌝ }
+    ensures { λ r. ⌜ (r ≡ x) × (r < 256) ⌝ }
+{
+    x as u64
+}
+
+fn wide32(x: u32) -> u64
+    ensures { λ r. ⌜ (r ≡ x) × (r < 2 ^ 32) ⌝ }
 {
     x as u64
 }
@@ -41,12 +50,37 @@ pub fn hex(s: &[u8]) {
 }
 
 // A sum of the bytes that depends on their order.
-pub fn checksum(s: &[u8]) -> u64 {
+pub fn checksum(s: &[u8]) -> u64
+    ensures { λ r. ⌜ r ≡ checksumOf 4294967291 (now (s .entry)) ⌝ }
+{
     let mut sum = 0;
     for i in 0..s.len() {
         sum = sum % 4294967291 * 257 + wide(s[i]) + 1;
     }
     sum
+}
+
+// The same of numbers; a smaller remainder leaves room for them.
+pub fn checksum_of_numbers(t: &[u32]) -> u64
+    ensures { λ r. ⌜ r ≡ checksumOf 16777213 (now (t .entry)) ⌝ }
+{
+    let mut sum = 0;
+    for i in 0..t.len() {
+        sum = sum % 16777213 * 257 + wide32(t[i]) + 1;
+    }
+    sum
+}
+
+// The lowest 32 bits of a number as four bytes.
+pub fn four_bytes(n: u64) -> [u8; 4]
+    ensures { λ r. ⌜ r ≡ be32 n ⌝ }
+{
+    [
+        (n / 16777216 % 256) as u8,
+        (n / 65536 % 256) as u8,
+        (n / 256 % 256) as u8,
+        (n % 256) as u8,
+    ]
 }
 
 // The number at `at`, or 0 where its four bytes aren't there.
@@ -74,5 +108,19 @@ fn byte(s: &[u8], i: usize) -> u8 {
 pub fn fill(buf: &mut [u8], s: &[u8]) {
     for i in 0..buf.len() {
         buf[i] = byte(s, i);
+    }
+}
+
+// The numbers of `bytes`, four bytes each, at the front of `t`.
+pub fn load(bytes: &[u8], t: &mut [u32])
+    ensures { λ _. ⌜ now (t .exit) ≡ loaded (now (bytes .entry)) (now (t .entry)) ⌝ }
+{
+    for k in 0..t.len() {
+        let at = 4 * k;
+        let end = at + 4;
+        if bytes.len() < end {
+            return;
+        }
+        t[k] = blorb::be32_at(bytes, at) as u32;
     }
 }

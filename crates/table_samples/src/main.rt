@@ -5,7 +5,9 @@
 // number of the slice, four bytes of usage and four of number for each pair. The next sample follows at once;
 // tests/make_table_samples.py writes them.
 use libc::STDIN_FILENO;
+use sampling::checksum_of_numbers;
 use sampling::labelled;
+use sampling::load;
 use sampling::refused;
 use sampling::text;
 use table::Built;
@@ -13,7 +15,6 @@ use table::Checked;
 use table::Found;
 use table::Searched;
 ghost use mathlib.Core.Path.{_≡_};
-ghost use Prim.Native.Nat.{_<_};
 ghost use lib.ListN.{length};
 
 fn room() -> [u8; 1048576]
@@ -56,21 +57,6 @@ fn say_search(t: &[u32], usage: [u8; 4], n: u32) {
     text(b"\n");
 }
 
-fn wide(x: u32) -> u64
-    ensures { λ r. ⌜ r < 4294967296 ⌝ }
-{
-    x as u64
-}
-
-// A sum of the numbers that depends on their order.
-fn checksum(t: &[u32]) -> u64 {
-    let mut sum = 0;
-    for i in 0..t.len() {
-        sum = sum % 16777213 * 257 + wide(t[i]) + 1;
-    }
-    sum
-}
-
 // What was written in `t`.
 fn say_built(answer: Built, t: &[u32]) {
     match answer {
@@ -79,19 +65,7 @@ fn say_built(answer: Built, t: &[u32]) {
         }
         Built::Refused { number, place } => refused(number, place),
     }
-    labelled(b" sum ", checksum(t));
-}
-
-// The numbers of `bytes`, four bytes each, at the front of `t`.
-fn load(bytes: &[u8], t: &mut [u32]) {
-    for k in 0..t.len() {
-        let at = 4 * k;
-        let end = at + 4;
-        if bytes.len() < end {
-            return;
-        }
-        t[k] = blorb::be32_at(bytes, at) as u32;
-    }
+    labelled(b" sum ", checksum_of_numbers(t));
 }
 
 fn search_all(t: &[u32], pairs: &[u8]) {

@@ -7,6 +7,7 @@ use descriptions::Described;
 use descriptions::Told;
 use libc::STDIN_FILENO;
 use sampling::field;
+use sampling::four_bytes;
 use sampling::hex;
 use sampling::labelled;
 use sampling::refused;
@@ -62,22 +63,17 @@ fn pair(file: &[u8], profile: u32, usage: [u8; 4], number: u32) {
     part(descriptions::told_text(file, profile, usage, number));
 }
 
-// A number in four bytes.
-fn code(n: usize) -> [u8; 4] {
-    [
-        (n / 16777216 % 256) as u8,
-        (n / 65536 % 256) as u8,
-        (n / 256 % 256) as u8,
-        (n % 256) as u8,
-    ]
-}
-
 fn ask(file: &[u8], profile: usize, usage: usize, number: usize) {
     let p = (profile % 4294967296) as u32;
     entry(file, p, 0);
     entry(file, p, 1);
     entry(file, p, 2);
-    pair(file, p, code(usage), (number % 4294967296) as u32);
+    pair(
+        file,
+        p,
+        four_bytes(usage as u64),
+        (number % 4294967296) as u32,
+    );
 }
 
 // The sample at `at`. Answers where the next one stands, or 0 where the packing is bad.

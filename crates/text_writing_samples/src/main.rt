@@ -7,6 +7,7 @@ use describing::Writing;
 use libc::STDIN_FILENO;
 use sampling::field;
 use sampling::labelled;
+use sampling::load;
 use sampling::refused;
 use sampling::text;
 ghost use mathlib.Core.Path.{_≡_};
@@ -28,18 +29,6 @@ fn buffer_room() -> [u8; 65536]
     ensures { λ r. ⌜ 65536 ≡ length r ⌝ }
 {
     [0; 65536]
-}
-
-// The numbers of `bytes`, four bytes each, at the front of `t`.
-fn load(bytes: &[u8], t: &mut [u32]) {
-    for k in 0..t.len() {
-        let at = 4 * k;
-        let end = at + 4;
-        if bytes.len() < end {
-            return;
-        }
-        t[k] = blorb::be32_at(bytes, at) as u32;
-    }
 }
 
 // A short buffer is shown whole.

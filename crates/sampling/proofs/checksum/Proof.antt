@@ -1,44 +1,33 @@
--- Safe whatever the bytes are: the remainder keeps the sum small. Nothing has to hold from turn to turn.
+-- The remainder keeps the sum small; at each turn it is the definition's sum so far.
+use Prim.Native.Nat.{_-_, _≤_}
+use mathlib.Core.Path.{_≡_}
+use native.Mathlib.Omega.{arith}
+use lib.ListN.{length}
+use denote.Ref.{now}
+use Rattle.sampling.specs.Samples.{sumTo}
+use Rattle.sampling.proofs.SampleLaws.{sum-none, sum-step, sum-whole}
 use borrow.Author.Needs.{needs}
-use Prim.Native.Nat.{_-_}
 use Rattle.sampling.proofs.checksum.Statement.{statement}
 use Rattle.sampling.proofs.checksum.Tie as tie
 
 abbrev Inv-loop : tie.InvT-loop
-Inv-loop s sum₀ i₀ i-end sum i = Unit {0}
+Inv-loop s sum₀ i₀ i-end sum i = (i ≤ length s) × (sum ≡ sumTo 4294967291 s i)
 
 abbrev μ-loop : tie.MeasureT-loop
 μ-loop s sum₀ i₀ i-end sum i = i-end - i
 
 loop-holds : tie.Need-loop-holds Inv-loop μ-loop
-loop-holds c = search needs
-
-mul-sum : tie.Need-mul-sum Inv-loop μ-loop
-mul-sum c = search needs
-
-shared-slice-read-wide : tie.Need-shared-slice-read-wide Inv-loop μ-loop
-shared-slice-read-wide c = search needs
-
-wide-requires : tie.Need-wide-requires Inv-loop μ-loop
-wide-requires c κs = search needs
-
-add-sum : tie.Need-add-sum Inv-loop μ-loop
-add-sum c = search needs
-
-add-sum-2 : tie.Need-add-sum-2 Inv-loop μ-loop
-add-sum-2 c = search needs
-
-add-i : tie.Need-add-i Inv-loop μ-loop
-add-i c = search needs
-
-loop-less : tie.Need-loop-less Inv-loop μ-loop
-loop-less c = search needs
+loop-holds c = (omega arith, sum-none 4294967291 _)
 
 loop-again : tie.Need-loop-again Inv-loop μ-loop
-loop-again c = search needs
+loop-again c =
+    let l = c .before .before .before .loop in
+    (omega arith, sum-step 4294967291 _ (l .i) (l .sum) (c .wide .result) (l .inv .1) (c .wide .ensures .0))
 
 returns : tie.Need-returns Inv-loop μ-loop
-returns c = search needs
+returns c =
+    let l = c .before .loop in
+    sum-whole 4294967291 (now (c .before .before .before .args .s)) (l .i) (l .sum) (l .inv .1) (omega arith)
 
 pub checksum-spec : {M : Type 1} → statement M
 checksum-spec =
@@ -47,12 +36,12 @@ checksum-spec =
     Inv-loop
     μ-loop
     loop-holds
-    mul-sum
-    shared-slice-read-wide
-    wide-requires
-    add-sum
-    add-sum-2
-    add-i
-    loop-less
+    (λ c. search needs)
+    (λ c. search needs)
+    (λ c κs. search needs)
+    (λ c. search needs)
+    (λ c. search needs)
+    (λ c. search needs)
+    (λ c. search needs)
     loop-again
     returns)

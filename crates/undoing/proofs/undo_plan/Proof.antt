@@ -1,4 +1,6 @@
+-- Each way out is a law of UndoAsked. The tests before the reader is called hold at every way out behind it.
 use native.Mathlib.Omega.{arith}
+use Prim.Native.Nat.{_≤_}
 use mathlib.Core.Path.{refl, ap, sym, _∙_}
 use lib.ListN.{length}
 use lib.Seq.{length-take-le}
@@ -12,13 +14,18 @@ use Rattle.undoing.proofs.UndoAsked.{unknown-profile, short-buffer, sho
 use borrow.Author.Needs.{needs}
 use Rattle.undoing.proofs.undo_plan.Statement.{statement}
 use Rattle.undoing.proofs.undo_plan.Tie as tie
-use Rattle.undoing.proofs.undo_plan.Reads as reads
-use Rattle.undoing.proofs.undo_plan.Lts as lts
-use Rattle.reader.proofs.inspect.Reads as inspect-reads
-use Rattle.undoing.proofs.asked_offset.Reads as asked-offset-reads
-use Rattle.undoing.proofs.last_numbers.Reads as last-numbers-reads
-use Rattle.undoing.proofs.plan_fitting.Reads as plan-fitting-reads
-use Rattle.undoing.proofs.with_room.Reads as with-room-reads
+
+-- the tests before the reader's call: the profile is known, L and U lie in their buffers
+known : (p : tie.After-inspect) → p .before .before .before .before .before .before .before .before .before .args .profile ≤ 1
+known p = p .before .before .before .before .before .before .if1 .left
+
+file-lent : (p : tie.After-inspect) → let a = p .before .before .before .before .before .before .before .before .before .args in
+    a .len ≤ length (now (a .buf))
+file-lent p = p .before .before .before .before .before .if2 .left
+
+journal-lent : (p : tie.After-inspect) → let a = p .before .before .before .before .before .before .before .before .before .args in
+    a .used ≤ length (now (a .jrn))
+journal-lent p = p .before .before .before .before .if3 .left
 
 returns : tie.Need-returns
 returns c =
@@ -35,65 +42,64 @@ returns-3 c =
     let a = c .before .before .before .before .before .args in
     short-journal (a .profile) (now (a .buf)) (a .len) (now (a .jrn)) (a .used) (c .before .before .if1 .left) (c .if3 .taken)
 
-last-numbers-requires : tie.Need-last-numbers-requires
-last-numbers-requires c κs = search needs
-
 slice-aggregate-inspect : tie.Need-slice-aggregate-inspect
 slice-aggregate-inspect c = sym (length-take-le _ _ (c .before .before .before .if2 .left))
 
-asked-offset-requires : tie.Need-asked-offset-requires
-asked-offset-requires c κs = search needs
-
-inspect-requires : tie.Need-inspect-requires
-inspect-requires c κs = search needs
-
-enum-known-number : tie.Need-enum-known-number
-enum-known-number c = search needs
-
-enum-known-facts : tie.Need-enum-known-facts
-enum-known-facts c = search needs
-
 returns-4 : tie.Need-returns-4
 returns-4 c =
-    let a = c .before .before .before .before .before .before .before .before .before .before .before .before .before .args in
-    let r = c .before .before .before .before .before .before .before .last-numbers .result in
-    nothing-used (a .profile) (now (a .buf)) (a .len) (now (a .jrn)) (a .used) (c .before .before .before .before .before .before .before .before .before .before .if1 .left) (c .before .before .before .before .before .before .before .before .before .if2 .left) (c .before .before .before .before .before .before .before .before .if3 .left) (r .usage) (r .number) (c .before .before .before .before .before .asked-offset .result)
-    (c .before .before .facts .given .0 .0) (sym (c .before .before .before .before .inspect .ensures) ∙ c .before .before .facts .given .1) (c .if4 .taken)
+    let o = c .before .before in
+    let p = o .before .before in
+    let a = p .before .before .before .before .before .before .before .before .before .args in
+    let r = p .before .before .before .last-numbers .result in
+    nothing-used (a .profile) (now (a .buf)) (a .len) (now (a .jrn)) (a .used) (known p) (file-lent p) (journal-lent p) (r .usage) (r .number)
+    (p .before .asked-offset .result) (o .facts .given .0 .0) (sym (p .inspect .ensures) ∙ o .facts .given .1) (c .if4 .taken)
 
 returns-5 : tie.Need-returns-5
 returns-5 c =
-    let a = c .before .before .before .before .before .before .before .before .before .before .before .before .before .before .before .args in
-    let r = c .before .before .before .before .before .before .before .before .before .last-numbers .result in
-    unformed (a .profile) (now (a .buf)) (a .len) (now (a .jrn)) (a .used) (c .before .before .before .before .before .before .before .before .before .before .before .before .if1 .left) (c .before .before .before .before .before .before .before .before .before .before .before .if2 .left) (c .before .before .before .before .before .before .before .before .before .before .if3 .left) (r .usage) (r .number) (c .before .before .before .before .before .before .before .asked-offset .result)
-    (c .before .before .before .before .facts .given .0 .0) (sym (c .before .before .before .before .before .before .inspect .ensures) ∙ c .before .before .before .before .facts .given .1) (c .before .before .if4 .left) r (c .before .before .before .before .before .before .before .before .before .last-numbers .ensures) (c .if5 .taken)
+    let o = c .before .before .before .before in
+    let p = o .before .before in
+    let a = p .before .before .before .before .before .before .before .before .before .args in
+    let last = p .before .before .before .last-numbers in
+    let r = last .result in
+    unformed (a .profile) (now (a .buf)) (a .len) (now (a .jrn)) (a .used) (known p) (file-lent p) (journal-lent p) (r .usage) (r .number)
+    (p .before .asked-offset .result) (o .facts .given .0 .0) (sym (p .inspect .ensures) ∙ o .facts .given .1) (c .before .before .if4 .left)
+    r (last .ensures) (c .if5 .taken)
 
 plan-fitting-requires : tie.Need-plan-fitting-requires
 plan-fitting-requires c κs =
-    let a = c .before .before .before .before .before .before .before .before .before .before .before .before .before .before .before .args in
-    let r = c .before .before .before .before .before .before .before .before .before .last-numbers .result in
-    let bb : All Byte (now (a .buf)) = bytes-all (now (a .buf)) (λ i. omega (arith, c .before .before .before .before .before .before .before .before .before .before .before .before .before .before .shared-slice-known .given i)) in
-    let bj : All Byte (now (a .jrn)) = bytes-all (now (a .jrn)) (λ i. omega (arith, c .before .before .before .before .before .before .before .before .before .before .before .before .before .shared-slice-known2 .given i)) in
-    asked (a .profile) (now (a .buf)) (a .len) (now (a .jrn)) (a .used) (c .before .before .before .before .before .before .before .before .before .before .before .before .if1 .left) (c .before .before .before .before .before .before .before .before .before .before .before .if2 .left) (c .before .before .before .before .before .before .before .before .before .before .if3 .left) (r .usage) (r .number) (c .before .before .before .before .before .before .before .asked-offset .result)
-    (c .before .before .before .before .facts .given .0 .0) (sym (c .before .before .before .before .before .before .inspect .ensures) ∙ c .before .before .before .before .facts .given .1) (c .before .before .if4 .left) r (c .before .before .before .before .before .before .before .before .before .last-numbers .ensures) (c .if5 .left)
-    bb bj refl refl (c .before .before .before .before .before .before .before .asked-offset .ensures)
-
-with-room-requires : tie.Need-with-room-requires
-with-room-requires c κs = search needs
+    let o = c .before .before .before .before in
+    let p = o .before .before in
+    let a = p .before .before .before .before .before .before .before .before .before .args in
+    let last = p .before .before .before .last-numbers in
+    let r = last .result in
+    let file-known = p .before .before .before .before .before .before .before .before .shared-slice-known .given in
+    let journal-known = p .before .before .before .before .before .before .before .shared-slice-known2 .given in
+    let bb : All Byte (now (a .buf)) = bytes-all (now (a .buf)) (λ i. omega (arith, file-known i)) in
+    let bj : All Byte (now (a .jrn)) = bytes-all (now (a .jrn)) (λ i. omega (arith, journal-known i)) in
+    asked (a .profile) (now (a .buf)) (a .len) (now (a .jrn)) (a .used) (known p) (file-lent p) (journal-lent p) (r .usage) (r .number)
+    (p .before .asked-offset .result) (o .facts .given .0 .0) (sym (p .inspect .ensures) ∙ o .facts .given .1) (c .before .before .if4 .left)
+    r (last .ensures) (c .if5 .left) bb bj refl refl (p .before .asked-offset .ensures)
 
 returns-6 : tie.Need-returns-6
 returns-6 c =
-    let a = c .before .before .before .before .before .before .before .before .before .before .before .before .args in
-    let r = c .before .before .before .before .before .before .last-numbers .result in
-    unread (a .profile) (now (a .buf)) (a .len) (now (a .jrn)) (a .used) (c .before .before .before .before .before .before .before .before .before .if1 .left) (c .before .before .before .before .before .before .before .before .if2 .left) (c .before .before .before .before .before .before .before .if3 .left) (r .usage) (r .number) (c .before .before .before .before .asked-offset .result)
-    (c .before .number .given .0 .0) (c .before .number .given .0 .1 .0) (sym (c .before .before .before .inspect .ensures) ∙ c .before .number .given .1)
+    let p = c .before .before .before in
+    let a = p .before .before .before .before .before .before .before .before .before .args in
+    let r = p .before .before .before .last-numbers .result in
+    unread (a .profile) (now (a .buf)) (a .len) (now (a .jrn)) (a .used) (known p) (file-lent p) (journal-lent p) (r .usage) (r .number)
+    (p .before .asked-offset .result) (c .before .number .given .0 .0) (c .before .number .given .0 .1 .0)
+    (sym (p .inspect .ensures) ∙ c .before .number .given .1)
 
 returns-7 : tie.Need-returns-7
 returns-7 c =
-    let a = c .before .before .before .before .before .before .before .before .before .before .before .before .before .before .before .before .before .args in
-    let r = c .before .before .before .before .before .before .before .before .before .before .before .last-numbers .result in
-    formed (a .profile) (now (a .buf)) (a .len) (now (a .jrn)) (a .used) (c .before .before .before .before .before .before .before .before .before .before .before .before .before .before .if1 .left) (c .before .before .before .before .before .before .before .before .before .before .before .before .before .if2 .left) (c .before .before .before .before .before .before .before .before .before .before .before .before .if3 .left) (r .usage) (r .number) (c .before .before .before .before .before .before .before .before .before .asked-offset .result)
-    (c .before .before .before .before .before .before .facts .given .0 .0) (sym (c .before .before .before .before .before .before .before .before .inspect .ensures) ∙ c .before .before .before .before .before .before .facts .given .1) (c .before .before .before .before .if4 .left) r (c .before .before .before .before .before .before .before .before .before .before .before .last-numbers .ensures) (c .before .before .if5 .left)
-    (c .with-room .result) (c .with-room .ensures ∙ ap (λ (z : Undoing). roomy (length (now (a .buf))) z) (c .before .plan-fitting .ensures))
+    let o = c .before .before .before .before .before .before in
+    let p = o .before .before in
+    let a = p .before .before .before .before .before .before .before .before .before .args in
+    let last = p .before .before .before .last-numbers in
+    let r = last .result in
+    let planned = ap (λ (z : Undoing). roomy (length (now (a .buf))) z) (c .before .plan-fitting .ensures) in
+    formed (a .profile) (now (a .buf)) (a .len) (now (a .jrn)) (a .used) (known p) (file-lent p) (journal-lent p) (r .usage) (r .number)
+    (p .before .asked-offset .result) (o .facts .given .0 .0) (sym (p .inspect .ensures) ∙ o .facts .given .1) (c .before .before .before .before .if4 .left)
+    r (last .ensures) (c .before .before .if5 .left) (c .with-room .result) (c .with-room .ensures ∙ planned)
 
 pub undo-plan-spec : {M : Type 1} → statement M
 undo-plan-spec =
@@ -102,15 +108,15 @@ undo-plan-spec =
     returns
     returns-2
     returns-3
-    last-numbers-requires
+    (λ c κs. search needs)
     slice-aggregate-inspect
-    asked-offset-requires
-    inspect-requires
-    enum-known-number
-    enum-known-facts
+    (λ c κs. search needs)
+    (λ c κs. search needs)
+    (λ c. search needs)
+    (λ c. search needs)
     returns-4
     returns-5
     plan-fitting-requires
-    with-room-requires
+    (λ c κs. search needs)
     returns-6
     returns-7)
