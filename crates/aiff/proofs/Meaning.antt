@@ -28,7 +28,7 @@ use Rattle.blorb.proofs.VerdictLaws.{walk-fine}
 use Rattle.blorb.proofs.ShownLaws.{left-form}
 use Rattle.chunks.specs.Walk.{walkFrom}
 use Rattle.aiff.specs.Rate.{rd16, rateIn}
-use Rattle.aiff.specs.Common.{lacking, common, pickCommon, comms, single, isForm, isFilled, isAiff, commonOf}
+use Rattle.aiff.specs.Common.{Common, lacking, common, pickCommon, comms, single, isForm, isFilled, isAiff, commonOf}
 use Rattle.aiff.specs.Length.{soundBy, soundOf, commonBy, pickMeasured, lengthOf}
 use Rattle.aiff.specs.Meaning.{Exactly, Says, refusalOf, isSingle, isWhole, aiffBytes}
 use Rattle.aiff.specs.declared.rate.Rate.{Rate}
@@ -90,6 +90,25 @@ module _ (d : List ℕ) (channels frames sampleSize rate seconds : ℕ) where
             not-under = omega (arith, v);
           }
       go Other q h = let z : _≡_ {A = ℕ} 0 1 = cc in absurd (omega arith)
+
+-- the call's answer: a sound is given exactly if the bytes are an AIFF whose one 'COMM' holds 18 bytes that say it
+module _ (b : List ℕ) (channels frames sampleSize rate seconds : ℕ) where
+  abbrev Plays : Type 0
+  Plays = (isAiff b ≡ true) × ((d : List ℕ) × ((commonOf b ≡ common d) × Says d channels frames sampleSize rate seconds))
+
+  pub says-length : Plays → lengthOf b ≡ Sound channels frames sampleSize rate seconds
+  unfolding lengthOf
+  says-length (a, (d, (e, s))) = rw (a, e) (says-sound d channels frames sampleSize rate seconds s)
+
+  pub length-says : lengthOf b ≡ Sound channels frames sampleSize rate seconds → Plays
+  unfolding lengthOf
+  length-says h = go (isAiff b) refl (commonOf b) refl h
+    where
+      go : (x : Bool) → isAiff b ≡ x → (c : Common) → commonOf b ≡ c
+          → pickMeasured x (commonBy c) (Refused 49 0) ≡ Sound channels frames sampleSize rate seconds → Plays
+      go true a (common d) e q = (a, (d, (e, sound-says d channels frames sampleSize rate seconds q)))
+      go true a lacking e q = let z : _≡_ {A = ℕ} 0 1 = cc in absurd (omega arith)
+      go false a c e q = let z : _≡_ {A = ℕ} 0 1 = cc in absurd (omega arith)
 
 -- Which bytes are an AIFF. A header of this length and data of this type are a single 'FORM',
 form-holds : (d : List ℕ) → 4 ≤ length d → rd32 d ≡ AIFF → length d < W → isForm (be32 FORM ++ (be32 (length d) ++ d)) ≡ true

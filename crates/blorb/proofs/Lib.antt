@@ -6,6 +6,7 @@ pub mod ModelLaws
 pub mod Checks
 pub mod Accept
 pub mod VerdictLaws
+pub mod Never
 pub mod RunsPast
 pub mod Profiles
 pub mod Exactly

@@ -1,8 +1,9 @@
 -- 28 and 29 beside 6 (02, P1): what was 6 is now one of 6, 28 and 29 at the same chunk, and nothing else has changed.
 -- A chunk's padded size is no less than its header and data, so the three tests together fail exactly where 01's two did (`broken-when`,
 -- `broken-only`), and the test for 7 is the same. So both walks stop at the same chunk (`same-chunk`), and a file is judged as before but
--- that some 6 are 28 or 29 (`past-verdict`).
-use mathlib.Core.Path.{_≡_, refl, sym, ap, _∙_}
+-- that some 6 are 28 or 29 (`past-verdict`). Under a profile's rules nothing but the walk refuses with 6, 28 or 29: so 01's 6 holds of a file exactly
+-- when one of the three does, at the same chunk (`file-broken-when`, `file-broken-only`).
+use mathlib.Core.Path.{_≡_, refl, sym, ap, subst, _∙_}
 use Prim.Native.Nat.{ℕ, zero, suc, _+_, _≤_, _<_, _%_}
 use mathlib.Core.List.{List, [], _∷_}
 use mathlib.Core.Bool.{Bool, true, false, _||_, not, cond}
@@ -14,8 +15,23 @@ use borrow.Author.Tests.{le-leb, leb-true}
 use Rattle.blorb.specs.Bytes.{rd32}
 use Rattle.blorb.specs.Format.{sized, chunksOf}
 use Rattle.blorb.specs.Verdict.{Verdict, accept, refuse, _then_, check, headFault, chunkFault, walkFault, Rules, layoutFault, verdict}
-use Rattle.blorb.specs.RunsPast.{runsPast, pastFault, BrokenOff, Faulty, none, first, unlessFaulty, firstFaulty, faultOf, pastVerdict}
-use Rattle.blorb.proofs.Checks.{then-accept, check-accept, refuses}
+use Rattle.blorb.specs.Rules.{rulesOf}
+use Rattle.blorb.specs.RunsPast.{
+  runsPast,
+  pastFault,
+  BrokenOff,
+  Faulty,
+  none,
+  first,
+  unlessFaulty,
+  firstFaulty,
+  faultOf,
+  StartsAt,
+  BrokenAt,
+  pastVerdict,
+}
+use Rattle.blorb.proofs.Checks.{then-accept, check-accept, pass, stop, refuses}
+use Rattle.blorb.proofs.Never.{Never, never-itself, other, both, Elsewhere, head-never, layout-never}
 
 abbrev numberOf : Verdict → ℕ
 numberOf accept = 0
@@ -175,15 +191,106 @@ head-length : (f : List ℕ) → headFault f ≡ accept → 12 ≤ length f
 unfolding headFault
 head-length f ok = leb-true _ _ (check-accept _ _ _ (then-accept _ _ (then-accept _ _ ok .1) .0))
 
+reaches : (f : List ℕ) → headFault f ≡ accept → Ends (length f) (firstFaulty chunkFault (length f) 12 (drop 12 f))
+reaches f ok =
+    let l : 12 + length (drop 12 f) ≡ length f = rw (length-drop 12 f) (omega (arith, head-length f ok)) in
+    rw l at (ends (length f) 12 (drop 12 f))
+
 -- Every file is judged as with 01's 6, or 01 has 6 at the start p of a chunk where it is now 28 at p + 4, the length field, or 29 at the file's end.
 pub past-verdict : (R : Rules) (f : List ℕ) → (pastVerdict R f ≡ verdict R f)
     ⊎ ((p : ℕ) × ((pastVerdict R f ≡ refuse 6 p) × ((verdict R f ≡ refuse 28 (p + 4)) ⊎ (verdict R f ≡ refuse 29 (length f)))))
 unfolding pastVerdict verdict
 past-verdict R f =
     rw (same-chunk (length f) 12 (drop 12 f), walk-tells (length f) 12 (drop 12 f))
-    (joined (headFault f) (layoutFault R (chunksOf f)) (length f) (firstFaulty chunkFault (length f) 12 (drop 12 f)) reaches)
+    (joined (headFault f) (layoutFault R (chunksOf f)) (length f) (firstFaulty chunkFault (length f) 12 (drop 12 f)) (reaches f))
+
+-- The same of 01's 6 alone, under a profile's rules. A chunk that runs past is 6 by 01, any other is not;
+past-six : (at : ℕ) (s : List ℕ) → runsPast s ≡ true → pastFault at s ≡ refuse 6 at
+unfolding pastFault
+past-six at s r = stop _ _ _ _ (ap not r)
+
+past-other : (at : ℕ) (s : List ℕ) → runsPast s ≡ false → Never 6 (pastFault at s)
+unfolding pastFault
+past-other at s r = both 6 _ _ (rw r (unfold check in tt)) (other _ 6 7 _ refl)
+
+-- neither the head nor the layout has one of the three
+abbrev Apart : Verdict → Type 0
+Apart v = Never 6 v × Never 28 v × Never 29 v
+
+apart-not : (v : Verdict) (p end : ℕ) → Apart v → One p end 0 v → ⊥
+apart-not v p end n (inl e) = never-itself 6 p v (n .0) e
+apart-not v p end n (inr (inl e)) = never-itself 28 (p + 4) v (n .1) e
+apart-not v p end n (inr (inr e)) = never-itself 29 end v (n .2) e
+
+module _ (w : Verdict) (p a end : ℕ) (q : a ≡ end) where
+  carried : (v : Verdict) → One p a 0 v → One p end 0 (v then w)
+  carried v (inl e) = inl (refuses v w 6 p e)
+  carried v (inr (inl e)) = inr (inl (refuses v w 28 (p + 4) e))
+  carried v (inr (inr e)) = inr (inr (refuses v w 29 end (e ∙ ap (refuse 29) q)))
+
+  carried-back : (v : Verdict) → Apart w → One p end 0 (v then w) → One p a 0 v
+  unfolding _then_
+  carried-back accept n o = absurd (apart-not w p end n o)
+  carried-back (refuse k r) n (inl e) = inl e
+  carried-back (refuse k r) n (inr (inl e)) = inr (inl e)
+  carried-back (refuse k r) n (inr (inr e)) = inr (inr (e ∙ ap (refuse 29) (sym q)))
+
+-- so the three are of the first faulty chunk
+six-told : (head layout : Verdict) (end p : ℕ) (x : Faulty) → (head ≡ accept → Ends end x) → Never 6 head → Never 6 layout
+    → head then (faultOf pastFault x then layout) ≡ refuse 6 p → StartsAt p x × One p end 0 (head then (faultOf chunkFault x then layout))
+unfolding _then_ faultOf
+six-told (refuse k q) layout end p x e nh nl h = absurd (never-itself 6 p (refuse k q) nh h)
+six-told accept layout end p none e nh nl h = absurd (never-itself 6 p layout nl h)
+six-told accept layout end p (first at s) e nh nl h = go (runsPast s) refl
   where
-    reaches : headFault f ≡ accept → Ends (length f) (firstFaulty chunkFault (length f) 12 (drop 12 f))
-    reaches ok =
-        let l : 12 + length (drop 12 f) ≡ length f = rw (length-drop 12 f) (omega (arith, head-length f ok)) in
-        rw l at (ends (length f) 12 (drop 12 f))
+    go : (b : Bool) → runsPast s ≡ b → (at ≡ p) × One p end 0 (chunkFault at s then layout)
+    go false r = absurd (never-itself 6 p (pastFault at s then layout) (both 6 (pastFault at s) layout (past-other at s r) nl) h)
+    go true r =
+        let t : refuse 6 at ≡ refuse 6 p = sym (refuses _ layout 6 at (past-six at s r)) ∙ h in
+        let q : at ≡ p = cc in
+        (q, subst (λ (n : ℕ). One n end 0 (chunkFault at s then layout)) q (carried layout at (at + length s) end (e refl) (chunkFault at s) (broken-when at s r)))
+
+six-back : (head layout : Verdict) (end p : ℕ) (x : Faulty) → (head ≡ accept → Ends end x) → Apart head → Apart layout → StartsAt p x
+    → One p end 0 (head then (faultOf chunkFault x then layout)) → head then (faultOf pastFault x then layout) ≡ refuse 6 p
+unfolding _then_ faultOf
+six-back (refuse k q) layout end p x e nh nl at o = absurd (apart-not (refuse k q) p end nh o)
+six-back accept layout end p none e nh nl at o = absurd at
+six-back accept layout end p (first at s) e nh nl q o =
+    let b = carried-back layout at _ end (e refl) (chunkFault at s) nl (subst (λ (n : ℕ). One n end 0 (chunkFault at s then layout)) (sym q) o) in
+    refuses _ layout 6 p (past-six at s (broken-only at s b) ∙ ap (refuse 6) q)
+
+-- 01's 6 holds of a file exactly when one of 6, 28 and 29 does, at the same chunk
+module _ (profile : ℕ) (f : List ℕ) where
+  abbrev layout : Verdict
+  layout = layoutFault (rulesOf profile) (chunksOf f)
+
+  e6 : Elsewhere 6
+  e6 = (refl, refl, refl, refl, refl, refl, refl, refl, refl, refl)
+
+  e28 : Elsewhere 28
+  e28 = (refl, refl, refl, refl, refl, refl, refl, refl, refl, refl)
+
+  e29 : Elsewhere 29
+  e29 = (refl, refl, refl, refl, refl, refl, refl, refl, refl, refl)
+
+  head-apart : Apart (headFault f)
+  head-apart = (head-never 6 e6 refl refl refl refl f, head-never 28 e28 refl refl refl refl f, head-never 29 e29 refl refl refl refl f)
+
+  layout-apart : Apart layout
+  layout-apart = (
+    layout-never 6 e6 refl refl refl refl profile (chunksOf f),
+    layout-never 28 e28 refl refl refl refl profile (chunksOf f),
+    layout-never 29 e29 refl refl refl refl profile (chunksOf f),
+  )
+
+  pub file-broken-when : (p : ℕ) → pastVerdict (rulesOf profile) f ≡ refuse 6 p → BrokenAt f p (verdict (rulesOf profile) f)
+  unfolding pastVerdict verdict
+  file-broken-when p h =
+      rw (walk-tells (length f) 12 (drop 12 f))
+      (six-told (headFault f) layout (length f) p _ (reaches f) (head-apart .0) (layout-apart .0) (rw (same-chunk (length f) 12 (drop 12 f)) at h))
+
+  pub file-broken-only : (p : ℕ) → BrokenAt f p (verdict (rulesOf profile) f) → pastVerdict (rulesOf profile) f ≡ refuse 6 p
+  unfolding pastVerdict verdict
+  file-broken-only p b =
+      rw (same-chunk (length f) 12 (drop 12 f))
+      (six-back (headFault f) layout (length f) p _ (reaches f) head-apart layout-apart (b .0) (rw (walk-tells (length f) 12 (drop 12 f)) at (b .1)))

@@ -9,7 +9,7 @@ use lib.ListN.{length, getD, drop}
 use lib.Dec.{eqb, leb}
 use Rattle.blorb.specs.Bytes.{rd32}
 use Rattle.blorb.specs.Format.{sized, chunksOf}
-use Rattle.blorb.specs.Verdict.{Verdict, accept, refuse, _then_, check, headFault, Rules, layoutFault}
+use Rattle.blorb.specs.Verdict.{Verdict, accept, refuse, _then_, check, headFault, chunkFault, Rules, layoutFault}
 
 -- 01's 6: "header, data or padding runs past the end"; of the chunk that s begins with
 unfoldable pub runsPast : List ℕ → Bool
@@ -49,6 +49,16 @@ firstFaulty fault (suc k) at (b ∷ s) =
 unfoldable pub faultOf : (ℕ → List ℕ → Verdict) → Faulty → Verdict
 faultOf fault none = accept
 faultOf fault (first at s) = fault at s
+
+abbrev pub StartsAt : ℕ → Faulty → Type 0
+StartsAt p none = ⊥
+StartsAt p (first at s) = at ≡ p
+
+-- the three refusals of a whole file f, whose verdict is v: the first faulty chunk starts at p, and v is 6 there, 28 at its length field or 29 at the
+-- file's end
+abbrev pub BrokenAt : List ℕ → ℕ → Verdict → Type 0
+BrokenAt f p v =
+    StartsAt p (firstFaulty chunkFault (length f) 12 (drop 12 f)) × ((v ≡ refuse 6 p) ⊎ ((v ≡ refuse 28 (p + 4)) ⊎ (v ≡ refuse 29 (length f))))
 
 -- the whole table with 01's 6: as `verdict` but for the walk
 unfoldable pub pastVerdict : Rules → List ℕ → Verdict

@@ -1,26 +1,26 @@
 -- 01's edits keep the order of the chunks (02, P5), whatever the edit: an added entry stands last in the index and on the last chunk, a
 -- replacement leaves the entries alone, and where an entry goes the others keep their order. So no edit's result is refused with 27, and no edit
 -- is refused with 127: where the order holds, what is left to judge of a file (modelFault) has no 27 in it. Neither has it 6, 28 or 29, nor any other
--- number but 1, 9, 11, 12 and 14 to 19.
-use mathlib.Core.Path.{_≡_, refl, ap, _∙_, sym, subst}
-use Prim.Native.Nat.{ℕ, zero, suc, _+_, _<_}
-use mathlib.Core.List.{List, [], _∷_, _++_}
+-- number but 1, 9, 11, 12 and 14 to 19 (blorb/proofs/Never).
+use mathlib.Core.Path.{_≡_, refl, ap, _∙_}
+use Prim.Native.Nat.{ℕ, _+_, _<_}
+use mathlib.Core.List.{List}
 use mathlib.Core.Bool.{Bool, true, false, cond}
 use native.Mathlib.Omega.{arith}
 use lib.ListN.{length}
 use lib.Dec.{eqb, leb}
 use borrow.Author.Tests.{ne-eqb, eqb-false}
-use Rattle.blorb.specs.Bytes.{rd32, Byte}
-use Rattle.blorb.specs.Tags.{RelN, Fspc}
-use Rattle.blorb.specs.Format.{Ref, Chunk}
-use Rattle.blorb.specs.Verdict.{Verdict, accept, refuse, _then_, check, secondIndex, refFault, verdict}
-use Rattle.blorb.specs.Rules.{rulesOf, picture, single, chunkRule, chunkRules, optional}
+use Rattle.blorb.specs.Bytes.{Byte}
+use Rattle.blorb.specs.Format.{Chunk}
+use Rattle.blorb.specs.Verdict.{Verdict, accept, refuse, _then_, check, verdict}
+use Rattle.blorb.specs.Rules.{rulesOf}
 use Rattle.blorb.specs.Model.{Model, base, model, file}
 use Rattle.blorb.specs.Queries.{find, refAt, shared}
 use Rattle.blorb.specs.All.{All}
 use Rattle.blorb.specs.Sound.{Sound}
 use Rattle.blorb.proofs.Accept.{accept-back}
-use Rattle.blorb.proofs.VerdictLaws.{refsFault, modelFault, inOrder, verdict-file, file-ordered}
+use Rattle.blorb.proofs.VerdictLaws.{modelFault, inOrder, verdict-file, file-ordered}
+use Rattle.blorb.proofs.Never.{Never, never-itself, other, both, more, Elsewhere, model-never}
 use Rattle.edits.specs.Edit.{Edit, add, replace, remove, link, edited, linked, entered, added, replaced, removed, removedBoth, removedEntry, givenChunk}
 use Rattle.edits.specs.Run.{ArgsOk, hundred, wholeFault, targetFault, editedFile, editRecord, editFault}
 use Rattle.edits.proofs.Applies.{Applies}
@@ -49,65 +49,6 @@ edits-keep-order m (remove u n) s o = go (shared m (find u n (m .refs)))
     go true = order-without 0 (find u n (m .refs)) (m .refs) o
     go false = order-removed (refAt m (find u n (m .refs)) .chunk) (find u n (m .refs)) (m .refs) o
 
--- v is no refusal with the number k
-abbrev Never : ℕ → Verdict → Type 0
-Never k accept = Unit {0}
-Never k (refuse n p) = eqb n k ≡ false
-
-other : (b : Bool) (k n p : ℕ) → eqb n k ≡ false → Never k (check b n p)
-unfolding check
-other true k n p h = tt
-other false k n p h = h
-
-both : (k : ℕ) (v w : Verdict) → Never k v → Never k w → Never k (v then w)
-unfolding _then_
-both k accept w hv hw = hw
-both k (refuse n p) w hv hw = hv
-
-more : (b : Bool) (k n p : ℕ) (w : Verdict) → eqb n k ≡ false → Never k w → Never k (check b n p then w)
-more b k n p w h hw = both k (check b n p) w (other b k n p h) hw
-
-either : (b : Bool) (k : ℕ) (v w : Verdict) → Never k v → Never k w → Never k (cond b v w)
-either true k v w hv hw = hv
-either false k v w hv hw = hw
-
--- k is none of the numbers that are left: 1, 9, 11, 12, 14 to 19
-abbrev pub Elsewhere : ℕ → Type 0
-Elsewhere k =
-    (eqb 1 k ≡ false) × (eqb 9 k ≡ false) × (eqb 11 k ≡ false) × (eqb 12 k ≡ false) × (eqb 14 k ≡ false) × (eqb 15 k ≡ false) × (eqb 16 k ≡ false)
-    × (eqb 17 k ≡ false) × (eqb 18 k ≡ false) × (eqb 19 k ≡ false)
-
--- 9, 11, 12, 14 to 19: what is judged of a model whose entries are in order
-module _ (k : ℕ) (h : Elsewhere k) where
-  second : (at : ℕ) (cs : List Chunk) → Never k (secondIndex at cs)
-  unfolding secondIndex
-  second at [] = tt
-  second at (c ∷ cs) = more _ k 9 at _ (h .1) (second _ cs)
-
-  entries : (profile : ℕ) (cs : List Chunk) (earlier : List Ref) (p : ℕ) (rs : List Ref) → Never k (refsFault (rulesOf profile) cs earlier p rs)
-  unfolding refsFault refFault
-  entries profile cs earlier p [] = tt
-  entries profile cs earlier p (r ∷ rs) =
-      more _ k 12 p _ (h .3) (both k _ _ (more _ k 14 p _ (h .4) (more _ k 15 (p + 4) _ (h .5) (other _ k 16 p (h .6)))) (entries profile cs _ _ rs))
-
-  chunk : (rs : List Ref) (all earlier : List Chunk) (at : ℕ) (c : Chunk) → Never k (chunkRule rs all earlier at c)
-  unfolding chunkRule single
-  chunk rs all earlier at c =
-      either (eqb (c .type) RelN) k _ _ (more _ k 17 at _ (h .7) (other _ k 18 (at + 4) (h .8)))
-      (either (eqb (c .type) Fspc) k _ _
-      (both k _ _ (more _ k 17 at _ (h .7) (other _ k 18 (at + 4) (h .8))) (other (picture (rd32 (c .body)) all rs) k 19 (at + 8) (h .9))) tt)
-
-  chunks : (rs : List Ref) (all earlier : List Chunk) (at : ℕ) (cs : List Chunk) → Never k (chunkRules rs all earlier at cs)
-  unfolding chunkRules
-  chunks rs all earlier at [] = tt
-  chunks rs all earlier at (c ∷ cs) = both k _ _ (chunk rs all earlier at c) (chunks rs all _ _ cs)
-
-  left : (profile : ℕ) (m : Model) → Never k (modelFault (rulesOf profile) m)
-  unfolding modelFault optional
-  left profile m =
-      both k _ _ (second _ (m .chunks))
-      (more _ k 11 20 _ (h .2) (both k _ _ (entries profile (m .chunks) [] 24 (m .refs)) (chunks _ _ [] _ (m .chunks))))
-
 -- the answer: 20, 22, 23, 30, 100 + k, 24, 25
 hundred-never : (k : ℕ) (v : Verdict) → Never k v → Never (100 + k) (hundred v)
 hundred-never k accept h = tt
@@ -125,9 +66,6 @@ target-never k m (replace u n t d) =
 target-never k m (remove u n) = other _ (100 + k) 22 0 (low 22 k (omega arith))
 target-never k m (link v o u n) = other _ (100 + k) 22 0 (low 22 k (omega arith))
 
-never-itself : (k p : ℕ) (v : Verdict) → Never k v → v ≡ refuse k p → ⊥
-never-itself k p v h q = eqb-false k k (subst (λ (w : Verdict). Never k w) q h) refl
-
 -- f: an accepted file
 module _ (profile : ℕ) (f : List ℕ) (bytes : All Byte f) (fine : verdict (rulesOf profile) f ≡ accept) (e : Edit) (args : ArgsOk e) where
   result-never : (k : ℕ) → Elsewhere k → Applies (model f) e → Never k (verdict (rulesOf profile) (editedFile f e))
@@ -138,7 +76,7 @@ module _ (profile : ℕ) (f : List ℕ) (bytes : All Byte f) (fine : verdict (ru
       let r = edited (model f) e in
       let v : verdict (rulesOf profile) (file r) ≡ check (leb (length (file r)) 16777216) 1 0 then modelFault (rulesOf profile) r
       = verdict-file (rulesOf profile) r (edit-sound (model f) e (g .1) args a) (edits-keep-order (model f) e (g .1) o) in
-      rw v (more _ k 1 0 _ (h .0) (left k h profile r))
+      rw v (more _ k 1 0 _ (h .0) (model-never k h profile r))
 
   behind : (k : ℕ) → Elsewhere k → (v w : Verdict) → targetFault (model f) e ≡ v → Never (100 + k) v → Never (100 + k) w
       → Never (100 + k) (v then hundred (verdict (rulesOf profile) (editedFile f e)) then w)

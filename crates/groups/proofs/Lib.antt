@@ -4,3 +4,4 @@ pub mod TurnLaws
 pub mod StoreLaws
 pub mod FileLaws
 pub mod Order
+pub mod TooLong

@@ -1,3 +1,4 @@
+-- The editor's promise of a link, its answer set out as numbers by `numbers`: the two contracts together are this one.
 use Rattle.capi.proofs.CallLaws.{answered}
 use borrow.Author.Needs.{needs}
 use Rattle.capi.proofs.blorb_link.Statement.{statement}

@@ -1,3 +1,4 @@
+-- The loop keeps that the pair's place among the entries from i on, and i, make its place among all: an entry with the pair ends it, any other is passed over.
 use native.Mathlib.Omega.{arith}
 use mathlib.Core.Path.{_≡_}
 use Prim.Native.Nat.{ℕ, _+_, _-_, _≤_, _<_}

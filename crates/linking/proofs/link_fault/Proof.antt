@@ -1,3 +1,4 @@
+-- The tests stand in the order of the verdict on the linked file, and LinkFault tells for each of them what that verdict is by the present file.
 use native.Mathlib.Omega.{arith}
 use mathlib.Core.Path.{sym, ap, _∙_}
 use denote.Ref.{now}

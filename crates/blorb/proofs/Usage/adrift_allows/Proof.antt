@@ -1,3 +1,4 @@
+-- Told the usage, only its own part of the definition is left: the callee's types for a picture or a sound, none for data and executables.
 use mathlib.Core.Path.{sym, _∙_}
 use Rattle.blorb.proofs.UsageLaws.{adrift-pict, adrift-snd, adrift-data, adrift-exec}
 use borrow.Author.Needs.{needs}

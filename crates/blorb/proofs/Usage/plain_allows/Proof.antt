@@ -1,3 +1,4 @@
+-- Told the usage, only its own part of the definition is left, and that is the callee's answer.
 use Rattle.blorb.specs.declared.Usage.{Usage}
 use mathlib.Core.Path.{sym, _∙_}
 use Rattle.blorb.proofs.UsageLaws.{plain-pict, plain-data, plain-exec}
