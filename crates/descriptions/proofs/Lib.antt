@@ -2,3 +2,4 @@ pub mod EntryAnswers
 pub mod OpenLaws
 pub mod Promises
 pub mod RepeatLaws
+pub mod UnknownProfile

@@ -25,7 +25,7 @@ use Rattle.blorb.proofs.Accept.{accept-back, accept-short}
 use Rattle.blorb.proofs.ModelLaws.{model-file}
 use Rattle.blorb.proofs.Profiles.{profile-known}
 use Rattle.blorb.proofs.VerdictLaws.{modelFault, file-judged}
-use Rattle.reader.specs.Reading.{lookupOf, partOf}
+use Rattle.reader.specs.Reading.{foundAt, lookupOf, partOf}
 use Rattle.reader.specs.declared.Looked.{Looked}
 use Rattle.reader.specs.declared.Looked.the-variants.{Found, Refused}
 use Rattle.reader.proofs.Promises.{lookup-here, lookup-nowhere}
@@ -52,6 +52,8 @@ use Rattle.edits.proofs.ReadBack.{
   remove-keeps,
   link-reads,
   link-keeps,
+  link-on-new,
+  link-on-old,
 }
 use Rattle.editor.specs.ReadsBack.{Content, nothing, holds, contentOf, Holds, DataBytes, OwnPair, Apart, OtherPair}
 use Rattle.planning.proofs.PlanLaws.{hundred-fine}
@@ -266,13 +268,18 @@ own-pair profile f (link v o u n) bytes k =
     let g : List ℕ = editedFile f (link v o u n) in
     let kc : ℕ = refAt m (find v o (m .refs)) .chunk in
     let fresh : pairIn u n (m .refs) ≡ false = not-linked profile m kc u n (k .judged) (k .judged-new) in
-    let new : contentOf profile g u n ≡ contentIn (lookup m v o)
-    = content-is profile g u n (k .new) ∙ ap (λ (z : Model). contentIn (lookup z u n)) (k .same) ∙ ap contentIn (link-reads m v o u n (k .applies) fresh) in
-    let old : contentOf profile g v o ≡ contentIn (lookup m v o)
-    = content-is profile g v o (k .new) ∙ ap (λ (z : Model). contentIn (lookup z v o)) (k .same)
-    ∙ ap contentIn (link-keeps m kc u n v o (not-found m u n v o fresh (k .applies))) in
+    let other : (eqb u v && eqb n o) ≡ false = not-found m u n v o fresh (k .applies) in
     let here-is : lookup m v o ≡ here (chunkAt m kc) = (unfold lookup in look-find (m .chunks) v o (m .refs) (k .applies)) in
-    (new ∙ sym old, λ e. something _ (sym (ap contentIn here-is) ∙ sym old ∙ e))
+    let new : lookup (model g) u n ≡ here (chunkAt m kc)
+    = ap (λ (z : Model). lookup z u n) (k .same) ∙ link-reads m v o u n (k .applies) fresh ∙ here-is in
+    let old : lookup (model g) v o ≡ here (chunkAt m kc) = ap (λ (z : Model). lookup z v o) (k .same) ∙ link-keeps m kc u n v o other ∙ here-is in
+    let on-one : refAt (model g) (find u n (model g .refs)) .chunk ≡ refAt (model g) (find v o (model g .refs)) .chunk
+    = rw (k .same) (link-on-new m kc u n fresh ∙ sym (link-on-old m kc u n v o other)) in (
+      lookup-here profile g u n (k .new .fine) (chunkAt m kc) new .0
+          ∙ ap (λ (j : ℕ). foundAt (chunkAt m kc) (start (model g) j)) on-one
+          ∙ sym (lookup-here profile g v o (k .new .fine) (chunkAt m kc) old .0),
+      λ e. something _ (sym (content-is profile g v o (k .new) ∙ ap contentIn old) ∙ e),
+    )
 
 -- every other pair
 keeps : (m : Model) (e : Edit) (v k : ℕ) → Sound m → Applies m e → OtherPair e v k → lookup (edited m e) v k ≡ lookup m v k

@@ -1,17 +1,17 @@
 -- 02, P13, of the code: edits/specs/TwoEditors says both sentences, and what they do not claim. Read Acts for what a call of the code is. They hold since each
 -- function's contract is `Called` (DemandThree), and edits/proofs/TwoEditors has them of whatever the definitions make of a run.
 use mathlib.Core.Path.{_≡_, sym, ap, subst, _∙_}
-use Prim.Native.Nat.{ℕ, _+_}
+use Prim.Native.Nat.{ℕ}
 use mathlib.Core.List.{List, [], _∷_, map}
 use Rattle.blorb.specs.All.{All}
 use Rattle.blorb.specs.Bytes.{Byte}
 use Rattle.blorb.specs.Verdict.{accept}
 use Rattle.blorb.specs.Rules.{rulesOf}
 use Rattle.edits.specs.Edit.{Edit, replace}
-use Rattle.edits.specs.Run.{State, fileIn, Call, edit, CallOk, fault, step, run}
+use Rattle.edits.specs.Run.{State, Call, edit, CallOk, fault, step, run}
 use Rattle.edits.specs.Demand3.{Begins, listAfter}
-use Rattle.edits.specs.TwoEditors.{SameFile, NamesOther, grown, shrunk}
-use Rattle.edits.proofs.TwoEditors.{replacement-commutes, length-after}
+use Rattle.edits.specs.TwoEditors.{SameFile, NamesOther, LengthIs}
+use Rattle.edits.proofs.TwoEditors.{replacement-commutes, later-wins, length-after}
 use Rattle.editor.specs.declared.Outcome.the-variants.{Done}
 use Rattle.editor.specs.Called.{verdictOf}
 use Rattle.editor.specs.Runs as runs
@@ -79,12 +79,35 @@ code-commutes profile s u n t d e bytes ne w =
     (record { a-first = p .one; then-b = p .two; b-first = q .one; then-a = q .two }) in
     rw (p .ends, q .ends) c
 
+-- "The later wins": two calls of the code that replace one resource, x and then y from s, leave the file that y's call alone leaves, made from s too.
+pub record LaterCalls (profile : ℕ) (s : State) (a b : Call) : Type 0 where
+  pub first : Act
+  pub then-later : Act
+  pub later : Act
+  pub both : Follows profile s (first ∷ (then-later ∷ []))
+  pub alone : Follows profile s (later ∷ [])
+  pub made-first : Made a first
+  pub made-then-later : Made b then-later
+  pub made-later : Made b later
+
+pub code-later-wins : (profile : ℕ) (s : State) (u n t : ℕ) (d : List ℕ) (x : ℕ) (y : List ℕ) → All Byte (s .buffer)
+    → (w : LaterCalls profile s (edit (replace u n t d)) (edit (replace u n x y)))
+    → SameFile (endOf s (map turnOf (w .first ∷ (w .then-later ∷ [])))) (endOf s (map turnOf (w .later ∷ [])))
+code-later-wins profile s u n t d x y bytes w =
+    let R = rulesOf profile in
+    let b : Call = edit (replace u n x y) in
+    let p = pair profile s (edit (replace u n t d)) b (w .first) (w .then-later) (w .both) (w .made-first) (w .made-then-later) in
+    let r : Ran profile s (turnOf (w .later) ∷ []) = ran profile s (w .later ∷ []) (w .alone) in
+    let q : fault R s b ≡ accept = rw (← w .made-later .asked) (sym (r .0 .outcome) ∙ ap verdictOf (w .made-later .done)) in
+    let e : endOf s (map turnOf (w .later ∷ [])) ≡ run R s (b ∷ []) = rw (← w .made-later .asked) (ran-end profile s (turnOf (w .later) ∷ []) r) in
+    rw (p .ends, e) (later-wins R s u n t d x y bytes (subst CallOk (w .made-first .asked) (bounded (w .first))) (p .one) (p .two) q)
+
 -- the edits of a run that were not taken back: the ledger's list
 abbrev pub listOf : (profile : ℕ) → State → List Act → List Edit
 listOf profile s xs = listAfter (rulesOf profile) s (map runs.callOf (map turnOf xs))
 
 -- "After any run the file's length is its starting length plus, for each edit not taken back, its own change."
 pub code-length : (profile : ℕ) (s : State) (xs : List Act) → Begins (rulesOf profile) s → Follows profile s xs
-    → endOf s (map turnOf xs) .L + shrunk (fileIn s) (listOf profile s xs) ≡ s .L + grown (fileIn s) (listOf profile s xs)
+    → LengthIs (endOf s (map turnOf xs) .L) s (listOf profile s xs)
 code-length profile s xs b f =
     rw (ran-end profile s (map turnOf xs) (ran profile s xs f)) (length-after (rulesOf profile) s (map runs.callOf (map turnOf xs)) b (all-bounded xs))

@@ -49,9 +49,9 @@ DataBytes (replace u n t d) = t ≡ FORM → All Byte d
 DataBytes (remove u n) = Unit {0}
 DataBytes (link v o u n) = Unit {0}
 
--- the file f holds the same for both pairs, and that is something
+-- the file f holds the same for both pairs, at the same place: the lookups give one type, start and length; and that is something
 abbrev pub HoldsAlike : (profile : ℕ) → List ℕ → ℕ → ℕ → ℕ → ℕ → Type 0
-HoldsAlike profile f u n v o = (contentOf profile f u n ≡ contentOf profile f v o) × (contentOf profile f v o ≡ nothing → ⊥)
+HoldsAlike profile f u n v o = (lookupOf profile f u n ≡ lookupOf profile f v o) × (contentOf profile f v o ≡ nothing → ⊥)
 
 -- what an edit leaves for its own pair in the file f after it: the type and data that were given, exactly ("the chunk in the same
 -- position takes the new type and data"), of a 'FORM' its head included ("take the whole file likewise", 02, P3), or no entry ("the entry goes";

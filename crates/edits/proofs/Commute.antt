@@ -22,7 +22,7 @@ use Rattle.edits.specs.TwoEditors.{Other, NamesOther}
 use Rattle.edits.proofs.Applies.{Applies}
 use Rattle.edits.proofs.UndoLaws.{or-false}
 use Rattle.edits.proofs.FitLaws.{find-pair}
-use Rattle.edits.proofs.ReadBack.{same}
+use Rattle.edits.proofs.ReadBack.{same, chunkOn, on-find, on-with}
 
 -- no other entry stands on a chunk that is not shared
 other-chunk : (k : ℕ) (rs : List Ref) (i j : ℕ) → uses k (without i rs) ≡ false → j < length rs → i ≢ j → getD rs j noRef .chunk ≢ k
@@ -54,31 +54,10 @@ not-same u n v o ne = go (eqb v u) (eqb o n) refl refl
     go true false p q = refl
     go false c p q = refl
 
--- the chunk of an entry by its pair, read along the index
-chunkOn : ℕ → ℕ → List Ref → ℕ
-chunkOn u n [] = 0
-chunkOn u n (r ∷ rs) = cond (same r u n) (r .chunk) (chunkOn u n rs)
-
-on-find : (u n : ℕ) (rs : List Ref) → getD rs (find u n rs) noRef .chunk ≡ chunkOn u n rs
-unfolding find chunkOn
-on-find u n [] = refl
-on-find u n (r ∷ rs) = go (same r u n) (on-find u n rs)
-  where
-    go : (b : Bool) → getD rs (find u n rs) noRef .chunk ≡ chunkOn u n rs
-        → getD (r ∷ rs) (cond b 0 (suc (find u n rs))) noRef .chunk ≡ cond b (r .chunk) (chunkOn u n rs)
-    go true ih = refl
-    go false ih = ih
-
 on-last : (u n : ℕ) (x : Ref) (rs : List Ref) → same x u n ≡ false → chunkOn u n (rs ++ (x ∷ [])) ≡ chunkOn u n rs
 unfolding chunkOn
 on-last u n x [] h = rw h
 on-last u n x (r ∷ rs) h = rw (on-last u n x rs h)
-
-on-with : (u n i : ℕ) (x : Ref) (rs : List Ref) → same x u n ≡ false → chunkOn u n (with-at i x rs) ≡ chunkOn u n rs
-unfolding chunkOn with-at
-on-with u n zero x rs h = rw h
-on-with u n (suc i) x [] h = rw h
-on-with u n (suc i) x (r ∷ rs) h = rw (on-with u n i x rs h)
 
 on-without : (u n i : ℕ) (rs : List Ref) → i < length rs → same (getD rs i noRef) u n ≡ false → chunkOn u n (without i rs) ≡ chunkOn u n rs
 unfolding chunkOn without

@@ -18,11 +18,12 @@ use Rattle.blorb.proofs.Checks.{and-both}
 use Rattle.blorb.proofs.Places.{lower-start}
 use Rattle.blorb.proofs.ModelLaws.{entries, length-file}
 use Rattle.blorb.proofs.VerdictLaws.{inOrder}
-use Rattle.edits.specs.Edit.{with-at, anyUpTo, linkPlace, entered, linked, link}
+use Rattle.edits.specs.Edit.{with-at, upTo, anyUpTo, linkPlace, entered, linked, link}
 use Rattle.edits.specs.Journal.{recOf}
 use Rattle.edits.specs.Starts.{moved}
 use Rattle.edits.proofs.UndoLaws.{or-false}
 use Rattle.edits.proofs.FitLaws.{linked-start, linkPlace-le}
+use Rattle.edits.proofs.OrderLaws.{up-to-no, up-to-yes}
 use Rattle.edits.proofs.InsertJudged.{length-with}
 use Rattle.edits.proofs.InsertStarts.{starts-entered}
 use Rattle.edits.proofs.JudgedLaws.{chunk-in}
@@ -50,8 +51,8 @@ link-record m v o u n = (refl, linked-start m u n (refAt m (find v o (m .refs)) 
 beyond : (k : ℕ) (rs : List Ref) (j : ℕ) → anyUpTo k rs ≡ false → j < length rs → k < getD rs j noRef .chunk
 unfolding anyUpTo
 beyond k [] j e h = absurd (not-suc-le-zero h)
-beyond k (r ∷ rs) zero e h = leb-false (r .chunk) k (or-false (leb (r .chunk) k) (anyUpTo k rs) e .0)
-beyond k (r ∷ rs) (suc j) e h = beyond k rs j (or-false (leb (r .chunk) k) (anyUpTo k rs) e .1) (le-of-suc-le-suc h)
+beyond k (r ∷ rs) zero e h = up-to-no k r (or-false (upTo k r) (anyUpTo k rs) e .0)
+beyond k (r ∷ rs) (suc j) e h = beyond k rs j (or-false (upTo k r) (anyUpTo k rs) e .1) (le-of-suc-le-suc h)
 
 pub link-behind : (k : ℕ) (rs : List Ref) (j : ℕ) → linkPlace k rs ≤ j → j < length rs → k < getD rs j noRef .chunk
 unfolding linkPlace
@@ -78,11 +79,11 @@ place-some k (r ∷ rs) h = rw h (omega arith)
 pub link-last : (k : ℕ) (rs : List Ref) (j : ℕ) → linkPlace k rs ≡ suc j → getD rs j noRef .chunk ≤ k
 unfolding linkPlace anyUpTo
 link-last k [] j e = absurd (omega arith)
-link-last k (r ∷ rs) j e = go j (leb (r .chunk) k) refl (anyUpTo k rs) refl e (λ i. link-last k rs i)
+link-last k (r ∷ rs) j e = go j (upTo k r) refl (anyUpTo k rs) refl e (λ i. link-last k rs i)
   where
-    go : (j : ℕ) (a : Bool) → leb (r .chunk) k ≡ a → (b : Bool) → anyUpTo k rs ≡ b → cond (a || b) (suc (linkPlace k rs)) 0 ≡ suc j
+    go : (j : ℕ) (a : Bool) → upTo k r ≡ a → (b : Bool) → anyUpTo k rs ≡ b → cond (a || b) (suc (linkPlace k rs)) 0 ≡ suc j
         → ((i : ℕ) → linkPlace k rs ≡ suc i → getD rs i noRef .chunk ≤ k) → getD (r ∷ rs) j noRef .chunk ≤ k
-    go zero true p b q e ih = leb-true (r .chunk) k p
+    go zero true p b q e ih = up-to-yes k r p
     go zero false p true q e ih = absurd (omega (arith, place-some k rs q))
     go zero false p false q e ih = absurd (omega arith)
     go (suc j) true p true q e ih = ih j (omega arith)

@@ -15,7 +15,7 @@ use Rattle.blorb.specs.Queries.{without}
 use Rattle.blorb.proofs.Checks.{and-both, both-true}
 use Rattle.edits.proofs.UndoLaws.{or-false}
 use Rattle.blorb.proofs.VerdictLaws.{inOrder}
-use Rattle.edits.specs.Edit.{with-at, lower, raise, anyUpTo, linkPlace}
+use Rattle.edits.specs.Edit.{with-at, lower, raise, upTo, anyUpTo, linkPlace}
 
 -- from an earlier chunk on
 order-from : (j k : ℕ) (rs : List Ref) → j ≤ k → inOrder k rs ≡ true → inOrder j rs ≡ true
@@ -113,16 +113,23 @@ order-up c j k (r ∷ rs) h o =
 pub order-raise : (c : ℕ) (rs : List Ref) → inOrder 0 rs ≡ true → inOrder 0 (map (raise c) rs) ≡ true
 order-raise c rs o = order-up c 0 0 rs (omega arith) o
 
+-- what the test of a link's place tells of an entry: it stands behind chunk k, or it does not
+pub up-to-no : (k : ℕ) (r : Ref) → upTo k r ≡ false → k < r .chunk
+up-to-no k r e = leb-false (r .chunk) k e
+
+pub up-to-yes : (k : ℕ) (r : Ref) → upTo k r ≡ true → r .chunk ≤ k
+up-to-yes k r e = leb-true (r .chunk) k e
+
 -- in an index in order, an entry that isn't behind chunk k tells that of all before it
 up-to-first : (c k : ℕ) (rs : List Ref) → inOrder c rs ≡ true → anyUpTo k rs ≡ true → c ≤ k
 unfolding inOrder anyUpTo
 up-to-first c k [] o h = let z : _≡_ {A = Bool} false true = h in let y : _≡_ {A = ℕ} 0 1 = cc in absurd (omega arith)
 up-to-first c k (r ∷ rs) o h =
     let p = and-both (leb c (r .chunk)) (inOrder (r .chunk) rs) o in
-    go (leb (r .chunk) k) refl h (λ q. up-to-first (r .chunk) k rs (p .1) q) (leb-true c (r .chunk) (p .0))
+    go (upTo k r) refl h (λ q. up-to-first (r .chunk) k rs (p .1) q) (leb-true c (r .chunk) (p .0))
   where
-    go : (b : Bool) → leb (r .chunk) k ≡ b → b || anyUpTo k rs ≡ true → (anyUpTo k rs ≡ true → r .chunk ≤ k) → c ≤ r .chunk → c ≤ k
-    go true e h f l = omega (arith, leb-true (r .chunk) k e)
+    go : (b : Bool) → upTo k r ≡ b → b || anyUpTo k rs ≡ true → (anyUpTo k rs ≡ true → r .chunk ≤ k) → c ≤ r .chunk → c ≤ k
+    go true e h f l = omega (arith, up-to-yes k r e)
     go false e h f l = omega (arith, f h)
 
 -- a link's entry goes in behind the last one that isn't behind its chunk
@@ -137,6 +144,6 @@ order-linked c k x (r ∷ rs) e h o =
         → (r .chunk ≤ k → inOrder (r .chunk) (with-at (linkPlace k rs) x rs) ≡ true) → inOrder c (with-at (cond b (suc (linkPlace k rs)) 0) x (r ∷ rs)) ≡ true
     go true q a o f = both-true _ _ a (f (up-to-first (r .chunk) k (r ∷ rs) (both-true _ _ (le-leb (r .chunk) (r .chunk) (omega arith)) o) q))
     go false q a o f =
-        let n : leb (r .chunk) k ≡ false = (unfold anyUpTo in or-false (leb (r .chunk) k) (anyUpTo k rs) q .0) in
+        let n : upTo k r ≡ false = (unfold anyUpTo in or-false (upTo k r) (anyUpTo k rs) q .0) in
         both-true _ _ (le-leb c (x .chunk) (omega (arith, e)))
-        (both-true _ _ (le-leb (x .chunk) (r .chunk) (omega (arith, e, leb-false (r .chunk) k n))) o)
+        (both-true _ _ (le-leb (x .chunk) (r .chunk) (omega (arith, e, up-to-no k r n))) o)

@@ -205,3 +205,47 @@ link-reads m v o u n h none =
 pub link-keeps : (m : Model) (k u n u′ n′ : ℕ) → (eqb u u′ && eqb n n′) ≡ false → lookup (linked m k u n) u′ n′ ≡ lookup m u′ n′
 unfolding lookup linked entered
 link-keeps m k u n u′ n′ ne = look-with (m .chunks) u′ n′ (linkPlace k (m .refs)) (record { usage = u; number = n; chunk = k }) (m .refs) ne
+
+-- the chunk of an entry by its pair, read along the index
+unfoldable pub chunkOn : ℕ → ℕ → List Ref → ℕ
+chunkOn u n [] = 0
+chunkOn u n (r ∷ rs) = cond (same r u n) (r .chunk) (chunkOn u n rs)
+
+pub on-find : (u n : ℕ) (rs : List Ref) → getD rs (find u n rs) noRef .chunk ≡ chunkOn u n rs
+unfolding find chunkOn
+on-find u n [] = refl
+on-find u n (r ∷ rs) = go (same r u n) (on-find u n rs)
+  where
+    go : (b : Bool) → getD rs (find u n rs) noRef .chunk ≡ chunkOn u n rs
+        → getD (r ∷ rs) (cond b 0 (suc (find u n rs))) noRef .chunk ≡ cond b (r .chunk) (chunkOn u n rs)
+    go true ih = refl
+    go false ih = ih
+
+pub on-with : (u n i : ℕ) (x : Ref) (rs : List Ref) → same x u n ≡ false → chunkOn u n (with-at i x rs) ≡ chunkOn u n rs
+unfolding chunkOn with-at
+on-with u n zero x rs h = rw h
+on-with u n (suc i) x [] h = rw h
+on-with u n (suc i) x (r ∷ rs) h = rw (on-with u n i x rs h)
+
+on-new : (u n i : ℕ) (x : Ref) (rs : List Ref) → same x u n ≡ true → pairIn u n rs ≡ false → chunkOn u n (with-at i x rs) ≡ x .chunk
+unfolding chunkOn with-at pairIn
+on-new u n zero x rs e none = rw e
+on-new u n (suc i) x [] e none = rw e
+on-new u n (suc i) x (r ∷ rs) e none = let o = or-false (same r u n) (pairIn u n rs) none in rw (o .0) (on-new u n i x rs e (o .1))
+
+-- and from the same place: after a link to chunk k the new pair is found on chunk k, and any other pair on the chunk that it was on
+pub link-on-new : (m : Model) (k u n : ℕ) → pairIn u n (m .refs) ≡ false → refAt (linked m k u n) (find u n (linked m k u n .refs)) .chunk ≡ k
+unfolding linked entered
+link-on-new m k u n none =
+    let x : Ref = record { usage = u; number = n; chunk = k } in
+    on-find u n (with-at (linkPlace k (m .refs)) x (m .refs))
+    ∙ on-new u n (linkPlace k (m .refs)) x (m .refs) (rw (eq-eqb u u refl, eq-eqb n n refl)) none
+
+pub link-on-old : (m : Model) (k u n u′ n′ : ℕ) → (eqb u u′ && eqb n n′) ≡ false
+    → refAt (linked m k u n) (find u′ n′ (linked m k u n .refs)) .chunk ≡ refAt m (find u′ n′ (m .refs)) .chunk
+unfolding linked entered
+link-on-old m k u n u′ n′ ne =
+    let x : Ref = record { usage = u; number = n; chunk = k } in
+    on-find u′ n′ (with-at (linkPlace k (m .refs)) x (m .refs))
+    ∙ on-with u′ n′ (linkPlace k (m .refs)) x (m .refs) ne
+    ∙ sym (on-find u′ n′ (m .refs))

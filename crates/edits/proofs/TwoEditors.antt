@@ -98,15 +98,15 @@ pub replacements-commute : (R : Rules) (s : State) (u n t : ℕ) (d : List ℕ) 
     → BothOrders R s (edit (replace u n t d)) (edit (replace v o x y)) → EitherOrder R s (edit (replace u n t d)) (edit (replace v o x y))
 replacements-commute R s u n t d v o x y = replacement-commutes R s u n t d (replace v o x y)
 
--- Of two replacements of one resource that both succeed the file has the later one alone.
-pub later-wins : (R : Rules) (s : State) (u n t : ℕ) (d : List ℕ) (x : ℕ) (y : List ℕ)
-    → All Byte (s .buffer) → ArgsOk (replace u n t d) → BothOrders R s (edit (replace u n t d)) (edit (replace u n x y))
-    → LaterWins R s (edit (replace u n t d)) (edit (replace u n x y))
+-- Of two replacements of one resource the file has the later one alone, where both succeed and the later one succeeds without the first too.
+pub later-wins : (R : Rules) (s : State) (u n t : ℕ) (d : List ℕ) (x : ℕ) (y : List ℕ) → All Byte (s .buffer) → ArgsOk (replace u n t d)
+    → fault R s (edit (replace u n t d)) ≡ accept → fault R (step R s (edit (replace u n t d))) (edit (replace u n x y)) ≡ accept
+    → fault R s (edit (replace u n x y)) ≡ accept → LaterWins R s (edit (replace u n t d)) (edit (replace u n x y))
 unfolding run editedFile
-later-wins R s u n t d x y bytes a w =
-    let p = told R s (all-take Byte (s .L) (s .buffer) bytes) (replace u n t d) a (w .a-first) in
+later-wins R s u n t d x y bytes a first then-later alone =
+    let p = told R s (all-take Byte (s .L) (s .buffer) bytes) (replace u n t d) a first in
     holds-same _ _ _ _ (ap file (edited-twice (model (fileIn s)) u n t d x y))
-    (two R s (replace u n t d) (replace u n x y) p (w .then-b)) (one R s (replace u n x y) (w .b-first))
+    (two R s (replace u n t d) (replace u n x y) p then-later) (one R s (replace u n x y) alone)
 
 -- an edit's own change
 size-padded : (c : Chunk) → size c ≡ 8 + padded c

@@ -61,10 +61,14 @@ inserted m i k u n c = record {
   chunks = with-at k c (m .chunks);
 }
 
--- an entry of rs stands on chunk k or on one before it: its start isn't greater
+-- an entry stands on chunk k or on one before it: its start isn't greater
+abbrev pub upTo : ℕ → Ref → Bool
+upTo k r = leb (r .chunk) k
+
+-- an entry of rs does
 unfoldable pub anyUpTo : ℕ → List Ref → Bool
 anyUpTo k [] = false
-anyUpTo k (r ∷ rs) = leb (r .chunk) k || anyUpTo k rs
+anyUpTo k (r ∷ rs) = upTo k r || anyUpTo k rs
 
 -- "after the last entry whose start isn't greater than the chunk's" (02, P8), the chunk being k: behind all entries that have such a one at or
 -- behind them

@@ -90,6 +90,10 @@ module _ (f₀ : List ℕ) where
   shrunk [] = 0
   shrunk (e ∷ es) = shrunk es + falls (model (ledgerFile f₀ es)) e
 
--- "after any run the file's length is its starting length plus, for each edit not taken back, its own change": with what was taken on the left
+-- the length L is that of s plus, for each edit of the list, its own change: with what was taken on the left
+abbrev pub LengthIs : ℕ → State → List Edit → Type 0
+LengthIs L s es = L + shrunk (fileIn s) es ≡ s .L + grown (fileIn s) es
+
+-- "after any run the file's length is its starting length plus, for each edit not taken back, its own change"
 abbrev pub LengthAfter : Rules → State → List Call → Type 0
-LengthAfter R s cs = run R s cs .L + shrunk (fileIn s) (listAfter R s cs) ≡ s .L + grown (fileIn s) (listAfter R s cs)
+LengthAfter R s cs = LengthIs (run R s cs .L) s (listAfter R s cs)

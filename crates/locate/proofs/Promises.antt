@@ -20,6 +20,7 @@ use Rattle.reader.specs.Reading.{readOf}
 use Rattle.reader.specs.declared.Reading.{Reading}
 use Rattle.reader.specs.declared.Reading.the-variants.{Accepted, Refused as No}
 use Rattle.reader.proofs.AskLaws.{Good, accepted}
+use Rattle.reader.proofs.Promises.{unknown-answers}
 use Rattle.locate.specs.Located.{Spot, spotAt, pickSpot, ofType, locatedIn, locatedOf, dataAt}
 use Rattle.locate.specs.declared.Located.{Located}
 use Rattle.locate.specs.declared.Located.the-variants.{Nothing, One, More, Refused}
@@ -108,3 +109,7 @@ module _ (profile : ℕ) (f : List ℕ) (t : ℕ) (r : Located) (e : locatedOf p
   -- and accepted
   pub located-accepts : Unrefused (profileVerdict profile f ≡ accept) r
   located-accepts = of-accepted (profileVerdict profile f ≡ accept) (λ n g. g .verdict)
+
+-- "Refusals: 52 an unknown profile, before all others" (02, P12): whatever type is looked for in whatever file
+pub located-unknown : (profile : ℕ) (f : List ℕ) (t : ℕ) → 1 < profile → locatedOf profile f t ≡ Refused 52 0
+located-unknown profile f t h = sym (located-no profile f t 52 0 (unknown-answers profile f h .0))

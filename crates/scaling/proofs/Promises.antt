@@ -1,6 +1,6 @@
 -- What the scaled sides keep, of any file and any answer that is not a refusal: all of it follows from the definition, so from the contract of the call.
 use mathlib.Core.Path.{_≡_, refl, sym, ap, _∙_}
-use Prim.Native.Nat.{ℕ, _≤_}
+use Prim.Native.Nat.{ℕ, _≤_, _<_}
 use mathlib.Core.List.{List, [], _∷_}
 use mathlib.Core.Logic.{_⊎_, inl, inr}
 use mathlib.Core.Bool.{Bool, true, false, _&&_, cond}
@@ -15,6 +15,7 @@ use Rattle.reader.specs.declared.Reading.the-variants as reading
 use Rattle.locate.specs.Located.{Spot, ofType, locatedIn, locatedBy, locatedOf, dataAt}
 use Rattle.locate.specs.declared.Located.{Located}
 use Rattle.locate.specs.declared.Located.the-variants as located
+use Rattle.locate.proofs.Promises.{located-unknown}
 use Rattle.ratio.specs.Ratio.{over, sideBy}
 use Rattle.ratio.proofs.OrderLaws.{side-mono}
 use Rattle.ratio.proofs.Promises.{RoundedDown, Sound, rounded-down, ratio-grows, side-between, side-own}
@@ -202,3 +203,8 @@ refused-by profile f a k p e = go (profileVerdict profile f) e
         → (readBy v (length f) (length (indexOf f)) ≡ reading.Refused k p) ⊎ ((31 ≤ k) × (k ≤ 33))
     go accept e = inr (spots-refused f a k p (ofType Reso (base (length (model f .refs))) (model f .chunks)) e)
     go (refuse i j) e = inl cc
+
+-- under an unknown profile the answer is 52, before all others (02, P12)
+pub unknown-scaled : (profile : ℕ) (f : List ℕ) (a : Asking) → 1 < profile → scaledOf profile f a ≡ Refused 52 0
+unfolding scaledOf
+unknown-scaled profile f a h = rw (located-unknown profile f Reso h)
