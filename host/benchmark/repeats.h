@@ -1,6 +1,7 @@
 /*
  * The search for a repeated key in a long list, as the library makes it, in C: (a) of the benchmark. Keys are marked block by block in a small array,
- * and earlier entries are held against the marks. Each block has a factor of its own; where the marks mislead too often, the next round marks by another.
+ * and earlier entries are held against the marks. Those whose marks are all set are the suspects, which one pass over the block settles. Each block has a
+ * factor of its own; where there is no room for another suspect, the next round marks by another.
  */
 #ifndef REPEATS_H
 #define REPEATS_H
@@ -14,7 +15,7 @@ struct list {
     bool texts;
 };
 
-enum { MARK_WORDS = 896, MARK_BLOCK = 1792, MISLED = 64 };
+enum { MARK_WORDS = 896, MARK_BLOCK = 1792, SUSPECTS = 32 };
 #define STIR ((uint64_t)2246822519)
 
 static inline uint64_t key_at(const struct list *l, const uint8_t *at)
@@ -65,13 +66,25 @@ static inline uint64_t next_factor(uint64_t f)
     return f * 48271 % 1000000007 + 1000000000;
 }
 
-/* Whether one of the n entries from `from` on has this key. */
-static inline bool has_key(const struct list *l, const uint8_t *from, size_t n, uint64_t k)
+/* Whether k is one of the suspects. All are looked at, so that several can be compared at once. */
+static inline bool is_held(const uint64_t *suspects, size_t count, uint64_t k)
 {
-    for (; n > 0; n--, from = next_at(l, from))
-        if (key_at(l, from) == k)
-            return true;
-    return false;
+    bool there = false;
+
+    for (size_t i = 0; i < count; i++)
+        there |= suspects[i] == k;
+    return there;
+}
+
+static inline size_t place_of(const uint64_t *suspects, size_t count, uint64_t k)
+{
+    size_t i = 0;
+
+    if (!is_held(suspects, count, k))
+        return count;
+    while (i < count && suspects[i] != k)
+        i++;
+    return i;
 }
 
 static inline void mark(const struct list *l, const uint8_t *from, size_t n, uint64_t f, uint64_t marks[MARK_WORDS])
@@ -83,41 +96,66 @@ static inline void mark(const struct list *l, const uint8_t *from, size_t n, uin
     }
 }
 
+/* Whether a suspect is the key of two of the n entries from `from` on. */
+static inline bool held_again(const struct list *l, const uint8_t *from, size_t n, const uint64_t *suspects, size_t count)
+{
+    bool seen[SUSPECTS + 1] = {false};
+
+    for (; count > 0 && n > 0; n--, from = next_at(l, from)) {
+        size_t i = place_of(suspects, count, key_at(l, from));
+        if (seen[i])
+            return true;
+        seen[i] = i < count;
+    }
+    return false;
+}
+
 /* Whether one of the n entries from entry b on, which stands at `from`, has the key of an earlier one of them; `end` is what stands behind them. */
 static inline bool repeats_inside(const struct list *l, size_t b, const uint8_t *from, size_t n, const uint8_t **end)
 {
-    uint64_t marks[MARK_WORDS], f = first_factor(b);
+    uint64_t marks[MARK_WORDS], suspects[SUSPECTS], f = first_factor(b);
     size_t j = 0;
 
     for (const uint8_t *at = *end = from; j < n; f = next_factor(f)) {
+        size_t count = 0;
         mark(l, from, j, f, marks);
-        for (int left = MISLED; j < n && left > 0; j++, *end = at = next_at(l, at)) {
+        for (; j < n && count < SUSPECTS; j++, *end = at = next_at(l, at)) {
             uint64_t k = key_at(l, at), m = mixed(f, k), bits = mark_bits(m), *word = &marks[mark_word(m)];
-            bool hit = (*word & bits) == bits;
-            left -= hit;
-            if (hit && has_key(l, from, j, k))
-                return true;
+            suspects[count] = k;
+            count += (*word & bits) == bits;
             *word |= bits;
         }
+        if (held_again(l, from, j, suspects, count))
+            return true;
     }
+    return false;
+}
+
+/* Whether one of the n entries from `from` on has the key of a suspect. */
+static inline bool any_held(const struct list *l, const uint8_t *from, size_t n, const uint64_t *suspects, size_t count)
+{
+    for (; count > 0 && n > 0; n--, from = next_at(l, from))
+        if (is_held(suspects, count, key_at(l, from)))
+            return true;
     return false;
 }
 
 /* Whether one of the n entries from entry b on, which stands at `from`, has the key of one before b. */
 static inline bool repeats_below(const struct list *l, size_t b, const uint8_t *from, size_t n)
 {
-    uint64_t marks[MARK_WORDS], f = first_factor(b);
+    uint64_t marks[MARK_WORDS], suspects[SUSPECTS], f = first_factor(b);
     const uint8_t *at = l->base;
 
     for (size_t i = 0; i < b; f = next_factor(f)) {
+        size_t count = 0;
         mark(l, from, n, f, marks);
-        for (int left = MISLED; i < b && left > 0; i++, at = next_at(l, at)) {
+        for (; i < b && count < SUSPECTS; i++, at = next_at(l, at)) {
             uint64_t k = key_at(l, at), m = mixed(f, k), bits = mark_bits(m);
-            bool hit = (marks[mark_word(m)] & bits) == bits;
-            left -= hit;
-            if (hit && has_key(l, from, n, k))
-                return true;
+            suspects[count] = k;
+            count += (marks[mark_word(m)] & bits) == bits;
         }
+        if (any_held(l, from, n, suspects, count))
+            return true;
     }
     return false;
 }

@@ -1,4 +1,4 @@
--- Marks that are set stay set, so an entry whose marks are not all set has none of the marked keys. This is all that is known of the marks.
+-- Marks that are set stay set, so each marked entry has all its marks set. This is all that is known of the marks.
 use Prim.Native.Nat.{ℕ, _+_, _*_, _%_, _^_, _≤_, _<_}
 use mathlib.Core.Path.{_≡_, ap, sym, _∙_, subst}
 use mathlib.Core.List.{List}
@@ -11,11 +11,10 @@ use lib.Seq.{getD-set-same, getD-set-other}
 use lib.Pow.{pow-lt}
 use lib.Bits.{bitAnd, bitOr}
 use Rattle.repeats.specs.Marks.{wordOf, bitsOf, Covers, Marked}
-use Rattle.repeats.specs.Repeats.{Without}
 use Rattle.repeats.proofs.Bits.{cover-more, cover-own}
 use Rattle.repeats.proofs.SearchLaws.{side}
 
-same : (x y : ℕ) → (x ≡ y) ⊎ (x ≡ y → ⊥)
+pub same : (x y : ℕ) → (x ≡ y) ⊎ (x ≡ y → ⊥)
 same x y =
     ⊎-elim
     (λ (l : x < y). inr (λ q. absurd (omega arith)))
@@ -36,10 +35,6 @@ module _ (k : ℕ → ℕ) where
   unfolding Marked
   marked-none f ms b j l m = absurd (omega arith)
 
-  unmarked : (f : ℕ) (ms : List ℕ) (v b e j : ℕ) → j ≤ e → Marked ms f k b e → (Covers (getD ms (wordOf f v) 0) (bitsOf f v) → ⊥) → Without k v b j
-  unfolding Marked Without
-  unmarked f ms v b e j h w n x l m q = n (subst (λ (z : ℕ). Covers (getD ms (wordOf f z) 0) (bitsOf f z)) q (w x l (omega arith)))
-
   abbrev with : ℕ → List ℕ → ℕ → List ℕ
   with f ms j = set ms (wordOf f (k j)) (bitOr (getD ms (wordOf f (k j)) 0) (bitsOf f (k j)))
 
@@ -51,10 +46,6 @@ module _ (k : ℕ → ℕ) where
       (ap (λ (z : ℕ). bitAnd z (bitsOf f (k j))) (getD-set-same ms (wordOf f (k j)) _ 0 h) ∙ cover-own (bitsOf f (k j)) (getD ms (wordOf f (k j)) 0)))
       (λ (y : x < j). kept ms (wordOf f (k j)) (wordOf f (k x)) (bitsOf f (k j)) (bitsOf f (k x)) h (w x l y))
       (eq-or-lt-of-le (le-of-suc-le-suc (subst (λ (z : ℕ). x < z) (add-one j) m)))
-
-  pub unmarked-at : (f : ℕ) (ms : List ℕ) (v w b e j : ℕ) → w ≡ wordOf f v → j ≤ e → Marked ms f k b e → (Covers (getD ms w 0) (bitsOf f v) → ⊥)
-      → Without k v b j
-  unmarked-at f ms v w b e j p h m n = unmarked f ms v b e j h m (λ q. n (ap (λ (z : ℕ). bitAnd (getD ms z 0) (bitsOf f v)) p ∙ q))
 
   pub marked-at : (f : ℕ) (ms : List ℕ) (b j v w bits : ℕ) → v ≡ k j → w ≡ wordOf f v → bits ≡ bitsOf f v → length ms ≡ 896 → w < 896
       → Marked ms f k b j

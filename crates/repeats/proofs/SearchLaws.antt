@@ -7,7 +7,6 @@ use native.Mathlib.Omega.{arith}
 use native.Mathlib.Numerals.{add-one}
 use native.Mathlib.Nat.{eq-or-lt-of-le, le-of-suc-le-suc}
 use Rattle.repeats.specs.Repeats.{among, Apart, Across, Without, Below}
-use Rattle.repeats.proofs.Answers.{among-hit}
 
 pub side : (x y : ℕ) → (x < y) ⊎ (y ≤ x)
 side x zero = inr (omega arith)
@@ -28,10 +27,6 @@ module _ (k : ℕ → ℕ) where
       (λ x. w i l x e)
       (eq-or-lt-of-le (le-of-suc-le-suc (subst (λ (x : ℕ). i < x) (add-one j) m)))
 
-  pub without-to : (v b i j : ℕ) → j ≤ i → Without k v b i → Without k v b j
-  unfolding Without
-  without-to v b i j h w x l m e = w x l (omega arith) e
-
   pub apart-none : (b : ℕ) → Apart k b b
   unfolding Apart
   apart-none b i j l m n e = absurd (omega arith)
@@ -47,22 +42,6 @@ module _ (k : ℕ → ℕ) where
   pub across-none : (b e : ℕ) → Across k 0 b e
   unfolding Across
   across-none b e i j l m n q = absurd (omega arith)
-
-  pub across-more : (i b e r : ℕ) → Across k i b e → r ≤ e → Without k (k i) b r → Across k (i + 1) b r
-  unfolding Across Without
-  across-more i b e r a h w x y l m n q =
-      ⊎-elim
-      (λ p. w y m n (sym q ∙ ap k p))
-      (λ z. a x y z m (omega arith) q)
-      (eq-or-lt-of-le (le-of-suc-le-suc (subst (λ (z : ℕ). x < z) (add-one i) l)))
-
-  pub best-among : (i b best r e : ℕ) → i < b → b ≤ r → r ≤ best → (r < best → k r ≡ k i)
-      → (best < e → among k (k best) best ≡ true) → r < e → among k (k r) r ≡ true
-  best-among i b best r e l m h f g x =
-      ⊎-elim
-      (λ q. subst (λ (z : ℕ). z < e → among k (k z) z ≡ true) (sym q) g x)
-      (λ y. among-hit k (k r) r i (omega arith) (sym (f y)))
-      (eq-or-lt-of-le h)
 
   pub apart-join : (b best end : ℕ) → Apart k 0 b → Across k b b best → Apart k b end → best ≤ end → Apart k 0 best
   unfolding Apart Across

@@ -1,5 +1,6 @@
 // The first entry of a list whose key an earlier entry has, by blocks: the keys of a block are marked in a small array, all earlier entries are held
-// against the marks, and only an entry whose marks are all set is compared with the block's keys. Marks mislead at worst: no answer depends on them.
+// against the marks, and only entries whose marks are all set, the suspects, are compared with the block's keys, many in one pass. Marks mislead at
+// worst: no answer depends on them.
 ghost use mathlib.Core.Path.{_≡_};
 ghost use mathlib.Core.Bool.{Bool, true};
 ghost use Prim.Native.Nat.{ℕ, _+_, _*_, _-_, _≤_, _<_, _^_};
@@ -10,6 +11,7 @@ ghost use Rattle.repeats.specs.Keys.{pairKey, rowKey, EntriesInside, ent
 ghost use Rattle.repeats.specs.Source.{keyAt, nextAt, Readable, source, spot, key, Inside};
 ghost use Rattle.repeats.specs.Marks.{stirred, mixed, wordOf, bitsOf, Covers, Marked, Factor};
 ghost use Rattle.repeats.specs.Repeats.{among, firstRepeat, Apart, Across, Without};
+ghost use Rattle.repeats.specs.Suspects.{held, Caught, Earlier, Free, RepeatsHeld, Once};
 
 pub enum First {
     At(usize),
@@ -23,15 +25,15 @@ enum Layout {
     Numbers,
 }
 
-// How far the entries go without a repeat, and where that entry stands.
+// How far the entries go without a repeat, and where the entry behind them stands.
 struct Block {
     end: usize,
     at: usize,
 }
 
-// How far a round came: the first entry that is known to be a repeat, the entry to go on with, and where that one stands.
-struct Round {
-    best: usize,
+// How many suspects a round gathered, the entry to go on with, and where that one stands.
+struct Gathered {
+    count: usize,
     next: usize,
     at: usize,
 }
@@ -122,68 +124,6 @@ fn bits_of(f: u64, k: u64) -> u64
         | bit(m / 281474976710656 % 64)
 }
 
-// The first of the entries b to e, the first of them at `from`, whose key is k; e if there is none.
-fn find_in(
-    s: &[u8],
-    t: &[u32],
-    layout: Layout,
-    base: usize,
-    from: usize,
-    b: usize,
-    e: usize,
-    k: u64,
-) -> usize
-    requires { ⌜ (b ≤ e) × (from ≡ spot (source layout (now s) (now t) base) b) × Inside (source layout (now s) (now t) base) e ⌝ }
-    ensures { λ r. ⌜ (b ≤ r) × (r ≤ e) × Without (key (source layout (now (s .entry)) (now (t .entry)) base)) k b r
-        × (r < e → key (source layout (now (s .entry)) (now (t .entry)) base) r ≡ k) ⌝ }
-{
-    let mut j = b;
-    let mut at = from;
-    while j < e {
-        if key_at(s, t, layout, at) == k {
-            return j;
-        }
-        at = next_at(s, t, layout, at);
-        j += 1;
-    }
-    j
-}
-
-// The same, where `word` is the marks' word of k: without k's bits in it, none of the entries has the key.
-fn seek(
-    s: &[u8],
-    t: &[u32],
-    layout: Layout,
-    base: usize,
-    from: usize,
-    b: usize,
-    e: usize,
-    k: u64,
-    f: u64,
-    word: u64,
-) -> usize
-    requires { ⌜ (b ≤ e) × (from ≡ spot (source layout (now s) (now t) base) b) × Inside (source layout (now s) (now t) base) e
-        × Factor f × ((Covers word (bitsOf f k) → ⊥) → Without (key (source layout (now s) (now t) base)) k b e) ⌝ }
-    ensures { λ r. ⌜ (b ≤ r) × (r ≤ e) × Without (key (source layout (now (s .entry)) (now (t .entry)) base)) k b r
-        × (r < e → key (source layout (now (s .entry)) (now (t .entry)) base) r ≡ k) ⌝ }
-{
-    let bits = bits_of(f, k);
-    if word & bits == bits {
-        find_in(s, t, layout, base, from, b, e, k)
-    } else {
-        e
-    }
-}
-
-// How often a round may still be misled: one less where all of k's marks are set.
-fn spent(left: u64, f: u64, k: u64, word: u64) -> u64
-    requires { ⌜ (0 < left) × Factor f ⌝ }
-    ensures { λ r. ⌜ (left ≤ r + 1) × (r ≤ left) ⌝ }
-{
-    let bits = bits_of(f, k);
-    if word & bits == bits { left - 1 } else { left }
-}
-
 // The factor that the block from entry b on begins with: each block has its own, so that keys chosen against one do not mislead in all.
 fn first_factor(b: usize) -> u64
     ensures { λ r. ⌜ Factor r ⌝ }
@@ -238,9 +178,105 @@ fn mark_all(
     }
 }
 
-// Marks the entries from `start` on, the first of them at `here`, up to e or to the first that repeats one from b on; stops early where the marks have
-// misled too often. The entries b to `start` are marked.
+// 1 where all of k's marks are set in its word, else 0.
+fn covered(f: u64, k: u64, word: u64) -> usize
+    requires { ⌜ Factor f ⌝ }
+    ensures { λ r. ⌜ (r ≤ 1) × (Covers word (bitsOf f k) → r ≡ 1) ⌝ }
+{
+    let bits = bits_of(f, k);
+    if word & bits == bits { 1 } else { 0 }
+}
+
+// Whether k is one of the first `count` suspects. All are looked at, so that several can be compared at once.
+fn is_held(suspects: &[u64; 32], count: usize, k: u64) -> bool
+    requires { ⌜ count ≤ 32 ⌝ }
+    ensures { λ r. ⌜ r ≡ held (now (suspects .entry)) count k ⌝ }
+{
+    let mut there = false;
+    let mut c: usize = 0;
+    while c < count {
+        there = (suspects[c] == k) | there;
+        c += 1;
+    }
+    there
+}
+
+// Marks the entries from `start` on up to e, the first of them at `here`. The keys of those whose marks were all set before become the suspects; stops early
+// where there is no room for another one. The entries b to `start` are marked.
 fn mark_round(
+    s: &[u8],
+    t: &[u32],
+    layout: Layout,
+    base: usize,
+    b: usize,
+    e: usize,
+    here: usize,
+    start: usize,
+    f: u64,
+    marks: &mut [u64; 896],
+    suspects: &mut [u64; 32],
+) -> Gathered
+    requires { ⌜ (b ≤ start) × (start < e) × (here ≡ spot (source layout (now s) (now t) base) start) × Inside (source layout (now s) (now t) base) e
+        × Factor f × (length (now marks) ≡ 896) × (length (now suspects) ≡ 32) × Marked (now marks) f (key (source layout (now s) (now t) base)) b start ⌝ }
+    ensures { λ r. ⌜ (start < r .next) × (r .next ≤ e) × (r .at ≡ spot (source layout (now (s .entry)) (now (t .entry)) base) (r .next))
+        × (r .count ≤ 32) × (length (now (marks .exit)) ≡ 896) × (length (now (suspects .exit)) ≡ 32)
+        × RepeatsHeld (now (suspects .exit)) (r .count) (key (source layout (now (s .entry)) (now (t .entry)) base)) b start (r .next) ⌝ }
+{
+    let mut j = start;
+    let mut at = here;
+    let mut count: usize = 0;
+    while j < e {
+        if count == 32 {
+            return Gathered { count, next: j, at };
+        }
+        let k = key_at(s, t, layout, at);
+        let w = word_of(f, k);
+        let old = marks[w];
+        suspects[count] = k;
+        count += covered(f, k, old);
+        marks[w] = old | bits_of(f, k);
+        at = next_at(s, t, layout, at);
+        j += 1;
+    }
+    Gathered { count, next: j, at }
+}
+
+// The first of the `count` suspects that is k; `count` if there is none.
+fn find_suspect(suspects: &[u64; 32], count: usize, k: u64) -> usize
+    requires { ⌜ count ≤ 32 ⌝ }
+    ensures { λ r. ⌜ (r ≤ count) × Without (λ c. getD (now (suspects .entry)) c 0) k 0 r × (r < count → getD (now (suspects .entry)) r 0 ≡ k) ⌝ }
+{
+    let mut place: usize = 0;
+    while place < count {
+        if suspects[place] == k {
+            return place;
+        }
+        place += 1;
+    }
+    place
+}
+
+// The same, quick where there is none.
+fn place_of(suspects: &[u64; 32], count: usize, k: u64) -> usize
+    requires { ⌜ count ≤ 32 ⌝ }
+    ensures { λ r. ⌜ (r ≤ count) × Without (λ c. getD (now (suspects .entry)) c 0) k 0 r × (r < count → getD (now (suspects .entry)) r 0 ≡ k) ⌝ }
+{
+    if is_held(suspects, count, k) {
+        find_suspect(suspects, count, k)
+    } else {
+        count
+    }
+}
+
+fn one_below(c: usize, count: usize) -> u8
+    ensures { λ r. ⌜ (r ≡ 1 → c < count) × (c < count → r ≡ 1) ⌝ }
+{
+    if c < count { 1 } else { 0 }
+}
+
+// The first of the entries b to e, the first of them at `from`, whose key is one of the first `count` suspects and that of an earlier one of these entries;
+// e if there is none.
+fn first_again(
     s: &[u8],
     t: &[u32],
     layout: Layout,
@@ -248,53 +284,31 @@ fn mark_round(
     from: usize,
     b: usize,
     e: usize,
-    here: usize,
-    start: usize,
-    f: u64,
-    marks: &mut [u64; 896],
-) -> Round
-    requires { ⌜ (b ≤ start) × (start < e) × (from ≡ spot (source layout (now s) (now t) base) b) × Inside (source layout (now s) (now t) base) e
-        × (here ≡ spot (source layout (now s) (now t) base) start) × (length (now marks) ≡ 896) × Factor f
-        × Marked (now marks) f (key (source layout (now s) (now t) base)) b start × Apart (key (source layout (now s) (now t) base)) b start ⌝ }
-    ensures { λ r. ⌜ (b ≤ r .next) × (r .next ≤ r .best) × (r .best ≤ e) × (r .best - r .next < e - start)
-        × (r .at ≡ spot (source layout (now (s .entry)) (now (t .entry)) base) (r .next))
-        × (length (now (marks .exit)) ≡ 896)
-        × Apart (key (source layout (now (s .entry)) (now (t .entry)) base)) b (r .next)
-        × (r .best < e → among (key (source layout (now (s .entry)) (now (t .entry)) base))
-        (key (source layout (now (s .entry)) (now (t .entry)) base) (r .best)) (r .best) ≡ true) ⌝ }
+    suspects: &[u64; 32],
+    count: usize,
+) -> usize
+    requires { ⌜ (b ≤ e) × (from ≡ spot (source layout (now s) (now t) base) b) × Inside (source layout (now s) (now t) base) e × (count ≤ 32) ⌝ }
+    ensures { λ r. ⌜ (b ≤ r) × (r ≤ e) × Once (now (suspects .entry)) count (key (source layout (now (s .entry)) (now (t .entry)) base)) b r
+        × (r < e → among (key (source layout (now (s .entry)) (now (t .entry)) base))
+        (key (source layout (now (s .entry)) (now (t .entry)) base) r) r ≡ true) ⌝ }
 {
-    let mut j = start;
-    let mut at = here;
-    let mut left: u64 = 64;
+    if count == 0 {
+        return e;
+    }
+    let mut seen = [0u8; 33];
+    let mut j = b;
+    let mut at = from;
     while j < e {
-        if left == 0 {
-            return Round {
-                best: e,
-                next: j,
-                at,
-            };
-        }
         let k = key_at(s, t, layout, at);
-        let w = word_of(f, k);
-        let old = marks[w];
-        left = spent(left, f, k, old);
-        let i = seek(s, t, layout, base, from, b, j, k, f, old);
-        if i < j {
-            return Round {
-                best: j,
-                next: j,
-                at,
-            };
+        let c = place_of(suspects, count, k);
+        if seen[c] == 1 {
+            return j;
         }
-        marks[w] = old | bits_of(f, k);
+        seen[c] = one_below(c, count);
         at = next_at(s, t, layout, at);
         j += 1;
     }
-    Round {
-        best: e,
-        next: j,
-        at,
-    }
+    j
 }
 
 // How far the entries b to e, the first of them at `from`, go without a repeat among themselves. Each round has a factor of its own, so keys whose
@@ -308,32 +322,76 @@ fn mark_block(
     b: usize,
     e: usize,
     marks: &mut [u64; 896],
+    suspects: &mut [u64; 32],
 ) -> Block
-    requires { ⌜ (b ≤ e) × (from ≡ spot (source layout (now s) (now t) base) b) × Inside (source layout (now s) (now t) base) e × (length (now marks) ≡ 896) ⌝ }
-    ensures { λ r. ⌜ (b ≤ r .end) × (r .end ≤ e) × (r .at ≡ spot (source layout (now (s .entry)) (now (t .entry)) base) (r .end))
-        × (length (now (marks .exit)) ≡ 896)
+    requires { ⌜ (b ≤ e) × (from ≡ spot (source layout (now s) (now t) base) b) × Inside (source layout (now s) (now t) base) e
+        × (length (now marks) ≡ 896) × (length (now suspects) ≡ 32) ⌝ }
+    ensures { λ r. ⌜ (b ≤ r .end) × (r .end ≤ e) × (e ≤ r .end → r .at ≡ spot (source layout (now (s .entry)) (now (t .entry)) base) e)
+        × (length (now (marks .exit)) ≡ 896) × (length (now (suspects .exit)) ≡ 32)
         × Apart (key (source layout (now (s .entry)) (now (t .entry)) base)) b (r .end)
         × (r .end < e → among (key (source layout (now (s .entry)) (now (t .entry)) base))
         (key (source layout (now (s .entry)) (now (t .entry)) base) (r .end)) (r .end) ≡ true) ⌝ }
 {
-    let mut best = e;
     let mut j = b;
     let mut at = from;
     let mut f = first_factor(b);
-    while j < best {
+    while j < e {
         mark_all(s, t, layout, base, from, b, j, f, marks);
-        let round = mark_round(s, t, layout, base, from, b, best, at, j, f, marks);
-        best = round.best;
-        j = round.next;
+        let round = mark_round(s, t, layout, base, b, e, at, j, f, marks, suspects);
+        let next = round.next;
+        let count = round.count;
+        let end = first_again(s, t, layout, base, from, b, next, suspects, count);
+        if end < next {
+            return Block { end, at };
+        }
+        j = next;
         at = round.at;
         f = next_factor(f);
     }
     Block { end: j, at }
 }
 
-// Holds the entries from `start` on up to b, the first of them at `here`, against the entries b to e, the first of those at `from`; stops early where the
-// marks have misled too often.
+// Holds the entries from `start` on up to b, the first of them at `here`, against the marks. The keys of those whose marks are all set become the
+// suspects; stops early where there is no room for another one.
 fn hold_round(
+    s: &[u8],
+    t: &[u32],
+    layout: Layout,
+    base: usize,
+    b: usize,
+    here: usize,
+    start: usize,
+    f: u64,
+    marks: &[u64; 896],
+    suspects: &mut [u64; 32],
+) -> Gathered
+    requires { ⌜ (start < b) × (here ≡ spot (source layout (now s) (now t) base) start) × Inside (source layout (now s) (now t) base) b
+        × Factor f × (length (now suspects) ≡ 32) ⌝ }
+    ensures { λ r. ⌜ (start < r .next) × (r .next ≤ b) × (r .at ≡ spot (source layout (now (s .entry)) (now (t .entry)) base) (r .next))
+        × (r .count ≤ 32) × (length (now (suspects .exit)) ≡ 32)
+        × Caught (now (marks .entry)) f (now (suspects .exit)) (r .count) (key (source layout (now (s .entry)) (now (t .entry)) base)) start (r .next)
+        × Earlier (now (suspects .exit)) (r .count) (key (source layout (now (s .entry)) (now (t .entry)) base)) b ⌝ }
+{
+    let mut i = start;
+    let mut at = here;
+    let mut count: usize = 0;
+    while i < b {
+        if count == 32 {
+            return Gathered { count, next: i, at };
+        }
+        let k = key_at(s, t, layout, at);
+        let w = word_of(f, k);
+        let old = marks[w];
+        suspects[count] = k;
+        count += covered(f, k, old);
+        at = next_at(s, t, layout, at);
+        i += 1;
+    }
+    Gathered { count, next: i, at }
+}
+
+// The first of the entries b to e, the first of them at `from`, whose key is one of the first `count` suspects; e if there is none.
+fn first_held(
     s: &[u8],
     t: &[u32],
     layout: Layout,
@@ -341,37 +399,27 @@ fn hold_round(
     from: usize,
     b: usize,
     e: usize,
-    here: usize,
-    start: usize,
-    f: u64,
-    marks: &[u64; 896],
-) -> Round
-    requires { ⌜ (b ≤ e) × (from ≡ spot (source layout (now s) (now t) base) b) × Inside (source layout (now s) (now t) base) e
-        × (start < b) × (here ≡ spot (source layout (now s) (now t) base) start) × Factor f
-        × Marked (now marks) f (key (source layout (now s) (now t) base)) b e × Across (key (source layout (now s) (now t) base)) start b e ⌝ }
-    ensures { λ r. ⌜ (b ≤ r .best) × (r .best ≤ e) × (start < r .next) × (r .next ≤ b)
-        × (r .at ≡ spot (source layout (now (s .entry)) (now (t .entry)) base) (r .next))
-        × Across (key (source layout (now (s .entry)) (now (t .entry)) base)) (r .next) b (r .best)
-        × (r .best < e → among (key (source layout (now (s .entry)) (now (t .entry)) base))
-        (key (source layout (now (s .entry)) (now (t .entry)) base) (r .best)) (r .best) ≡ true) ⌝ }
+    suspects: &[u64; 32],
+    count: usize,
+) -> usize
+    requires { ⌜ (b ≤ e) × (from ≡ spot (source layout (now s) (now t) base) b) × Inside (source layout (now s) (now t) base) e × (count ≤ 32) ⌝ }
+    ensures { λ r. ⌜ (b ≤ r) × (r ≤ e) × Free (now (suspects .entry)) count (key (source layout (now (s .entry)) (now (t .entry)) base)) b r
+        × (r < e → held (now (suspects .entry)) count (key (source layout (now (s .entry)) (now (t .entry)) base) r) ≡ true) ⌝ }
 {
-    let mut best = e;
-    let mut i = start;
-    let mut at = here;
-    let mut left: u64 = 64;
-    while i < b {
-        if left == 0 {
-            return Round { best, next: i, at };
-        }
-        let k = key_at(s, t, layout, at);
-        let w = word_of(f, k);
-        let old = marks[w];
-        left = spent(left, f, k, old);
-        best = seek(s, t, layout, base, from, b, best, k, f, old);
-        at = next_at(s, t, layout, at);
-        i += 1;
+    if count == 0 {
+        return e;
     }
-    Round { best, next: i, at }
+    let mut j = b;
+    let mut at = from;
+    while j < e {
+        let k = key_at(s, t, layout, at);
+        if is_held(suspects, count, k) {
+            return j;
+        }
+        at = next_at(s, t, layout, at);
+        j += 1;
+    }
+    j
 }
 
 // The first of the entries b to e, the first of them at `from`, whose key one of the entries below b has; e if there is none. Each round has a factor of
@@ -385,9 +433,12 @@ fn first_across(
     b: usize,
     e: usize,
     marks: &mut [u64; 896],
+    suspects: &mut [u64; 32],
 ) -> usize
-    requires { ⌜ (b ≤ e) × (from ≡ spot (source layout (now s) (now t) base) b) × Inside (source layout (now s) (now t) base) e × (length (now marks) ≡ 896) ⌝ }
-    ensures { λ r. ⌜ (b ≤ r) × (r ≤ e) × (length (now (marks .exit)) ≡ 896) × Across (key (source layout (now (s .entry)) (now (t .entry)) base)) b b r
+    requires { ⌜ (b ≤ e) × (from ≡ spot (source layout (now s) (now t) base) b) × Inside (source layout (now s) (now t) base) e
+        × (length (now marks) ≡ 896) × (length (now suspects) ≡ 32) ⌝ }
+    ensures { λ r. ⌜ (b ≤ r) × (r ≤ e) × (length (now (marks .exit)) ≡ 896) × (length (now (suspects .exit)) ≡ 32)
+        × Across (key (source layout (now (s .entry)) (now (t .entry)) base)) b b r
         × (r < e → among (key (source layout (now (s .entry)) (now (t .entry)) base))
         (key (source layout (now (s .entry)) (now (t .entry)) base) r) r ≡ true) ⌝ }
 {
@@ -397,8 +448,9 @@ fn first_across(
     let mut f = first_factor(b);
     while i < b {
         mark_all(s, t, layout, base, from, b, best, f, marks);
-        let round = hold_round(s, t, layout, base, from, b, best, at, i, f, marks);
-        best = round.best;
+        let round = hold_round(s, t, layout, base, b, at, i, f, marks, suspects);
+        let count = round.count;
+        best = first_held(s, t, layout, base, from, b, best, suspects, count);
         i = round.next;
         at = round.at;
         f = next_factor(f);
@@ -447,11 +499,12 @@ fn first_repeat(s: &[u8], t: &[u32], layout: Layout, base: usize, n: usize) -> F
     let mut b = start.end;
     let mut from = start.at;
     let mut marks = [0u64; 896];
+    let mut suspects = [0u64; 32];
     while b < n {
         let e = block_end(b, n);
-        let block = mark_block(s, t, layout, base, from, b, e, &mut marks);
+        let block = mark_block(s, t, layout, base, from, b, e, &mut marks, &mut suspects);
         let end = block.end;
-        let best = first_across(s, t, layout, base, from, b, end, &mut marks);
+        let best = first_across(s, t, layout, base, from, b, end, &mut marks, &mut suspects);
         if best < e {
             return First::At(best);
         }

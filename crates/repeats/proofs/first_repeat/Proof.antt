@@ -1,5 +1,5 @@
 -- Before each block no two keys are the same; in the first block with a repeat, the least of its own and the one across is the answer.
-use mathlib.Core.Path.{_≡_, refl, ap, _∙_}
+use mathlib.Core.Path.{_≡_, refl}
 use native.Mathlib.Omega.{arith}
 use Prim.Native.Nat.{_-_, _≤_}
 use borrow.Author.Needs.{needs}
@@ -14,61 +14,61 @@ use Rattle.repeats.proofs.first_repeat.Statement.{statement}
 use Rattle.repeats.proofs.first_repeat.Tie as tie
 
 abbrev Inv-loop : tie.InvT-loop
-Inv-loop s t layout base n b₀ from₀ marks₀ b from marks =
-    (b ≤ n) × (from ≡ spot (source layout s t base) b) × Apart (key (source layout s t base)) 0 b × (length marks ≡ 896)
+Inv-loop s t layout base n b₀ from₀ marks₀ suspects₀ b from marks suspects =
+    (b ≤ n) × (from ≡ spot (source layout s t base) b) × Apart (key (source layout s t base)) 0 b × (length marks ≡ 896) × (length suspects ≡ 32)
 
 abbrev μ-loop : tie.MeasureT-loop
-μ-loop s t layout base n b₀ from₀ marks₀ b from marks = n - b
+μ-loop s t layout base n b₀ from₀ marks₀ suspects₀ b from marks suspects = n - b
 
 rising-requires : tie.Need-rising-requires Inv-loop μ-loop
 rising-requires c κs = c .before .before .pre
 
 loop-holds : tie.Need-loop-holds Inv-loop μ-loop
-loop-holds c = let w = c .rising .ensures in (w .0, w .1, w .2, refl)
+loop-holds c = let w = c .rising .ensures in (w .0, w .1, w .2, refl, refl)
 
 mark-block-requires : tie.Need-mark-block-requires Inv-loop μ-loop
 mark-block-requires c κs =
-    let call = c .before .before .before .before .before .before .before in
+    let call = c .before .before .before .before .before .before .before .before in
     let a = call .args in
     let x : Source = source (a .layout) (now (a .s)) (now (a .t)) (a .base) in
-    let l = c .before .before .before .loop in
-    (omega arith, l .inv .1, inside-to x (a .n) _ (call .pre) (c .before .block-end .ensures .1), l .inv .3)
+    let l = c .before .before .before .before .loop in
+    (omega arith, l .inv .1, inside-to x (a .n) _ (call .pre) (c .before .before .block-end .ensures .1), l .inv .3, l .inv .4)
 
 first-across-requires : tie.Need-first-across-requires Inv-loop μ-loop
 first-across-requires c κs =
-    let call = c .before .before .before .before .before .before .before .before .before in
+    let call = c .before .before .before .before .before .before .before .before .before .before .before in
     let a = call .args in
     let x : Source = source (a .layout) (now (a .s)) (now (a .t)) (a .base) in
-    let l = c .before .before .before .before .before .loop in
-    let m = c .before .mark-block .ensures in
-    (m .0, l .inv .1, inside-to x (a .n) _ (call .pre) (omega arith), m .3)
+    let l = c .before .before .before .before .before .before .before .loop in
+    let m = c .before .before .mark-block .ensures in
+    (m .0, l .inv .1, inside-to x (a .n) _ (call .pre) (omega arith), m .3, m .4)
 
 returns : tie.Need-returns Inv-loop μ-loop
 returns c =
-    let call = c .before .before .before .before .before .before .before .before .before .before .before in
+    let call = c .before .before .before .before .before .before .before .before .before .before .before .before .before in
     let a = call .args in
     let x : Source = source (a .layout) (now (a .s)) (now (a .t)) (a .base) in
-    let l = c .before .before .before .before .before .before .before .loop in
-    let m = c .before .before .before .mark-block in
+    let l = c .before .before .before .before .before .before .before .before .before .loop in
+    let m = c .before .before .before .before .mark-block in
     let f = c .before .first-across in
     let d : Apart (key x) 0 (f .result)
-    = apart-join (key x) (l .b) (f .result) (m .result .end) (l .inv .2) (f .ensures .3) (m .ensures .4) (f .ensures .1) in
-    first-at (key x) (a .n) (f .result) (omega arith) d
-    (hit-among (key x) (f .result) (m .result .end) _ (f .ensures .1) (c .if1 .taken) (f .ensures .4) (m .ensures .5))
+    = apart-join (key x) (l .b) (f .result) (m .result .end) (l .inv .2) (f .ensures .4) (m .ensures .5) (f .ensures .1) in
+    first-at (key x) (a .n) (f .result) (omega (arith, c .if1 .taken, c .before .before .before .before .before .before .before .block-end .ensures .1)) d
+    (hit-among (key x) (f .result) (m .result .end) _ (f .ensures .1) (c .if1 .taken) (f .ensures .5) (m .ensures .6))
 
 loop-again : tie.Need-loop-again Inv-loop μ-loop
 loop-again c =
-    let call = c .before .before .before .before .before .before .before .before .before .before .before in
+    let call = c .before .before .before .before .before .before .before .before .before .before .before .before .before in
     let a = call .args in
     let x : Source = source (a .layout) (now (a .s)) (now (a .t)) (a .base) in
-    let l = c .before .before .before .before .before .before .before .loop in
-    let m = c .before .before .before .mark-block in
+    let l = c .before .before .before .before .before .before .before .before .before .loop in
+    let m = c .before .before .before .before .mark-block in
     let f = c .before .first-across in
-    let end = c .before .before .before .before .before .block-end in
+    let end = c .before .before .before .before .before .before .before .block-end in
     let d : Apart (key x) 0 (f .result)
-    = apart-join (key x) (l .b) (f .result) (m .result .end) (l .inv .2) (f .ensures .3) (m .ensures .4) (f .ensures .1) in
-    let q : m .result .end ≡ end .result = omega arith in
-    (end .ensures .1, m .ensures .2 ∙ ap (spot x) q, apart-to (key x) (f .result) _ (c .if1 .left) d, f .ensures .2)
+    = apart-join (key x) (l .b) (f .result) (m .result .end) (l .inv .2) (f .ensures .4) (m .ensures .5) (f .ensures .1) in
+    let all : end .result ≤ m .result .end = omega arith in
+    (end .ensures .1, m .ensures .2 all, apart-to (key x) (f .result) _ (c .if1 .left) d, f .ensures .2, f .ensures .3)
 
 returns-2 : tie.Need-returns-2 Inv-loop μ-loop
 returns-2 c =
