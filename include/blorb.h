@@ -91,8 +91,8 @@ enum {
 enum {
     BLORB_STACK_READING = 768,  /* at most, for every call but those below; 697 as compiled */
     BLORB_STACK_EDITING = 1024, /* at most, for editing; 745 as compiled */
-    BLORB_STACK_GROUPS = 6144,  /* at most, for group files of 16 levels; 4776 as compiled */
-    BLORB_STACK_LISTS = 8192    /* at most, for scaled pictures and spoken descriptions, which mark the rows of a list; 7752 as compiled */
+    BLORB_STACK_GROUPS = 6144,  /* at most, for group files of 16 levels; 4856 as compiled */
+    BLORB_STACK_LISTS = 8192    /* at most, for scaled pictures and spoken descriptions, which mark the rows of a list; 8040 as compiled */
 };
 
 /* Usages and types as numbers: the four bytes, the first one highest. */
@@ -374,7 +374,7 @@ typedef struct blorb_scaled_answer {
  *
  * Beside the judging of the file it takes a few passes over the 'Reso' where the picture numbers rise from row to row. Where they do not, a
  * repeated one is looked for among the earlier rows, and the time grows with the square of the rows. Nothing limits them but the file's size:
- * 599,184 rows at most. The worst 'Reso' found, one of that many rows made against this search, took 1.3 s (docs/BENCHMARK.md).
+ * 599,184 rows at most. The worst 'Reso' found, one of that many rows made against this search, took 0.7 s (docs/BENCHMARK.md).
  *
  * The file's refusals, then 31, 32, 33.
  */
@@ -390,7 +390,7 @@ blorb_scaled_answer blorb_scaled(const uint8_t *file, size_t size, uint32_t prof
  *
  * Beside the judging of the file they take a few passes over the 'RDes' where the pairs of usage and number rise from text to text. Where they
  * do not, a repeated pair is looked for among the earlier texts, and the time grows with the square of the texts. Nothing limits them but the
- * file's size: 1,398,098 texts of no bytes at most. The worst 'RDes' found, one of that many texts made against this search, took 13 s
+ * file's size: 1,398,098 texts of no bytes at most. The worst 'RDes' of that many texts that was made against this search took 4.5 s
  * (docs/BENCHMARK.md).
  */
 

@@ -71,6 +71,7 @@ for old, new in product(range(3), range(3)):    # the new entry goes in behind e
 for n in (4095, 4096):
     MANY = blorb([(PICT, 10 + i, 0) for i in range(n)], [JPEG])
     scenario(f"{n} entries and a link", MANY, [
+        (link(PICT, 10, b"pict", 9), no(112, 24 + 12 * n) if n < 4096 else no(111, 20)),
         (link(PICT, 10, PICT, 9), done(len(MANY) + 12, 29) if n < 4096 else no(111, 20)), (link(PICT, 9, PICT, 8), no(22) if n == 4096 else no(111, 20)),
         (UNDO, done(len(MANY), 0, MANY) if n < 4096 else no(26))], shown=False)
 scenario("both wrong: type and pair", B, [(link(DATA, 7, PICT, 1), no(114, 36))])

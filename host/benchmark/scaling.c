@@ -168,10 +168,10 @@ static blorb_scaled_answer scaled_by(unsigned library, const uint8_t *f, size_t 
 /* ---- files */
 
 /*
- * Crafted: so many rows of a block fill four words by the factor of one round, the next ones by that of the next round. So of the earlier rows that are
- * held against the block one in 224 misleads in each of these rounds, which therefore end early. The pictures fall.
+ * Crafted: so many rows of a block fill two words by the factor of one round, the next ones by that of the next round. So of the earlier rows that are
+ * held against the block one in 448 misleads in each of these rounds, which therefore end early. The pictures fall.
  */
-enum { FILLED = 4, FILLING = 112 };
+enum { FILLED = 2, FILLING = 56 };
 struct crafting {
     uint32_t last;
     uint64_t factor, words[FILLED];

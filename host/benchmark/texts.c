@@ -197,7 +197,7 @@ static void craft(uint64_t *keys, size_t count)
             keys[i] = random_number(&state);
             continue;
         }
-        if (j % MISLED == 0) {
+        if (j % SUSPECTS == 0) {
             f = j == 0 ? first_factor(b) : next_factor(f);
             inverse = inverse_of(f);
         }

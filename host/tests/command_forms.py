@@ -1,6 +1,6 @@
 """The artists' group files: forms lists their FORMs and takes them out, on trees whose rows follow from how they were made."""
 from building import Dice, blorb, chunk, put
-from command_kit import ROOT, aiff, be, contents, done, expect, failed, jpeg, refused, run, same
+from command_kit import ROOT, aiff, be, contents, done, expect, failed, jpeg, refused, run, same, tried
 
 LIMIT = 16_777_216
 NAMES = (b"FORM", b"LIST", b"CAT ")
@@ -54,7 +54,7 @@ def trees(work):
         held, rows = tree(dice, NAMES[n % 3], 1, n % 6)
         file.write_bytes(held)
         same(done("forms", file), printed(held, rows), f"the list of tree {n}")
-        for i, (_, start, length, depth) in enumerate(rows):
+        for i, (_, start, length, depth) in tried(enumerate(rows)):
             wanted = held[start:start + 8 + length]
             same(done("forms", file, str(i)), wanted, f"FORM {i} of tree {n}")
             done("forms", file, str(i), "-o", out)

@@ -103,7 +103,7 @@ def stale_tables(work):
     now = table.read_bytes()
     wrong += [now[:n] for n in range(len(now))] + [now + bytes(n) for n in (1, 2, 3, 4, 11, 12)]
     wrong += [now[:i] + bytes([now[i] ^ 1 << bit]) + now[i + 1:] for i in range(len(now)) for bit in range(8)]
-    for held in wrong:
+    for held in tried(wrong):
         table.write_bytes(held)
         what, number, place = judged(file.read_bytes(), held)
         same((what, number), ("refused", 35), "by the reference")
@@ -151,13 +151,13 @@ def tables_at_every_step(work):
         ends = [(n, {}) for n in range(1, len(steps) + 1)]
         ends += [(n, {"CRASH_HALF": "1"}) for n, _ in ends if steps[n - 1][0] == "write"]
         met = set()
-        for n, half in ends:
+        for n, half in tried(ends):
             restore(folder, before)
             what = f"{step[0]} with a table ended at step {n}{' in its middle' if half else ''}"
             same(call(folder, step, shim={"CRASH_AT": str(n), **half}).status, ENDED_BY_SHIM, what)
             met.add(caught(folder, what))
             goes_on(folder, what)
-        expect("right" in met, f"{step[0]}: a right table was met")
+        expect(EACH > 1 or "right" in met, f"{step[0]}: a right table was met")
 
 
 # What a call that ends with status 2 says of FILE and FILE.table, and which of the two are then the new ones.

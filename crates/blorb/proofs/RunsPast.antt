@@ -248,7 +248,8 @@ six-told accept layout end p (first at s) e nh nl h = go (runsPast s) refl
     go true r =
         let t : refuse 6 at ≡ refuse 6 p = sym (refuses _ layout 6 at (past-six at s r)) ∙ h in
         let q : at ≡ p = cc in
-        (q, subst (λ (n : ℕ). One n end 0 (chunkFault at s then layout)) q (carried layout at (at + length s) end (e refl) (chunkFault at s) (broken-when at s r)))
+        let told = carried layout at (at + length s) end (e refl) (chunkFault at s) (broken-when at s r) in
+        (q, subst (λ (n : ℕ). One n end 0 (chunkFault at s then layout)) q told)
 
 six-back : (head layout : Verdict) (end p : ℕ) (x : Faulty) → (head ≡ accept → Ends end x) → Apart head → Apart layout → StartsAt p x
     → One p end 0 (head then (faultOf chunkFault x then layout)) → head then (faultOf pastFault x then layout) ≡ refuse 6 p

@@ -24,7 +24,8 @@ use Rattle.rdes.proofs.ReadBack.{read-back}
 use Rattle.locate.specs.Located.{locatedOf, dataAt}
 use Rattle.locate.specs.declared.Located.the-variants as located
 use Rattle.locate.proofs.Promises.{Stands, located-stood}
-use Rattle.descriptions.specs.Texts.{rdesVerdict, describedOf, givenAt, tellFrom, toldOf}
+use Rattle.descriptions.specs.Texts.{rdesVerdict, describedOf, givenAt, toldOf}
+use Rattle.descriptions.proofs.Telling.{tell-first}
 use Rattle.descriptions.specs.declared.Described.{Described}
 use Rattle.descriptions.specs.declared.Described.the-variants.{Given, Refused}
 use Rattle.descriptions.specs.declared.Told.{Told}
@@ -55,17 +56,6 @@ unfolding pairAmong
 not-among u k [] j z e h = absurd (not-suc-le-zero h)
 not-among u k (d ∷ es) zero z e h = neither (eqb (d .usage) u && eqb (d .number) k) (pairAmong u k es) e .0
 not-among u k (d ∷ es) (suc j) z e h = not-among u k es j z (neither (eqb (d .usage) u && eqb (d .number) k) (pairAmong u k es) e .1) (omega arith)
-
--- the first entry with a pair is the one that is told
-tell-first : (u k : ℕ) (d : List ℕ) (from n at i : ℕ) → i < n
-    → ((j : ℕ) → j < i → (eqb (usageAt d (offsetOf d j at)) u && eqb (numberAt d (offsetOf d j at)) k) ≡ false)
-    → (eqb (usageAt d (offsetOf d i at)) u && eqb (numberAt d (offsetOf d i at)) k) ≡ true
-    → tellFrom u k d from n at ≡ Text (from + offsetOf d i at + 12) (sizeAt d (offsetOf d i at))
-unfolding tellFrom offsetOf
-tell-first u k d from zero at i h other hit = absurd (not-suc-le-zero h)
-tell-first u k d from (suc n) at zero h other hit = rw hit
-tell-first u k d from (suc n) at (suc i) h other hit =
-    rw (other 0 (omega arith)) (tell-first u k d from n (nextAt d at) i (omega arith) (λ j l. other (suc j) (omega arith)) hit)
 
 module _ (rows texts : List ℕ) (room : ℕ) (small : (i : ℕ) → getD rows i 0 < W) (e : writeFault rows texts room ≡ accept)
     (profile : ℕ) (f : List ℕ) (x m : ℕ) (one : locatedOf profile f RDes ≡ located.One x m) (held : dataAt f x m ≡ bodyOf (listOf rows texts)) where

@@ -2,4 +2,5 @@ pub mod EntryAnswers
 pub mod OpenLaws
 pub mod Promises
 pub mod RepeatLaws
+pub mod Telling
 pub mod UnknownProfile

@@ -52,103 +52,6 @@ fn four(s: &[u8], at: usize) -> [u8; 4]
     [s[at], s[at + 1], s[at + 2], s[at + 3]]
 }
 
-fn add(
-    s: &[u8],
-    at: usize,
-    d: &[u8],
-    file: &mut [u8],
-    jrn: &mut [u8],
-    len: usize,
-    used: usize,
-    profile: u32,
-) -> Answer
-    requires { ⌜ at + 17 ≤ length (now s) ⌝ }
-{
-    text(b" add ");
-    let number = field(s, at + 5) as u32;
-    editor::add(
-        file,
-        len,
-        jrn,
-        used,
-        profile,
-        four(s, at + 1),
-        number,
-        four(s, at + 9),
-        d,
-    )
-}
-
-fn replace(
-    s: &[u8],
-    at: usize,
-    d: &[u8],
-    file: &mut [u8],
-    jrn: &mut [u8],
-    len: usize,
-    used: usize,
-    profile: u32,
-) -> Answer
-    requires { ⌜ at + 17 ≤ length (now s) ⌝ }
-{
-    text(b" replace ");
-    let number = field(s, at + 5) as u32;
-    editor::replace(
-        file,
-        len,
-        jrn,
-        used,
-        profile,
-        four(s, at + 1),
-        number,
-        four(s, at + 9),
-        d,
-    )
-}
-
-fn remove(
-    s: &[u8],
-    at: usize,
-    file: &mut [u8],
-    jrn: &mut [u8],
-    len: usize,
-    used: usize,
-    profile: u32,
-) -> Answer
-    requires { ⌜ at + 17 ≤ length (now s) ⌝ }
-{
-    text(b" remove ");
-    let number = field(s, at + 5) as u32;
-    editor::remove(file, len, jrn, used, profile, four(s, at + 1), number)
-}
-
-fn link(
-    s: &[u8],
-    at: usize,
-    file: &mut [u8],
-    jrn: &mut [u8],
-    len: usize,
-    used: usize,
-    profile: u32,
-) -> Answer
-    requires { ⌜ at + 17 ≤ length (now s) ⌝ }
-{
-    text(b" link ");
-    let number = field(s, at + 5) as u32;
-    let chosen = field(s, at + 13) as u32;
-    editor::link(
-        file,
-        len,
-        jrn,
-        used,
-        profile,
-        four(s, at + 1),
-        number,
-        four(s, at + 9),
-        chosen,
-    )
-}
-
 fn undo(file: &mut [u8], jrn: &[u8], len: usize, used: usize, profile: u32) -> Answer {
     text(b" undo ");
     editor::undo(file, len, jrn, used, profile)
@@ -172,10 +75,27 @@ fn edit(
 ) -> Answer
     requires { ⌜ at + 17 ≤ length (now s) ⌝ }
 {
+    let usage = four(s, at + 1);
+    let number = field(s, at + 5) as u32;
+    let kind = four(s, at + 9);
     match s[at] {
-        1 => add(s, at, d, file, jrn, len, used, profile),
-        2 => replace(s, at, d, file, jrn, len, used, profile),
-        _ => remove(s, at, file, jrn, len, used, profile),
+        1 => {
+            text(b" add ");
+            editor::add(file, len, jrn, used, profile, usage, number, kind, d)
+        }
+        2 => {
+            text(b" replace ");
+            editor::replace(file, len, jrn, used, profile, usage, number, kind, d)
+        }
+        3 => {
+            text(b" remove ");
+            editor::remove(file, len, jrn, used, profile, usage, number)
+        }
+        _ => {
+            text(b" link ");
+            let chosen = field(s, at + 13) as u32;
+            editor::link(file, len, jrn, used, profile, usage, number, kind, chosen)
+        }
     }
 }
 
@@ -194,9 +114,8 @@ fn call(
 {
     match s[at] {
         0 => blank(file),
-        1..=3 => edit(s, at, d, file, jrn, len, used, profile),
+        1..=3 | 6 => edit(s, at, d, file, jrn, len, used, profile),
         5 => given(s, at),
-        6 => link(s, at, file, jrn, len, used, profile),
         _ => undo(file, jrn, len, used, profile),
     }
 }

@@ -15,11 +15,10 @@ use Rattle.blorb.specs.Format.{Chunk, chunkBytes, chunksBytes}
 use Rattle.blorb.specs.Verdict.{accept, verdict, refFault, pairIn}
 use Rattle.blorb.specs.Rules.{rulesOf, profileVerdict}
 use Rattle.blorb.specs.Model.{Model, model, file}
-use Rattle.blorb.specs.Queries.{find, refAt, noRef, chunkAt, start}
+use Rattle.blorb.specs.Queries.{find, refAt, chunkAt, start}
 use Rattle.blorb.specs.Lookup.{Look, missing, here, lookup, leftOut, shown}
-use Rattle.blorb.proofs.AllLaws.{all-getD}
 use Rattle.blorb.proofs.ByteLaws.{length-be32}
-use Rattle.blorb.specs.Sound.{W, RefOk, Sound}
+use Rattle.blorb.specs.Sound.{W, Sound}
 use Rattle.blorb.proofs.Checks.{then-accept, check-accept, both-true}
 use Rattle.blorb.proofs.Accept.{accept-back, accept-short}
 use Rattle.blorb.proofs.ModelLaws.{model-file}
@@ -38,7 +37,7 @@ use Rattle.edits.proofs.WholeForms.{given-shown}
 use Rattle.undoing.proofs.ChunkAt.{drop-start}
 use Rattle.edits.proofs.AddVerdict.{added-verdict}
 use Rattle.edits.proofs.LinkVerdict.{linked-verdict}
-use Rattle.edits.proofs.RunLaws.{Good, target-applies}
+use Rattle.edits.proofs.RunLaws.{Good, target-applies, hundred-accept}
 use Rattle.edits.proofs.FitLaws.{edit-sound, find-pair}
 use Rattle.edits.proofs.ReadBack.{
   same,
@@ -55,12 +54,8 @@ use Rattle.edits.proofs.ReadBack.{
   link-on-new,
   link-on-old,
 }
+use Rattle.edits.proofs.JudgedLaws.{chunk-in}
 use Rattle.editor.specs.ReadsBack.{Content, nothing, holds, contentOf, Holds, DataBytes, OwnPair, Apart, OtherPair}
-use Rattle.planning.proofs.PlanLaws.{hundred-fine}
-
--- an entry's chunk is there
-chunk-there : (m : Model) (i : ℕ) → Sound m → i < length (m .refs) → refAt m i .chunk < length (m .chunks)
-chunk-there m i s h = all-getD (RefOk (length (m .chunks))) (m .refs) i noRef (s .refs-ok) h .chunk-there
 
 -- the two answers of a lookup
 content-found : (profile : ℕ) (f : List ℕ) (u n t x m : ℕ) → lookupOf profile f u n ≡ Found t x m
@@ -119,7 +114,7 @@ module _ (profile : ℕ) (f : List ℕ) (u n : ℕ) (o : Own profile f) where
         ap (λ (a : Looked). partOf a f) (lookup-here profile f u n (o .fine) c there .0)
         ∙ ap (take size) (sym (drop-drop left x f))
         ∙ ap (λ (g : List ℕ). take size (drop left (drop x g))) (sym (o .good .whole))
-        ∙ ap (λ (g : List ℕ). take size (drop left g)) (drop-start m k (o .good .sound) (chunk-there m i (o .good .sound) l) small)
+        ∙ ap (λ (g : List ℕ). take size (drop left g)) (drop-start m k (o .good .sound) (chunk-in m i (o .good .sound) l) small)
         ∙ shown-part c (chunksBytes (drop (suc k) (m .chunks)))
 
   pub part-here : (c : Chunk) → lookup m u n ≡ here c → partOf (lookupOf profile f u n) f ≡ shown c
@@ -178,7 +173,7 @@ edit-told profile N J f L U e bytes args known h =
     let h3 = then-accept _ _ (h2 .1) in
     let g = accept-back (rulesOf profile) f bytes (h2 .0) in
     let ap : Applies (model f) e = target-applies (model f) e (h3 .0) in
-    let new : verdict (rulesOf profile) (file (edited (model f) e)) ≡ accept = hundred-fine _ (then-accept _ _ (h3 .1) .0) in
+    let new : verdict (rulesOf profile) (file (edited (model f) e)) ≡ accept = hundred-accept _ (then-accept _ _ (h3 .1) .0) in
     let sd : Sound (edited (model f) e) = edit-sound (model f) e (g .1) args ap in
     let short = accept-short (rulesOf profile) (file (edited (model f) e)) new in
     let same : model (file (edited (model f) e)) ≡ edited (model f) e = model-file (edited (model f) e) sd (omega arith) in
@@ -257,7 +252,7 @@ own-pair profile f (add u n t d) bytes k =
 own-pair profile f (replace u n t d) bytes k =
     holds-given profile (editedFile f (replace u n t d)) u n t d (k .new) bytes (then-accept _ _ (then-accept _ _ (k .on-target) .1) .1)
     (ap (λ (m : Model). lookup m u n) (k .same) ∙ replace-reads (model f) u n (givenChunk t d) (k .applies .0)
-    (chunk-there (model f) (find u n (model f .refs)) (k .sound) (k .applies .0)))
+    (chunk-in (model f) (find u n (model f .refs)) (k .sound) (k .applies .0)))
 own-pair profile f (remove u n) bytes k =
     let i : ℕ = find u n (model f .refs) in
     let refs = then-accept _ _ (then-accept _ _ (then-accept _ _ (k .judged) .1) .1) .0 in

@@ -79,7 +79,7 @@ code-commutes profile s u n t d e bytes ne w =
     (record { a-first = p .one; then-b = p .two; b-first = q .one; then-a = q .two }) in
     rw (p .ends, q .ends) c
 
--- "The later wins": two calls of the code that replace one resource, x and then y from s, leave the file that y's call alone leaves, made from s too.
+-- three calls of the code: a and b one after the other from s, and b alone from s
 pub record LaterCalls (profile : ℕ) (s : State) (a b : Call) : Type 0 where
   pub first : Act
   pub then-later : Act
@@ -90,6 +90,7 @@ pub record LaterCalls (profile : ℕ) (s : State) (a b : Call) : Type 0 where
   pub made-then-later : Made b then-later
   pub made-later : Made b later
 
+-- Two replacements of one resource leave the file that the later one leaves alone.
 pub code-later-wins : (profile : ℕ) (s : State) (u n t : ℕ) (d : List ℕ) (x : ℕ) (y : List ℕ) → All Byte (s .buffer)
     → (w : LaterCalls profile s (edit (replace u n t d)) (edit (replace u n x y)))
     → SameFile (endOf s (map turnOf (w .first ∷ (w .then-later ∷ [])))) (endOf s (map turnOf (w .later ∷ [])))

@@ -37,7 +37,7 @@ use Rattle.undoing.specs.declared.Undoing.the-variants.{Go, Not}
 use Rattle.rewrite.specs.Rewriting.{Stands, Removable, Replaceable, Insertable}
 use Rattle.undoing.specs.LastRecord.{numbersOf, lastOf}
 use Rattle.undoing.specs.UndoPlan.{chunkStart, chunkSize, goOf, undoingOf, undoPlan}
-use Rattle.undoing.proofs.LastRead.{Ends, good-ends}
+use Rattle.undoing.proofs.LastRead.{Ends, good-ends, kind-is, body-is}
 use Rattle.rewrite.proofs.InsertBytes.{insertable3, insertable4}
 use Rattle.undoing.proofs.UndoFits.{chunk-ends, at-1, at-2, at-3, at-4, at-5}
 
@@ -143,19 +143,11 @@ module _ (profile : ℕ) (b : List ℕ) (l : ℕ) (j : List ℕ) (u k a s t : �
   abbrev d : List ℕ
   d = take (u - 4 - (u - 4 - r .length)) (drop (u - 4 - r .length) j)
 
-  kind-is : (n : ℕ) → r .kind ≡ n → lastRec (take u j) .kind ≡ n
-  kind-is n h = ap (λ (z : Record). z .kind) (w .ends .numbers) ∙ h
-
   place-is : lastRec (take u j) .place ≡ r .place
   place-is = ap (λ (z : Record). z .place) (w .ends .numbers)
 
-  body-is : take (u - 4 - (u - 4 - r .length)) (drop (u - 4 - r .length) j) ≡ lastRec (take u j) .body
-  body-is =
-      let e : u - 4 - (u - 4 - r .length) ≡ r .length = omega (arith, w .ends .room) in
-      ap (λ (z : ℕ). take z (drop (u - 4 - r .length) j)) e ∙ sym (w .ends .lies)
-
   old-is : chunkOf (r .sort) (take (u - 4 - (u - 4 - r .length)) (drop (u - 4 - r .length) j)) ≡ oldChunk (lastRec (take u j))
-  old-is = λ i. record { type = sym (w .ends .numbers) i .sort; body = body-is i }
+  old-is = λ i. record { type = sym (w .ends .numbers) i .sort; body = body-is j u r (w .ends) i }
 
   file-is : length (take l b) ≡ l
   file-is = length-take-le l b (w .stands .inside)
@@ -173,13 +165,13 @@ module _ (profile : ℕ) (b : List ℕ) (l : ℕ) (j : List ℕ) (u k a s t : �
   back-added : r .kind ≡ 1 → Stands b l k × Removable b l k (r .place) a s
   unfolding goneSize
   back-added h =
-      let fit = sym (kind-1 rec m (kind-is 1 h) .0) ∙ w .fit in
+      let fit = sym (kind-1 rec m (kind-is j u r (w .ends) 1 h) .0) ∙ w .fit in
       let p = fits1-facts rec m fit in
       let listed : rec .place < length (m .refs) = omega (arith, p .count) in
       let there = chunk-in m (rec .place) (w .file-facts .sound) listed in
       let c : ℕ = refAt m (rec .place) .chunk in
-      let ea : a ≡ start m c = w .at-is ∙ at-1 rec m (kind-is 1 h) .0 in
-      let es : s ≡ size (chunkAt m c) = w .size-is ∙ at-1 rec m (kind-is 1 h) .1 in (
+      let ea : a ≡ start m c = w .at-is ∙ at-1 rec m (kind-is j u r (w .ends) 1 h) .0 in
+      let es : s ≡ size (chunkAt m c) = w .size-is ∙ at-1 rec m (kind-is j u r (w .ends) 1 h) .1 in (
         w .stands,
         record {
           listed = omega (arith, listed, place-is, w .stands .entries);
@@ -194,19 +186,19 @@ module _ (profile : ℕ) (b : List ℕ) (l : ℕ) (j : List ℕ) (u k a s t : �
   written-added : r .kind ≡ 1 → file (removed (model (take l b)) (r .place)) ≡ undoneFile (take l b) (take u j)
   unfolding undoneFile
   written-added h =
-      let fit = sym (kind-1 rec m (kind-is 1 h) .0) ∙ w .fit in
-      ap file (ap (removed m) (sym place-is) ∙ sym (undo1-removed rec m (w .file-facts .sound) fit) ∙ sym (kind-1 rec m (kind-is 1 h) .1))
+      let fit = sym (kind-1 rec m (kind-is j u r (w .ends) 1 h) .0) ∙ w .fit in
+      ap file (ap (removed m) (sym place-is) ∙ sym (undo1-removed rec m (w .file-facts .sound) fit) ∙ sym (kind-1 rec m (kind-is j u r (w .ends) 1 h) .1))
 
   -- kind 5
   back-linked : r .kind ≡ 5 → Stands b l k × Removable b l k (r .place) a s
   unfolding goneSize
   back-linked h =
-      let fit = sym (kind-5 rec m (kind-is 5 h) .0) ∙ w .fit in
+      let fit = sym (kind-5 rec m (kind-is j u r (w .ends) 5 h) .0) ∙ w .fit in
       let p = fits5-facts rec m fit in
       let c : ℕ = refAt m (rec .place) .chunk in
       let there = chunk-in m (rec .place) (w .file-facts .sound) (p .inside) in
-      let ea : a ≡ start m c = w .at-is ∙ at-5 rec m (kind-is 5 h) .0 in
-      let es : s ≡ 0 = w .size-is ∙ at-5 rec m (kind-is 5 h) .1 in (
+      let ea : a ≡ start m c = w .at-is ∙ at-5 rec m (kind-is j u r (w .ends) 5 h) .0 in
+      let es : s ≡ 0 = w .size-is ∙ at-5 rec m (kind-is j u r (w .ends) 5 h) .1 in (
         w .stands,
         record {
           listed = omega (arith, p .inside, place-is, w .stands .entries);
@@ -221,10 +213,10 @@ module _ (profile : ℕ) (b : List ℕ) (l : ℕ) (j : List ℕ) (u k a s t : �
   written-linked : r .kind ≡ 5 → file (removed (model (take l b)) (r .place)) ≡ undoneFile (take l b) (take u j)
   unfolding undoneFile undo5 removed
   written-linked h =
-      let fit = sym (kind-5 rec m (kind-is 5 h) .0) ∙ w .fit in
+      let fit = sym (kind-5 rec m (kind-is j u r (w .ends) 5 h) .0) ∙ w .fit in
       let e : shared m (r .place) ≡ true = ap (shared m) (sym place-is) ∙ fits5-facts rec m fit .holds in
       ap file (ap (λ (z : Bool). cond z (removedEntry m (r .place)) (removedBoth m (r .place) (refAt m (r .place) .chunk))) e
-      ∙ ap (removedEntry m) (sym place-is) ∙ sym (kind-5 rec m (kind-is 5 h) .1))
+      ∙ ap (removedEntry m) (sym place-is) ∙ sym (kind-5 rec m (kind-is j u r (w .ends) 5 h) .1))
 
   -- kinds 1 and 5: an entry goes, with its own chunk or alone
   pub back-gone : (eqb (r .kind) 1 || eqb (r .kind) 5) ≡ true → Stands b l k × Removable b l k (r .place) a s
@@ -246,15 +238,15 @@ module _ (profile : ℕ) (b : List ℕ) (l : ℕ) (j : List ℕ) (u k a s t : �
       → Stands b l k × (Replaceable b l k (r .place) a s × ((l - s + (8 + (length d + length d % 2)) ≤ length b)
       × (l - s + (8 + (length d + length d % 2)) ≤ 16777216)))
   back-replaced bj h =
-      let fit = sym (kind-2 rec m (kind-is 2 h) .0) ∙ w .fit in
+      let fit = sym (kind-2 rec m (kind-is j u r (w .ends) 2 h) .0) ∙ w .fit in
       let p = fits2-facts rec m fit in
       let there = chunk-in m (rec .place) (w .file-facts .sound) (p .inside) in
       let c : ℕ = refAt m (rec .place) .chunk in
-      let ea : a ≡ start m c = w .at-is ∙ at-2 rec m (kind-is 2 h) .0 in
-      let es : s ≡ size (chunkAt m c) = w .size-is ∙ at-2 rec m (kind-is 2 h) .1 in
+      let ea : a ≡ start m c = w .at-is ∙ at-2 rec m (kind-is j u r (w .ends) 2 h) .0 in
+      let es : s ≡ size (chunkAt m c) = w .size-is ∙ at-2 rec m (kind-is j u r (w .ends) 2 h) .1 in
       let to : l - s + (8 + (length d + length d % 2)) ≡ length (undoneFile (take l b) (take u j))
-      = (λ i. sym file-is i - (es ∙ size-is (chunkAt m c)) i + sizeOf (length (body-is i))) ∙ sym (after-2 profile (take l b) (take u j) (w .file-facts)
-      (all-take Byte u j bj) (kind-is 2 h) fit) in (
+      = (λ i. sym file-is i - (es ∙ size-is (chunkAt m c)) i + sizeOf (length (body-is j u r (w .ends) i)))
+      ∙ sym (after-2 profile (take l b) (take u j) (w .file-facts) (all-take Byte u j bj) (kind-is j u r (w .ends) 2 h) fit) in (
         w .stands,
         (
           record {
@@ -272,7 +264,7 @@ module _ (profile : ℕ) (b : List ℕ) (l : ℕ) (j : List ℕ) (u k a s t : �
       (take l b) (take u j)
   unfolding undoneFile undo2
   written-replaced h =
-      (λ i. file (replaced m (refAt m (sym place-is i) .chunk) (old-is i))) ∙ sym (ap file (kind-2 rec m (kind-is 2 h) .1))
+      (λ i. file (replaced m (refAt m (sym place-is i) .chunk) (old-is i))) ∙ sym (ap file (kind-2 rec m (kind-is j u r (w .ends) 2 h) .1))
 
   -- kind 3, the one that is left
   pub kind-3-left : (eqb (r .kind) 1 || eqb (r .kind) 5) ≡ false → (r .kind ≡ 4 → ⊥) → (r .kind ≡ 2 → ⊥) → r .kind ≡ 3
@@ -282,18 +274,18 @@ module _ (profile : ℕ) (b : List ℕ) (l : ℕ) (j : List ℕ) (u k a s t : �
 
   module _ (h : r .kind ≡ 3) where
     fit-3 : fits3 (lastRec (take u j)) (model (take l b)) ≡ true
-    fit-3 = sym (kind-3 rec m (kind-is 3 h) .0) ∙ w .fit
+    fit-3 = sym (kind-3 rec m (kind-is j u r (w .ends) 3 h) .0) ∙ w .fit
 
     at-3-is : a ≡ lastRec (take u j) .start - 12
-    at-3-is = w .at-is ∙ at-3 rec m (kind-is 3 h) .0
+    at-3-is = w .at-is ∙ at-3 rec m (kind-is j u r (w .ends) 3 h) .0
 
     pub back-removed : (All Byte j) → Stands b l k × (Insertable b l k (r .place) a × ((l + (20 + (length d + length d % 2)) ≤ length b)
         × (l + (20 + (length d + length d % 2)) ≤ 16777216)))
     back-removed bj =
         let i = insertable3 b l k (w .stands) rec fit-3 in
         let to : length (undoneFile (take l b) (take u j)) ≡ l + 12 + sizeOf (length d)
-        = after-3 profile (take l b) (take u j) (w .file-facts) (all-take Byte u j bj) (kind-is 3 h)
-        ∙ (λ i. file-is i + 12 + sizeOf (length (sym body-is i))) in
+        = after-3 profile (take l b) (take u j) (w .file-facts) (all-take Byte u j bj) (kind-is j u r (w .ends) 3 h)
+        ∙ (λ i. file-is i + 12 + sizeOf (length (sym (body-is j u r (w .ends)) i))) in
         (w .stands, (coe 0 1 (z. Insertable b l k (place-is z) (sym at-3-is z)) i, (omega (arith, to, w .room), omega (arith, to, after-short))))
 
     pub written-removed : file (inserted (model (take l b)) (r .place) (placeAt (model (take l b)) a) (r .usage) (r .number) (chunkOf (r .sort) d)) ≡
@@ -301,25 +293,26 @@ module _ (profile : ℕ) (b : List ℕ) (l : ℕ) (j : List ℕ) (u k a s t : �
     unfolding undoneFile undo3
     written-removed =
         let n : r ≡ numbersOf rec = sym (w .ends .numbers) in
-        (λ i. file (inserted m (n i .place) (placeAt m (at-3-is i)) (n i .usage) (n i .number) (old-is i))) ∙ sym (ap file (kind-3 rec m (kind-is 3 h) .1))
+        (λ i. file (inserted m (n i .place) (placeAt m (at-3-is i)) (n i .usage) (n i .number) (old-is i)))
+        ∙ sym (ap file (kind-3 rec m (kind-is j u r (w .ends) 3 h) .1))
 
   -- kind 4
   module _ (h : r .kind ≡ 4) where
     fit-4 : fits4 (lastRec (take u j)) (model (take l b)) ≡ true
-    fit-4 = sym (kind-4 rec m (kind-is 4 h) .0) ∙ w .fit
+    fit-4 = sym (kind-4 rec m (kind-is j u r (w .ends) 4 h) .0) ∙ w .fit
 
     at-4-is : a ≡ lastRec (take u j) .start - 12
-    at-4-is = w .at-is ∙ at-4 rec m (kind-is 4 h) .0
+    at-4-is = w .at-is ∙ at-4 rec m (kind-is j u r (w .ends) 4 h) .0
 
     pub back-unlisted : (All Byte j) → Stands b l k × (Insertable b l k (r .place) a × ((l + 12 ≤ length b) × (l + 12 ≤ 16777216)))
     back-unlisted bj =
         let i = insertable4 b l k (w .stands) rec fit-4 in
         let to : length (undoneFile (take l b) (take u j)) ≡ l + 12
-        = after-4 profile (take l b) (take u j) (w .file-facts) (all-take Byte u j bj) (kind-is 4 h) fit-4 ∙ ap (λ (z : ℕ). z + 12) file-is in
+        = after-4 profile (take l b) (take u j) (w .file-facts) (all-take Byte u j bj) (kind-is j u r (w .ends) 4 h) fit-4 ∙ ap (λ (z : ℕ). z + 12) file-is in
         (w .stands, (coe 0 1 (z. Insertable b l k (place-is z) (sym at-4-is z)) i, (omega (arith, to, w .room), omega (arith, to, after-short))))
 
     pub written-unlisted : file (entered (model (take l b)) (r .place) (placeAt (model (take l b)) a) (r .usage) (r .number)) ≡ undoneFile (take l b) (take u j)
     unfolding undoneFile undo4
     written-unlisted =
         let n : r ≡ numbersOf rec = sym (w .ends .numbers) in
-        (λ i. file (entered m (n i .place) (placeAt m (at-4-is i)) (n i .usage) (n i .number))) ∙ sym (ap file (kind-4 rec m (kind-is 4 h) .1))
+        (λ i. file (entered m (n i .place) (placeAt m (at-4-is i)) (n i .usage) (n i .number))) ∙ sym (ap file (kind-4 rec m (kind-is j u r (w .ends) 4 h) .1))

@@ -2,7 +2,7 @@
 use mathlib.Core.Path.{_≡_, refl, sym, ap, _∙_}
 use Prim.Native.Nat.{ℕ, _≤_, _<_}
 use mathlib.Core.List.{List}
-use mathlib.Core.Bool.{Bool, true, false, _&&_}
+use mathlib.Core.Bool.{Bool, true, false, _&&_, and-false}
 use native.Mathlib.Omega.{arith}
 use lib.ListN.{length, take}
 use lib.Dec.{leb, ltb}
@@ -20,10 +20,6 @@ use Rattle.reader.specs.declared.Inspection.{Inspection}
 use Rattle.reader.specs.declared.Inspection.the-variants.{Whole, Refused}
 use Rattle.reader.specs.Inspecting.{pieceOf, targetBy, targetOf, frontBy, frontOf, factsOf, inspectionOf}
 
-and-none : (a : Bool) → a && false ≡ false
-and-none true = refl
-and-none false = refl
-
 -- the ways out
 module _ (profile l N u J : ℕ) (v : Verdict) (m : Model) (us n x : ℕ) where
   abbrev tests : Verdict
@@ -40,7 +36,7 @@ module _ (profile l N u J : ℕ) (v : Verdict) (m : Model) (us n x : ℕ) where
 
     pub opened-second : J < u → Refused 20 0 ≡ inspectionOf tests m us n x
     unfolding check _then_
-    opened-second h = rw (le-leb profile 1 known, lt-leb u J h, and-none (leb l N))
+    opened-second h = rw (le-leb profile 1 known, lt-leb u J h, and-false (leb l N))
 
     pub opened-third : l ≤ N → u ≤ J → inspectionOf v m us n x ≡ inspectionOf tests m us n x
     unfolding check _then_

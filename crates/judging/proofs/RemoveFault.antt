@@ -7,19 +7,18 @@ use native.Mathlib.Omega.{arith}
 use native.Mathlib.Nat.{le-of-suc-le-suc, not-suc-le-zero}
 use lib.ListN.{length, getD, take, drop, length-map}
 use lib.Dec.{eqb, leb, ltb}
-use borrow.Author.Tests.{ne-eqb, eqb-false, le-leb, leb-true, lt-ltb, le-ltb, ltb-true, ltb-false}
+use borrow.Author.Tests.{ne-eqb, eqb-false, le-leb, lt-ltb, le-ltb, ltb-true, ltb-false}
 use Rattle.blorb.specs.Format.{Ref, Chunk, size, total}
-use Rattle.blorb.specs.Verdict.{Verdict, accept, refuse, _then_, check, noChunk, secondIndex, verdict}
+use Rattle.blorb.specs.Verdict.{Verdict, accept, refuse, check, noChunk, secondIndex, verdict}
 use Rattle.blorb.specs.Tags.{Pict, Fspc}
 use Rattle.blorb.specs.Rules.{picture, typeIn, optional, rulesOf}
 use Rattle.blorb.specs.Model.{Model, base, startOf, file, model}
 use Rattle.edits.specs.Edit.{remove, edited, lower, removed, removedBoth, removedEntry}
 use Rattle.blorb.specs.Queries.{find, noRef, refAt, chunkAt, without, shared, start, frontPlace, frontNumber}
 use Rattle.blorb.specs.All.{All}
-use Rattle.blorb.proofs.AllLaws.{all-getD}
-use Rattle.blorb.specs.Sound.{W, RefOk, Sound}
+use Rattle.blorb.specs.Sound.{W, Sound}
 use Rattle.blorb.specs.Bytes.{Byte}
-use Rattle.blorb.proofs.Checks.{then-accept, check-accept, pass, accepts}
+use Rattle.blorb.proofs.Checks.{pass, accepts}
 use Rattle.blorb.proofs.Accept.{accept-back}
 use Rattle.edits.proofs.AddVerdict.{second-any}
 use Rattle.edits.proofs.UndoLaws.{length-without, length-remaining}
@@ -38,7 +37,7 @@ use Rattle.reader.specs.Inspecting.{frontOf}
 use Rattle.judging.proofs.OpenLaws.{front-nothing, front-at}
 use Rattle.edits.proofs.Lengths.{length-removed}
 use Rattle.edits.proofs.RemoveJudged.{second-without, picture-lower, picture-without}
-use Rattle.edits.proofs.JudgedLaws.{chunk-plain}
+use Rattle.edits.proofs.JudgedLaws.{chunk-plain, chunk-in, Parts, model-parts}
 use Rattle.edits.proofs.RuleSeven.{Plain}
 use Rattle.edits.proofs.FrontLaws.{like-self, like-without, optional-like, front-picture}
 use Rattle.edits.proofs.ReadBack.{same}
@@ -98,17 +97,11 @@ module _ (profile : ℕ) (m : Model) (i u n : ℕ) (s : Sound m) (ok : modelFaul
   abbrev rs : List Ref
   rs = m .refs
 
-  parts : (secondIndex (base (length (m .refs))) (m .chunks) ≡ accept) × (length (m .refs) ≤ 4096) × (refsFault (rulesOf profile) (m .chunks) [] 24
-      (m .refs) ≡ accept) × (optional (base (length (m .refs))) (m .refs) (m .chunks) ≡ accept)
-  unfolding modelFault
-  parts =
-      let a = then-accept _ _ ok in
-      let b = then-accept _ _ (a .1) in
-      let c = then-accept _ _ (b .1) in
-      (a .0, leb-true _ _ (check-accept _ _ _ (b .0)), c .0, c .1)
+  parts : Parts profile m
+  parts = model-parts profile m ok
 
   there : refAt m i .chunk < length (m .chunks)
-  there = all-getD (RefOk (length (m .chunks))) (m .refs) i noRef (s .refs-ok) h .chunk-there
+  there = chunk-in m i s h
 
   pair : (q : ℕ) → same (refAt m i) Pict q ≡ (eqb u Pict && eqb n q)
   pair q = rw (eu, en)
@@ -116,7 +109,7 @@ module _ (profile : ℕ) (m : Model) (i u n : ℕ) (s : Sound m) (ok : modelFaul
   still : (q : ℕ) → typeIn Fspc (m .chunks) ≡ true → q ≡ frontNumber (m .chunks) → picture q (m .chunks) (without i (m .refs)) ≡ not (eqb u Pict && eqb n q)
   still q e w =
       not-flip (picture q cs (without i rs)) (same (getD rs i noRef) Pict q)
-      (picture-without profile q cs i rs (parts .2) h (ap (λ (z : ℕ). picture z cs rs) w ∙ front-picture (base (length rs)) rs cs (parts .3) e))
+      (picture-without profile q cs i rs (parts .entries-fine) h (ap (λ (z : ℕ). picture z cs rs) w ∙ front-picture (base (length rs)) rs cs (parts .seven) e))
       ∙ ap not (pair q)
 
   pick : (b : Bool) (x y p p′ : ℕ) (t t′ : Bool) → typeIn Fspc (m .chunks) ≡ b → (b ≡ true → t ≡ t′) → p ≡ p′ → cond b (check t 19 (p + 8)) accept ≡ cond b
@@ -128,7 +121,7 @@ module _ (profile : ℕ) (m : Model) (i u n : ℕ) (s : Sound m) (ok : modelFaul
       → optional (base (length (removedBoth m i k .refs))) (removedBoth m i k .refs) (removedBoth m i k .chunks) ≡ lostFront m i u n
   unfolding lostFront removedBoth shared start
   both-seven alone gs =
-      let pl = chunk-plain profile cs [] 24 rs i (parts .2) h in
+      let pl = chunk-plain profile cs [] 24 rs i (parts .entries-fine) h in
       let fw = front-without cs k there pl in
       let x : Ref = record { usage = 0; number = 0; chunk = frontPlace cs } in
       let n1 : length (map (lower k) (without i rs)) ≡ length (without i rs) = length-map (without i rs) (lower k) in
@@ -138,7 +131,7 @@ module _ (profile : ℕ) (m : Model) (i u n : ℕ) (s : Sound m) (ok : modelFaul
       = (λ z. startOf (base (n1 z)) (without k cs) (fw .0 z)) ∙ fell (length (without i rs)) cs k x there (fw .1)
       ∙ (λ z. fallen (startOf (base (n2 z)) cs k) (sym gs z) (startOf (base (n2 z)) cs (frontPlace cs))) in
       optional-like (base (length rs)) (base (length (map (lower k) (without i rs)))) rs (map (lower k) (without i rs)) cs (without k cs)
-      (like-without cs k there pl) (parts .3)
+      (like-without cs k there pl) (parts .seven)
       ∙ pick (typeIn Fspc cs) 0 0 _ _ _ _ refl (λ e. picture-lower (frontNumber cs) cs k (without i rs) alone ∙ still (frontNumber cs) e refl) place
 
   entry-seven : goneSize m i ≡ 0
@@ -150,7 +143,7 @@ module _ (profile : ℕ) (m : Model) (i u n : ℕ) (s : Sound m) (ok : modelFaul
       (startOf (base (length rs)) cs (frontPlace cs))
       = fell-all (length (without i rs)) cs (startOf (base (length rs)) cs k) (frontPlace cs) ∙ (λ z. fallen (startOf (base (length rs)) cs k) (sym gs z)
       (startOf (base (n2 z)) cs (frontPlace cs))) in
-      optional-like (base (length rs)) (base (length (without i rs))) rs (without i rs) cs cs (like-self cs) (parts .3)
+      optional-like (base (length rs)) (base (length (without i rs))) rs (without i rs) cs cs (like-self cs) (parts .seven)
       ∙ pick (typeIn Fspc cs) 0 0 _ _ _ _ refl (λ e. still (frontNumber cs) e refl) place
 
   gone-alone : shared m i ≡ false → goneSize m i ≡ size (chunkAt m k)
@@ -165,22 +158,22 @@ module _ (profile : ℕ) (m : Model) (i u n : ℕ) (s : Sound m) (ok : modelFaul
   both-model : shared m i ≡ false → modelFault (rulesOf profile) (removedBoth m i k) ≡ lostFront m i u n
   unfolding modelFault
   both-model e =
-      let le : length (removedBoth m i k .refs) ≤ 4096 = omega (arith, length-remaining m i k h, parts .1) in
+      let le : length (removedBoth m i k .refs) ≤ 4096 = omega (arith, length-remaining m i k h, parts .few) in
       let a : secondIndex (base (length (removedBoth m i k .refs))) (removedBoth m i k .chunks) ≡ accept
-      = (unfold removedBoth in second-without (base (length rs)) (base (length (map (lower k) (without i rs)))) cs k (parts .0)) in
+      = (unfold removedBoth in second-without (base (length rs)) (base (length (map (lower k) (without i rs)))) cs k (parts .no-second)) in
       let b : refsFault (rulesOf profile) (removedBoth m i k .chunks) [] 24 (removedBoth m i k .refs) ≡ accept =
-      (unfold removedBoth shared in refs-removed (rulesOf profile) cs k i rs e (parts .2)) in
+      (unfold removedBoth shared in refs-removed (rulesOf profile) cs k i rs e (parts .entries-fine)) in
       accepts _ _ a ∙ pass _ _ _ _ (le-leb _ _ le) ∙ accepts _ _ b
       ∙ both-seven e (gone-alone e)
 
   entry-model : shared m i ≡ true → modelFault (rulesOf profile) (removedEntry m i) ≡ lostFront m i u n
   unfolding modelFault
   entry-model e =
-      let le : length (removedEntry m i .refs) ≤ 4096 = (unfold removedEntry in omega (arith, length-without i rs h, parts .1)) in
+      let le : length (removedEntry m i .refs) ≤ 4096 = (unfold removedEntry in omega (arith, length-without i rs h, parts .few)) in
       let a : secondIndex (base (length (removedEntry m i .refs))) (removedEntry m i .chunks) ≡ accept
-      = (unfold removedEntry in second-any (base (length rs)) (base (length (without i rs))) cs (parts .0)) in
+      = (unfold removedEntry in second-any (base (length rs)) (base (length (without i rs))) cs (parts .no-second)) in
       let b : refsFault (rulesOf profile) (removedEntry m i .chunks) [] 24 (removedEntry m i .refs) ≡ accept =
-      (unfold removedEntry in refs-without (rulesOf profile) cs [] [] 24 24 i rs (λ a b c. c) (parts .2)) in
+      (unfold removedEntry in refs-without (rulesOf profile) cs [] [] 24 24 i rs (λ a b c. c) (parts .entries-fine)) in
       accepts _ _ a ∙ pass _ _ _ _ (le-leb _ _ le) ∙ accepts _ _ b
       ∙ entry-seven (gone-shared e)
 

@@ -7,17 +7,16 @@ use native.Mathlib.Omega.{arith}
 use native.Mathlib.Nat.{le-of-suc-le-suc, not-suc-le-zero}
 use lib.ListN.{length, getD, take, set}
 use lib.Dec.{eqb, leb}
-use borrow.Author.Tests.{eq-eqb, ne-eqb, le-leb, lt-leb, leb-true}
-use Rattle.blorb.specs.Format.{Ref, Chunk, sized, size, total, chunkOf}
+use borrow.Author.Tests.{eq-eqb, ne-eqb, le-leb, lt-leb}
+use Rattle.blorb.specs.Format.{Ref, Chunk, size, total, chunkOf}
 use Rattle.blorb.specs.Tags.{RIdx, Pict, Rect, Fspc}
 use Rattle.blorb.specs.Verdict.{Verdict, accept, refuse, _then_, check, noChunk, secondIndex, verdict}
 use Rattle.blorb.specs.Rules.{allows, typeIn, optional, rulesOf}
 use Rattle.blorb.specs.Model.{Model, base, startOf, file, model}
 use Rattle.edits.specs.Edit.{replaced}
-use Rattle.blorb.specs.Queries.{find, noRef, refAt, chunkAt, shared, start, frontPlace, frontNumber}
+use Rattle.blorb.specs.Queries.{find, refAt, chunkAt, shared, start, frontPlace, frontNumber}
 use Rattle.blorb.specs.All.{All}
-use Rattle.blorb.proofs.AllLaws.{all-getD}
-use Rattle.blorb.specs.Sound.{W, RefOk, Sound}
+use Rattle.blorb.specs.Sound.{W, Sound}
 use Rattle.blorb.specs.Bytes.{Byte}
 use Rattle.blorb.proofs.Checks.{then-accept, check-accept, pass}
 use Rattle.blorb.proofs.Accept.{accept-back}
@@ -39,9 +38,10 @@ use Rattle.judging.proofs.OpenLaws.{shared-is, front-nothing, front-at}
 use Rattle.judging.specs.Told.{Own}
 use Rattle.edits.proofs.RuleSeven.{Plain, allowed-plain}
 use Rattle.edits.proofs.FrontLaws.{optional-replaced}
-use Rattle.edits.proofs.JudgedLaws.{chunk-plain}
+use Rattle.edits.proofs.JudgedLaws.{chunk-plain, chunk-in, Parts, model-parts}
 use Rattle.judging.proofs.RemoveFault.{hundred-front}
 use Rattle.edits.proofs.FaultLaws.{hundred-then, hundred-check}
+use Rattle.edits.proofs.FitFacts.{size-is}
 
 -- a second index: only the new chunk can be one
 second-set : (at at′ : ℕ) (cs : List Chunk) (k : ℕ) (c : Chunk) → k < length cs → secondIndex at cs ≡ accept → secondIndex at′ (set cs k c) ≡ check
@@ -85,17 +85,11 @@ module _ (profile : ℕ) (m : Model) (u n t : ℕ) (d : List ℕ) (s : Sound m) 
   abbrev p : ℕ
   p = 24 + 12 * find u n (m .refs)
 
-  parts : (secondIndex (base (length (m .refs))) (m .chunks) ≡ accept) × (length (m .refs) ≤ 4096) × (refsFault (rulesOf profile) (m .chunks) [] 24
-      (m .refs) ≡ accept) × (optional (base (length (m .refs))) (m .refs) (m .chunks) ≡ accept)
-  unfolding modelFault
-  parts =
-      let a = then-accept _ _ ok in
-      let b = then-accept _ _ (a .1) in
-      let c = then-accept _ _ (b .1) in
-      (a .0, leb-true _ _ (check-accept _ _ _ (b .0)), c .0, c .1)
+  parts : Parts profile m
+  parts = model-parts profile m ok
 
   there : refAt m (find u n (m .refs)) .chunk < length (m .chunks)
-  there = all-getD (RefOk (length (m .chunks))) (m .refs) i noRef (s .refs-ok) h .chunk-there
+  there = chunk-in m i s h
 
   -- 119: the frontispiece's picture becomes a 'Rect'
   unfoldable pub spoiltFront : Verdict
@@ -106,12 +100,12 @@ module _ (profile : ℕ) (m : Model) (u n t : ℕ) (d : List ℕ) (s : Sound m) 
   seven : allows profile u (chunkOf t d) ≡ true → optional (base (length (m .refs))) (m .refs) (set (m .chunks) k (chunkOf t d)) ≡ spoiltFront
   unfolding spoiltFront shared start
   seven pl =
-      let o = chunk-plain profile cs [] 24 rs i (parts .2) h in
+      let o = chunk-plain profile cs [] 24 rs i (parts .entries-fine) h in
       let q = allowed-plain profile u c pl in
       let place : startOf (base (length rs)) (set cs k c) (frontPlace (set cs k c)) ≡ behind (startOf (base (length rs)) cs k) (size (getD cs k noChunk))
       (size c) (startOf (base (length rs)) cs (frontPlace cs))
       = ap (startOf (base (length rs)) (set cs k c)) (front-set cs k c there o q) ∙ shifted (base (length rs)) cs k c (frontPlace cs) there in
-      optional-replaced (rulesOf profile) (base (length rs)) (base (length rs)) cs rs u n c (parts .2) (parts .3) h alone there o q
+      optional-replaced (rulesOf profile) (base (length rs)) (base (length rs)) cs rs u n c (parts .entries-fine) (parts .seven) h alone there o q
       ∙ ap (λ (z : ℕ). cond (typeIn Fspc cs) (check (not ((eqb u Pict && eqb n (frontNumber cs)) && eqb t Rect)) 19 (z + 8)) accept) place
 
   pub replaced-model : modelFault (rulesOf profile) (replaced m k (chunkOf t d)) ≡ check (not (eqb t RIdx)) 9 (start m k) then
@@ -119,12 +113,12 @@ module _ (profile : ℕ) (m : Model) (u n t : ℕ) (d : List ℕ) (s : Sound m) 
   unfolding modelFault replaced start shared
   replaced-model =
       let fp = find-pair u n rs h in
-      let a = second-set (base (length rs)) (base (length rs)) cs k c there (parts .0) in
+      let a = second-set (base (length rs)) (base (length rs)) cs k c there (parts .no-second) in
       let b : refsFault (rulesOf profile) (set cs k c) [] 24 rs ≡ check (allows profile u c) 14 p
-      = refs-replaced (rulesOf profile) cs k c there [] 24 rs i h refl alone (parts .2) ∙ ap (λ (z : ℕ). check (allows profile z c) 14 p) (fp .0) in
+      = refs-replaced (rulesOf profile) cs k c there [] 24 rs i h refl alone (parts .entries-fine) ∙ ap (λ (z : ℕ). check (allows profile z c) 14 p) (fp .0) in
       let w : Verdict = optional (base (length rs)) rs (set cs k c) in
       (λ z. a z then (check (leb (length rs) 4096) 11 20 then (b z then w)))
-      ∙ ap (λ (v : Verdict). check (not (eqb t RIdx)) 9 (startOf (base (length rs)) cs k) then v) (pass _ _ _ _ (le-leb _ _ (parts .1))
+      ∙ ap (λ (v : Verdict). check (not (eqb t RIdx)) 9 (startOf (base (length rs)) cs k) then v) (pass _ _ _ _ (le-leb _ _ (parts .few))
       ∙ looked (allows profile u c) refl w)
     where
       looked : (x : Bool) → allows profile u (chunkOf t d) ≡ x → (w : Verdict) → check x 14 p then optional (base (length (m .refs))) (m .refs)
@@ -168,10 +162,6 @@ replace-fault profile f u n t d bytes fine hu hn ht found alone =
         (check b 109 p then (check c 114 q then hundred v))
     spread a b c p q v = simp (hundred-then, hundred-check)
 
-pub size-body : (c : Chunk) → size c ≡ 8 + (length (c .body) + length (c .body) % 2)
-unfolding size sized
-size-body c = refl
-
 -- the ways out of the code
 module _ (profile : ℕ) (f : List ℕ) (r : Front) (p : Piece) (u n t : ℕ) (d : List ℕ) (bytes : All Byte f)
     (pre : (verdict (rulesOf profile) f ≡ accept) × (Own f u n p × (r ≡ frontOf (model f)))) (hu : u < W) (hn : n < W) (ht : t < W) where
@@ -195,7 +185,7 @@ module _ (profile : ℕ) (f : List ℕ) (r : Front) (p : Piece) (u n t : ℕ) (d
   shape b e =
       let sz : size (chunkOf t d) ≡ new = size-of t d ∙ omega arith in
       let i : ℕ = find u n (model f .refs) in
-      let sp : size (chunkAt (model f) (refAt (model f) i .chunk)) ≡ a = size-body (chunkAt (model f) (refAt (model f) i .chunk))
+      let sp : size (chunkAt (model f) (refAt (model f) i .chunk)) ≡ a = size-is (chunkAt (model f) (refAt (model f) i .chunk))
       ∙ ap (λ (z : Piece). 8 + (z .length + z .length % 2)) (sym (o .piece)) in
       replace-fault profile f u n t d bytes (pre .0) hu hn ht (o .found) (sym (shared-is (model f) i p (o .piece)) ∙ o .alone)
       ∙ (λ z. check (leb (length f - sp z + sz z) 16777216) 101 0 then (check (not (eqb t RIdx)) 109 (sym (o .piece) z .start) then

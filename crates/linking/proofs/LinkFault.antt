@@ -28,7 +28,7 @@ use Rattle.edits.proofs.UndoJudged.{AcceptedFile, accepted-facts}
 use Rattle.reader.specs.declared.Piece.{Piece}
 use Rattle.undoing.proofs.ChunkAt.{chunk-in-place, chunk-inside}
 use Rattle.linking.specs.Original.{Original}
-use Rattle.linking.proofs.PlaceLaws.{chunk-there}
+use Rattle.linking.proofs.PlaceLaws.{chunk-there, starts-at}
 
 -- the judgement of the file after a link, as the code makes it: l and k are the old file's length and count, c the original's chunk, i the new entry's place
 -- and
@@ -86,21 +86,17 @@ module _ (profile : ℕ) (f : List ℕ) (k : ℕ) (p : Piece) (i u n : ℕ) (byt
   small : length (file (model f)) < W
   small = omega (arith, accepted-file .short)
 
-  starts-at : p .start ≡ start (model f) (refAt (model f) (p .place) .chunk)
-  starts-at = ap (λ (z : Piece). z .start) (orig .piece)
-
   -- the chunk is read in place
   pub chunk-read : chunkIn (drop (p .start) f) ≡ chunkAt (model f) (refAt (model f) (p .place) .chunk)
-  chunk-read = (λ z. chunkIn (drop (starts-at z) (sym (accepted-file .whole) z))) ∙ chunk-in-place (model f) (refAt (model f) (p .place) .chunk)
-      (accepted-file .sound)
-      (chunk-there f k p orig bytes) small
+  chunk-read = (λ z. chunkIn (drop (starts-at f k p orig bytes z) (sym (accepted-file .whole) z)))
+      ∙ chunk-in-place (model f) (refAt (model f) (p .place) .chunk) (accepted-file .sound) (chunk-there f k p orig bytes) small
 
   pub chunk-lies : p .start + (8 + rd32 (drop (p .start + 4) f)) ≤ length f
   chunk-lies =
       let t = chunk-inside (model f) (refAt (model f) (p .place) .chunk) (accepted-file .sound) (chunk-there f k p orig bytes) small in
       let e : rd32 (drop (p .start + 4) f) ≡ rd32 (drop (start (model f) (refAt (model f) (p .place) .chunk) + 4) (file (model f)))
-      = λ z. rd32 (drop (starts-at z + 4) (sym (accepted-file .whole) z)) in
-      omega (arith, t, e, starts-at, ap length (accepted-file .whole))
+      = λ z. rd32 (drop (starts-at f k p orig bytes z + 4) (sym (accepted-file .whole) z)) in
+      omega (arith, t, e, starts-at f k p orig bytes, ap length (accepted-file .whole))
 
   shape : H ≡ linkJudged profile (length f) k (chunkIn (drop (p .start) f)) i (find u n (model f .refs)) u n
   shape =

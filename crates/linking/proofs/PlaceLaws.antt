@@ -20,7 +20,7 @@ module _ (f : List ℕ) (k : ℕ) (p : Piece) (o : Original f k p) (bytes : All 
   pub chunk-there : refAt (model f) (p .place) .chunk < length (model f .chunks)
   chunk-there = chunk-in (model f) (p .place) (facts f k (o .indexed) bytes .sound) (omega (arith, o .there, o .indexed .counted .entries))
 
-  starts-at : p .start ≡ start (model f) (refAt (model f) (p .place) .chunk)
+  pub starts-at : p .start ≡ start (model f) (refAt (model f) (p .place) .chunk)
   starts-at = ap (λ (z : Piece). z .start) (o .piece)
 
   -- the original itself starts there

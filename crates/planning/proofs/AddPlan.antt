@@ -33,7 +33,8 @@ use Rattle.judging.specs.Told.{Counted}
 use Rattle.rewrite.specs.Rewriting.{Stands}
 use Rattle.planning.specs.Plans.{editRefusal, planOf}
 use Rattle.judging.proofs.OpenLaws.{asked, asked-refused, asked-whole}
-use Rattle.planning.proofs.PlanLaws.{plan-go, hundred-fine, open-stands, opened-fine, stands-counted, edit-unopened, edit-off-target, edit-told}
+use Rattle.edits.proofs.RunLaws.{hundred-accept}
+use Rattle.planning.proofs.PlanLaws.{plan-go, open-stands, opened-fine, stands-counted, edit-unopened, edit-off-target, edit-told}
 
 module _ (profile : ℕ) (b : List ℕ) (l J U u n t : ℕ) (d : List ℕ) (bytes : All Byte (take l b)) where
   abbrev pub f : List ℕ
@@ -139,7 +140,7 @@ module _ (profile : ℕ) (b : List ℕ) (l J U u n t : ℕ) (d : List ℕ) (byte
       let o : O ≡ accept = accepts _ _ (h0 .0) ∙ accepts _ _ (h1 .0) ∙ h2 .0 in
       let room : length (editedFile f E) ≤ length b = leb-true _ _ (check-accept _ _ _ (h5 .0)) in
       let jr : U + length (editRecord f E) ≤ J = leb-true _ _ (check-accept _ _ _ (h5 .1)) in
-      let sh = accept-short (rulesOf profile) (editedFile f E) (hundred-fine _ (h4 .0)) in
+      let sh = accept-short (rulesOf profile) (editedFile f E) (hundred-accept _ (h4 .0)) in
       let len = add-length o in
       let r29 = record-29 in
       record {

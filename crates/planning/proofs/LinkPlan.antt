@@ -32,7 +32,8 @@ use Rattle.judging.proofs.OpenLaws.{asked, asked-refused, place-is, start-is}
 use Rattle.linking.specs.Original.{Original}
 use Rattle.planning.specs.declared.Linking.the-variants.{Join, Stay}
 use Rattle.planning.specs.Plans.{editRefusal, linkingOf}
-use Rattle.planning.proofs.PlanLaws.{hundred-fine, opened-fine, stands-as, stands-counted, edit-unopened, edit-off-target, edit-told}
+use Rattle.edits.proofs.RunLaws.{hundred-accept}
+use Rattle.planning.proofs.PlanLaws.{opened-fine, stands-as, stands-counted, edit-unopened, edit-off-target, edit-told}
 use Rattle.planning.proofs.RemovePlan.{Found, Told}
 use Rattle.planning.proofs.RemovePlan as original
 
@@ -165,7 +166,7 @@ module _ (profile : ℕ) (b : List ℕ) (l J U v o u n : ℕ) (bytes : All Byte 
       let there : There = original.found profile b l J U v o bytes opened (ltb-true _ _ (check-accept _ _ _ (h3 .0))) in
       let room : length (editedFile f E) ≤ length b = leb-true _ _ (check-accept _ _ _ (h5 .0)) in
       let jr : U + length (editRecord f E) ≤ J = leb-true _ _ (check-accept _ _ _ (h5 .1)) in
-      let sh = accept-short (rulesOf profile) (editedFile f E) (hundred-fine _ (h4 .0)) in
+      let sh = accept-short (rulesOf profile) (editedFile f E) (hundred-accept _ (h4 .0)) in
       let len = link-length there in
       let r29 = record-29 in
       let q : Join K (linkPlace kc (m .refs)) (start m kc) ≡ Join k y x = ap (λ (z : Verdict). linkingOf z m v o) (sym w) ∙ e in

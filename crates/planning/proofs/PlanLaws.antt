@@ -36,10 +36,6 @@ pub plan-go : (v : Verdict) (k i : ℕ) → planOf v k ≡ Go i → (v ≡ accep
 plan-go accept k i e = (refl, cc)
 plan-go (refuse a b) k i e = let z : _≡_ {A = ℕ} 0 1 = cc in absurd (omega arith)
 
-pub hundred-fine : (v : Verdict) → hundred v ≡ accept → v ≡ accept
-hundred-fine accept h = refl
-hundred-fine (refuse k p) h = cc
-
 -- what is known once 52, 20 and the reader's refusals are past
 pub open-stands : (profile : ℕ) (b : List ℕ) (l u J k : ℕ) → All Byte (take l b)
     → check (leb profile 1) 52 0 then (check (leb l (length b) && leb u J) 20 0 then verdict (rulesOf profile) (take l b)) ≡ accept

@@ -13,11 +13,10 @@ use Rattle.blorb.specs.Format.{Chunk, size, sized, total}
 use Rattle.blorb.specs.Verdict.{Verdict, accept, refuse, _then_, check, verdict, noChunk}
 use Rattle.blorb.specs.Rules.{rulesOf}
 use Rattle.blorb.specs.Model.{Model, model, file, startOf, base}
-use Rattle.blorb.specs.Queries.{find, refAt, chunkAt, shared, noRef, start}
+use Rattle.blorb.specs.Queries.{find, refAt, chunkAt, shared, start}
 use Rattle.blorb.specs.All.{All}
 use Rattle.blorb.specs.Bytes.{Byte}
-use Rattle.blorb.specs.Sound.{RefOk}
-use Rattle.blorb.proofs.AllLaws.{all-getD}
+use Rattle.edits.proofs.JudgedLaws.{chunk-in}
 use Rattle.blorb.proofs.VerdictLaws.{modelFault, file-judged}
 use Rattle.blorb.proofs.Checks.{then-accept, check-accept, accepts, holds-last}
 use Rattle.blorb.proofs.Parts.{file-length}
@@ -113,7 +112,7 @@ module _ (profile : ℕ) (b : List ℕ) (l J U u n : ℕ) (bytes : All Byte (tak
   found h lt =
       let st = open-stands profile b l U J K bytes h refl in
       let lm : length (file m) ≡ l = ap length (st .0 .whole) ∙ length-take-le l b (st .0 .inside) in
-      let th : kc < length (m .chunks) = all-getD (RefOk (length (m .chunks))) (m .refs) i noRef (st .0 .sound .refs-ok) lt .chunk-there in
+      let th : kc < length (m .chunks) = chunk-in m i (st .0 .sound) lt in
       let sb = start-before m kc th in
       record {
         stands = st .0;

@@ -33,10 +33,11 @@ use Rattle.judging.specs.declared.Outcome.the-variants as outcome
 use Rattle.judging.specs.Outcomes.{verdictOf}
 use Rattle.judging.specs.Told.{Own}
 use Rattle.judging.proofs.OpenLaws.{asked, asked-refused, place-is, shared-is}
-use Rattle.judging.proofs.ReplaceFault.{size-body}
+use Rattle.edits.proofs.RunLaws.{hundred-accept}
+use Rattle.edits.proofs.FitFacts.{size-is}
 use Rattle.planning.specs.declared.Change.the-variants.{Put, Keep}
 use Rattle.planning.specs.Plans.{editRefusal, changeOf}
-use Rattle.planning.proofs.PlanLaws.{hundred-fine, opened-fine, edit-unopened, edit-off-target, edit-told}
+use Rattle.planning.proofs.PlanLaws.{opened-fine, edit-unopened, edit-off-target, edit-told}
 use Rattle.planning.proofs.RemovePlan.{Found, found, Told, told-missing}
 
 pub change-no : (v : Verdict) (m : Model) (u n k p : ℕ) → changeOf v m u n ≡ Keep k p → v ≡ refuse k p
@@ -97,7 +98,7 @@ module _ (profile : ℕ) (b : List ℕ) (l J U u n t : ℕ) (d : List ℕ) (byte
 
     module _ (a : ℕ) (ea : a ≡ 8 + (p .length + p .length % 2)) where
       pub size-now : a ≡ size (chunkAt m kc)
-      size-now = ea ∙ ap (λ (z : Piece). 8 + (z .length + z .length % 2)) e ∙ sym (size-body (chunkAt m kc))
+      size-now = ea ∙ ap (λ (z : Piece). 8 + (z .length + z .length % 2)) e ∙ sym (size-is (chunkAt m kc))
 
       pub inside : a ≤ l
       inside = omega (arith, size-now, w .ends)
@@ -196,7 +197,7 @@ module _ (profile : ℕ) (b : List ℕ) (l J U u n t : ℕ) (d : List ℕ) (byte
         count-is = cc;
         piece-is = cc;
         room = leb-true _ _ (check-accept _ _ _ (h5 .0));
-        short = accept-short (rulesOf profile) (editedFile f E) (hundred-fine _ (h4 .0));
+        short = accept-short (rulesOf profile) (editedFile f E) (hundred-accept _ (h4 .0));
         journal-room = leb-true _ _ (check-accept _ _ _ (h5 .1));
       }
     where

@@ -19,7 +19,7 @@ use Rattle.edits.proofs.Noted.{noted-over}
 use Rattle.moves.specs.Shift.{slid}
 use Rattle.moves.specs.Moves.{startsMoved}
 use Rattle.rewrite.specs.Rewriting.{closed, resized}
-use Rattle.rewrite.proofs.Writes.{left-behind, slid-left, slid-right, starts-moved}
+use Rattle.rewrite.proofs.Writes.{left-behind, slid-left, slid-right, starts-moved, last-apart}
 
 zeros : (k a n : ℕ) → k + a ≡ n → replicate {A = ℕ} k 0 ++ replicate a 0 ≡ replicate n 0
 zeros k a n e = rw (replicate-append-replicate {A = ℕ} k a 0, e)
@@ -140,11 +140,8 @@ module _ (b : List ℕ) (L : ℕ) where
       let n1 : length f + k ≡ length (p ++ (g ++ s)) = sym (length-append p (g ++ s) ∙ ap (λ (z : ℕ). length p + z) (length-append g s) ∙ omega arith) in
       let fin : p ++ (g ++ (s ++ drop k t)) ≡ written b L (p ++ (g ++ s))
       = ap (λ (z : List ℕ). p ++ (g ++ (s ++ z))) (drop-tail (length f) k ∙ ap tail n1)
-      ∙ seam3 p g s (tail (length (p ++ (g ++ s)))) ∙ sym (written-tail (p ++ (g ++ s))) in
+      ∙ last-apart p g s (tail (length (p ++ (g ++ s)))) ∙ sym (written-tail (p ++ (g ++ s))) in
       ap (λ (z : List ℕ). slid z (at + k) at (len - at)) a ∙ slid-right p s t at k (len - at) ep (omega arith) (omega arith) ∙ fin
-    where
-      seam3 : (p g s t : List ℕ) → p ++ (g ++ (s ++ t)) ≡ (p ++ (g ++ s)) ++ t
-      seam3 p g s t = simp append-assoc
 
   tail-length : (n : ℕ) → L ≤ length b → length (tail n) ≡ length b - n
   tail-length n hb = length-append (replicate (L - n) 0) (drop (max L n) b) ∙ (let x : length (replicate {A = ℕ} (L - n) 0) ≡ L - n =

@@ -28,7 +28,7 @@ use Rattle.moves.specs.Shift.{slid}
 use Rattle.moves.specs.Moves.{startsMoved, relocated}
 use Rattle.moves.specs.declared.Move.{Move}
 use Rattle.rewrite.specs.Rewriting.{Stands, Insertable}
-use Rattle.rewrite.proofs.Writes.{entries-append, entries-cons, length-entry, entry-bytes, slid-right, starts-moved, written-longer}
+use Rattle.rewrite.proofs.Writes.{entries-append, entries-cons, length-entry, entry-bytes, slid-right, starts-moved, written-longer, last-apart}
 
 -- starts at or behind s: behind s - 1
 pub relocated-risen : (m : Move) (s a : ℕ) → 1 ≤ s → m .limit ≡ s - 1 → m .grow ≡ 12 + a → m .fall ≡ 0 → m .plus ≡ 12 → m .minus ≡ 0 → relocated m ≡ risen s a
@@ -153,9 +153,6 @@ module _ (m : Model) (i k u n : ℕ) where
       let c1 : chunksBytes (entered m i k u n .chunks) ≡ chunksBytes (m .chunks) = (unfold entered in refl) in
       file-parts (entered m i k u n) ∙ (λ z. heading (n1 z) (t1 z) ++ (entriesBytes (starts-entered m i k u n z) ++ c1 z))
 
-seam : (a b c d : List ℕ) → a ++ (b ++ (c ++ d)) ≡ (a ++ (b ++ c)) ++ d
-seam a b c d = simp append-assoc
-
 start-bytes : (m : Model) (k : ℕ) → start m k ≡ 24 + 12 * length (m .refs) + length (chunksBytes (take k (m .chunks)))
 unfolding start startOf base
 start-bytes m k = ap (λ (z : ℕ). 24 + 12 * length (m .refs) + z) (sym (length-chunksBytes (take k (m .chunks))))
@@ -230,7 +227,7 @@ module _ (b : List ℕ) (l k i at u n : ℕ) (stands : Stands b l k) (ins : Inse
       (24 + 12 * i) (sym (entry-bytes u n (at + 12)) z)) (at + 12) (chunkBytes c)) 0 (heading (k1 z) (t1 z)))
       ∙ leaves
       ∙ (λ z. F′ ++ (sym (entries-with (map (moved f) (entries m)) i x) z ++ ((c1 ++ (chunkBytes c ++ c2)) ++ drop (12 + sz) (drop l b))))
-      ∙ seam F′ E (c1 ++ (chunkBytes c ++ c2)) (drop (12 + sz) (drop l b))
+      ∙ last-apart F′ E (c1 ++ (chunkBytes c ++ c2)) (drop (12 + sz) (drop l b))
       ∙ ap (λ (z : List ℕ). z ++ drop (12 + sz) (drop l b)) (sym file-is)
       ∙ at-end (file (inserted m i kc u n c)) (12 + sz) len
 
@@ -266,7 +263,7 @@ module _ (b : List ℕ) (l k i at u n : ℕ) (stands : Stands b l k) (ins : Inse
       (sym (entry-bytes u n (at + 12)) z)) 0 (heading (k1 z) (t1 z)))
       ∙ leaves
       ∙ (λ z. F′ ++ (sym (entries-with (map (moved f) (entries m)) i x) z ++ (C ++ drop 12 (drop l b))))
-      ∙ seam F′ E C (drop 12 (drop l b))
+      ∙ last-apart F′ E C (drop 12 (drop l b))
       ∙ ap (λ (z : List ℕ). z ++ drop 12 (drop l b)) (sym file-is)
       ∙ at-end (file (entered m i kc u n)) 12 len
 

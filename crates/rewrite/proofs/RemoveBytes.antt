@@ -12,11 +12,10 @@ use Rattle.blorb.specs.Format.{Chunk, Entry, size, entryBytes, entriesBytes, ch
 use Rattle.blorb.specs.Layout.{heading}
 use Rattle.blorb.specs.Verdict.{noChunk}
 use Rattle.blorb.specs.Model.{Model, base, startOf, file, model}
-use Rattle.blorb.specs.Queries.{noRef, refAt, chunkAt, shared, without, start}
+use Rattle.blorb.specs.Queries.{refAt, chunkAt, shared, without, start}
 use Rattle.edits.specs.Edit.{removed, removedBoth, removedEntry}
 use Rattle.blorb.specs.All.{All}
-use Rattle.blorb.proofs.AllLaws.{all-getD}
-use Rattle.blorb.specs.Sound.{W, RefOk, Sound}
+use Rattle.blorb.specs.Sound.{W, Sound}
 use Rattle.blorb.proofs.Codec.{EntryOk, length-entriesBytes, length-chunksBytes, length-chunkBytes}
 use Rattle.blorb.proofs.ModelLaws.{entries, entries-ok}
 use Rattle.edits.proofs.UndoLaws.{length-without, length-remaining}
@@ -27,6 +26,7 @@ use Rattle.blorb.proofs.Parts.{file-parts, file-length, length-heading, chunks-
 use Rattle.edits.proofs.Lengths.{total-less}
 use Rattle.edits.specs.Run.{noted, written}
 use Rattle.edits.proofs.Noted.{noted-over}
+use Rattle.edits.proofs.JudgedLaws.{chunk-in}
 use Rattle.moves.specs.Moves.{startsMoved, relocated}
 use Rattle.moves.specs.declared.Move.{Move}
 use Rattle.moves.specs.Shift.{slid}
@@ -168,7 +168,7 @@ module _ (m : Model) (i : ℕ) (s : Sound m) (h : i < length (m .refs)) where
   k = refAt m i .chunk
 
   there : refAt m i .chunk < length (m .chunks)
-  there = all-getD (RefOk (length (m .chunks))) (m .refs) i noRef (s .refs-ok) h .chunk-there
+  there = chunk-in m i s h
 
   both-file : shared m i ≡ false → file (removedBoth m i k) ≡ heading (length (m .refs) - 1) (total (m .chunks) - size (chunkAt m k))
       ++ (entriesBytes (map (moved (fallen (start m k) (size (chunkAt m k)))) (without i (entries m))) ++ (chunksBytes (take k (m .chunks)) ++ chunksBytes

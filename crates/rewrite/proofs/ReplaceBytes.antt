@@ -1,7 +1,7 @@
 -- The bytes of a replacement.
 use mathlib.Core.Path.{_≡_, refl, sym, ap, _∙_}
 use Prim.Native.Nat.{ℕ, suc, _+_, _*_, _-_, _≤_, _<_}
-use mathlib.Core.List.{List, [], _++_, map, append-assoc}
+use mathlib.Core.List.{List, [], _++_, map}
 use mathlib.Core.Bool.{Bool, true, false, cond}
 use native.Mathlib.Omega.{arith}
 use native.Mathlib.Nat.{add-zero, sub-zero}
@@ -13,11 +13,10 @@ use Rattle.blorb.specs.Format.{Chunk, Entry, size, entriesBytes, chunkBytes, ch
 use Rattle.blorb.specs.Layout.{heading}
 use Rattle.blorb.specs.Verdict.{noChunk}
 use Rattle.blorb.specs.Model.{Model, base, startOf, file, model}
-use Rattle.blorb.specs.Queries.{noRef, refAt, chunkAt, start}
+use Rattle.blorb.specs.Queries.{refAt, chunkAt, start}
 use Rattle.edits.specs.Edit.{replaced}
 use Rattle.blorb.specs.All.{All}
-use Rattle.blorb.proofs.AllLaws.{all-getD}
-use Rattle.blorb.specs.Sound.{W, RefOk}
+use Rattle.blorb.specs.Sound.{W}
 use Rattle.blorb.specs.Bytes.{Byte}
 use Rattle.blorb.proofs.Codec.{length-entriesBytes, length-chunksBytes, length-chunkBytes}
 use Rattle.blorb.proofs.ModelLaws.{entries, entries-ok, size-getD}
@@ -30,9 +29,11 @@ use Rattle.moves.specs.Moves.{startsMoved, relocated}
 use Rattle.moves.specs.declared.Move.{Move}
 use Rattle.rewrite.specs.Rewriting.{Stands, closed, resized, Replaceable}
 use Rattle.edits.proofs.Noted.{noted-none}
+use Rattle.edits.proofs.JudgedLaws.{chunk-in}
 use Rattle.moves.proofs.ShiftLaws.{slid-onto}
 use Rattle.moves.proofs.MoveLaws.{starts-stay}
 use Rattle.rewrite.proofs.Content.{written-first, put-written, starts-written, Resized, resized-written}
+use Rattle.rewrite.proofs.Writes.{last-apart}
 
 pub relocated-behind : (m : Move) (s a b : ℕ) → m .limit ≡ s → m .grow ≡ b → m .fall ≡ a → m .plus ≡ 0 → m .minus ≡ 0 → relocated m ≡ behind s a b
 unfolding relocated
@@ -61,9 +62,6 @@ resized-same b at len old new e =
     let m : at + new - 0 ≡ at + new = omega arith in
     sym (ap (λ (a : ℕ). resized b at len a new) e ∙ rw (le-ltb new new (omega arith), z, n, m, slid-onto b (at + new) (len - (at + new)))
     (noted-none b (len - 0)))
-
-seam : (a b c d : List ℕ) → a ++ (b ++ (c ++ d)) ≡ (a ++ (b ++ c)) ++ d
-seam a b c d = simp append-assoc
 
 start-total : (m : Model) (k : ℕ) → start m k ≡ 24 + 12 * length (m .refs) + total (take k (m .chunks))
 unfolding start startOf base
@@ -96,7 +94,7 @@ replace-written b l k i st old new t d stands rp en room =
     let n : ℕ = length (m .refs) in
     let ek : k ≡ n = stands .entries in
     let hi : i < n = omega (arith, rp .listed) in
-    let th : kc < length (m .chunks) = all-getD (RefOk (length (m .chunks))) (m .refs) i noRef (stands .sound .refs-ok) hi .chunk-there in
+    let th : kc < length (m .chunks) = chunk-in m i (stands .sound) hi in
     let lL : length (take l b) ≡ l = length-take-le l b (stands .inside) in
     let lm : length (file m) ≡ l = ap length (stands .whole) ∙ lL in
     let small : length (file m) < W = omega (arith, stands .short) in
@@ -118,13 +116,13 @@ replace-written b l k i st old new t d stands rp en room =
     let p1 : List ℕ = F ++ (E ++ c1) in
     let lp1 : length p1 ≡ st = length-append F (E ++ c1) ∙ ap (λ (z : ℕ). length F + z) (length-append E c1) ∙ omega arith in
     let cont : take l b ≡ p1 ++ (cx ++ c2) = sym (stands .whole) ∙ file-parts m ∙ ap (λ (z : List ℕ). F ++ (E ++ z)) (chunks-around (m .chunks) kc th)
-    ∙ seam F E c1 (cx ++ c2) in
+    ∙ last-apart F E c1 (cx ++ c2) in
     let w0 : b ≡ written b l (p1 ++ (cx ++ c2)) = written-first b l (stands .inside) ∙ ap (written b l) cont in
     let rz : Resized b l p1 c2 new (resized (written b l (p1 ++ (cx ++ c2))) st l old new)
     = resized-written b l p1 cx c2 st old new l lp1 lcx (ap length (sym cont) ∙ lL) (omega arith) room (stands .inside) in
     let h : List ℕ = rz .hole in
     let w1 : resized b st l old new ≡ written b l (F ++ (E ++ (c1 ++ (h ++ c2))))
-    = ap (λ (z : List ℕ). resized z st l old new) w0 ∙ rz .stands ∙ ap (written b l) (sym (seam F E c1 (h ++ c2))) in
+    = ap (λ (z : List ℕ). resized z st l old new) w0 ∙ rz .stands ∙ ap (written b l) (sym (last-apart F E c1 (h ++ c2))) in
     let w2 : startsMoved f k 24 (resized b st l old new) ≡ written b l (F ++ (E′ ++ (c1 ++ (h ++ c2))))
     = (λ z. startsMoved f ((ek ∙ sym ln) z) 24 (w1 z)) ∙ starts-written b l f F es (c1 ++ (h ++ c2)) 24 lF (entries-ok m (stands .sound) small)
     (lE′ ∙ sym lE) in
@@ -142,6 +140,6 @@ replace-written b l k i st old new t d stands rp en room =
     = (λ z. entriesBytes (map (moved (behind (rp .starts z) (rp .sized z) (en z))) es)) ∙ ap entriesBytes (sym (starts-replaced m kc c th)) in
     let ch : c1 ++ (chunkBytes c ++ c2) ≡ chunksBytes (replaced m kc c .chunks) = sym (chunks-replaced m kc c th) in
     (λ z. noted (noted (w2 z) 0 (fr z)) st (chunkBytes c))
-    ∙ ap (λ (z : List ℕ). noted z st (chunkBytes c)) (w3 ∙ ap (written b l) (seam F′ E′ c1 (h ++ c2)))
-    ∙ w4 ∙ ap (written b l) (sym (seam F′ E′ c1 (chunkBytes c ++ c2)) ∙ (λ z. heading n (total (replaced m kc c .chunks)) ++ (ee z ++ ch z))
+    ∙ ap (λ (z : List ℕ). noted z st (chunkBytes c)) (w3 ∙ ap (written b l) (last-apart F′ E′ c1 (h ++ c2)))
+    ∙ w4 ∙ ap (written b l) (sym (last-apart F′ E′ c1 (chunkBytes c ++ c2)) ∙ (λ z. heading n (total (replaced m kc c .chunks)) ++ (ee z ++ ch z))
     ∙ sym (parts-replaced m kc c))

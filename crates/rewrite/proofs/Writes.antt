@@ -141,3 +141,7 @@ written-shorter b L z f h =
     let e : L - length f ≡ z = omega arith in
     let x : max L (length f) ≡ L = max-eq-left (omega arith) in
     λ i. f ++ (replicate {A = ℕ} (e i) 0 ++ drop (x i) b)
+
+-- the last of four parts apart from the others
+pub last-apart : (a b c d : List ℕ) → a ++ (b ++ (c ++ d)) ≡ (a ++ (b ++ c)) ++ d
+last-apart a b c d = simp append-assoc

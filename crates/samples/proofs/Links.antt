@@ -99,6 +99,8 @@ table =
     (record { buffer = twoPictures; L = 88; journal = bare 5 Pict 2 2 60; U = 29 }) ∷ (
     runs 0 (record { buffer = twoPictures; L = 88; journal = bare 5 Pict 2 1 72; U = 29 }) (undo ∷ []) (record { result = refuse 21 0; L = 88; U = 29 } ∷ [])
     (record { buffer = twoPictures; L = 88; journal = bare 5 Pict 2 1 72; U = 29 }) ∷ (
+    runs 0 (record { buffer = twoPictures; L = 88; journal = bare 5 Pict 1 2 72; U = 29 }) (undo ∷ []) (record { result = refuse 21 0; L = 88; U = 29 } ∷ [])
+    (record { buffer = twoPictures; L = 88; journal = bare 5 Pict 1 2 72; U = 29 }) ∷ (
     -- the frontispiece's picture would go
     runs 1 (record { buffer = twoFronts; L = 72; journal = bare 5 Pict 7 0 48; U = 29 }) (undo ∷ []) (record { result = refuse 21 0; L = 72; U = 29 } ∷ [])
     (record { buffer = twoFronts; L = 72; journal = bare 5 Pict 7 0 48; U = 29 }) ∷ (
@@ -109,7 +111,7 @@ table =
     (record { buffer = B ++ eel; L = 76; journal = []; U = 0 }) ∷ (
     runs 0 (record { buffer = B ++ (sides ++ sides); L = 76; journal = drop 1 (bare 5 Pict 2 2 72); U = 0 }) (edit (link Pict 1 Pict 2) ∷ [])
     (record { result = refuse 25 0; L = 76; U = 0 } ∷ [])
-    (record { buffer = B ++ (sides ++ sides); L = 76; journal = drop 1 (bare 5 Pict 2 2 72); U = 0 }) ∷ []))))))))))))))))))))))))))))))))))))
+    (record { buffer = B ++ (sides ++ sides); L = 76; journal = drop 1 (bare 5 Pict 2 2 72); U = 0 }) ∷ [])))))))))))))))))))))))))))))))))))))
 
 pub samples : All RowHolds table
 unfolding computed table
@@ -118,4 +120,4 @@ samples =
     (parts RowHolds 8 (drop 8 table) (refl, ((refl, refl, refl), ((refl, refl), ((refl, refl, refl), ((refl, refl), (refl, (refl, (refl, tt))))))))
     (parts RowHolds 11 (drop 16 table) (refl, (refl, (refl, (refl, (refl, (refl, (refl, (refl, (refl, (refl, (refl, tt)))))))))))
     (parts RowHolds 6 (drop 27 table) ((refl, refl, refl), ((refl, refl), ((refl, refl), ((refl, refl), ((refl, refl), ((refl, refl), tt))))))
-    ((refl, refl), ((refl, refl), ((refl, refl), ((refl, refl), tt)))))))
+    ((refl, refl), ((refl, refl), ((refl, refl), ((refl, refl), ((refl, refl), tt))))))))

@@ -14,9 +14,9 @@ use Rattle.blorb.specs.Format.{Entry, Ref, Chunk, size}
 use Rattle.blorb.specs.Verdict.{Verdict, accept, refuse, verdict, accepted}
 use Rattle.blorb.specs.Rules.{rulesOf, profileVerdict}
 use Rattle.blorb.specs.Model.{Model, file, model}
-use Rattle.blorb.specs.Queries.{find, refAt, chunkAt, shared, start, noRef}
-use Rattle.blorb.specs.Sound.{W, RefOk, Sound}
-use Rattle.blorb.proofs.AllLaws.{all-getD, all-take}
+use Rattle.blorb.specs.Queries.{find, refAt, chunkAt, shared, start}
+use Rattle.blorb.specs.Sound.{W, Sound}
+use Rattle.blorb.proofs.AllLaws.{all-take}
 use Rattle.blorb.proofs.Checks.{then-accept, check-accept, and-both}
 use Rattle.blorb.proofs.ModelLaws.{entries, model-file}
 use Rattle.blorb.proofs.Accept.{accept-short}
@@ -77,6 +77,7 @@ use Rattle.edits.proofs.RunLaws.{Good, made, take-written, target-applies}
 use Rattle.edits.proofs.Applies.{Applies}
 use Rattle.edits.proofs.UndoJudged.{AcceptedFile, accepted-facts, fits1-facts, fits2-facts, fits5-facts}
 use Rattle.edits.proofs.UndoTold.{last-small}
+use Rattle.edits.proofs.JudgedLaws.{chunk-in}
 use Rattle.stale.specs.Leaves.{MovesNone, EditLeaves, UndoLeaves, Leaves, Caught}
 use Rattle.stale.proofs.Entries.{same-count, unmoved-same, same-unmoved}
 use Rattle.stale.proofs.Sound.{sound1, sound2, sound3, sound4, sound5}
@@ -127,9 +128,6 @@ module _ (profile : ℕ) (f : List ℕ) (bytes : All Byte f) (fine : profileVerd
   facts : AcceptedFile profile f
   facts = accepted-facts profile f bytes (profile-accept profile f fine .1)
 
-  chunk-in : (i : ℕ) → i < length (model f .refs) → refAt (model f) i .chunk < length (model f .chunks)
-  chunk-in i l = all-getD (RefOk (length (model f .chunks))) (model f .refs) i noRef (facts .sound .refs-ok) l .chunk-there
-
   removed-fewer : (i : ℕ) → i < length (model f .refs) → length (removed (model f) i .refs) ≡ length (model f .refs) → ⊥
   unfolding removed removedEntry
   removed-fewer i l = go (shared (model f) i)
@@ -151,7 +149,8 @@ module _ (profile : ℕ) (f : List ℕ) (bytes : All Byte f) (fine : profileVerd
       simp length-append (omega arith) in
       omega arith)
   edit-exactly (replace u n t d) a p fine2 =
-      replaced-exactly profile f fine (refAt (model f) (find u n (model f .refs)) .chunk) (givenChunk t d) (chunk-in (find u n (model f .refs)) (p .0))
+      replaced-exactly profile f fine (refAt (model f) (find u n (model f .refs)) .chunk) (givenChunk t d)
+      (chunk-in (model f) (find u n (model f .refs)) (facts .sound) (p .0))
       (edit-sound (model f) (replace u n t d) (facts .sound) a p) fine2
   edit-exactly (remove u n) a p fine2 =
       other-count profile f fine (edited (model f) (remove u n)) (edit-sound (model f) (remove u n) (facts .sound) a p) fine2 (removed-fewer (find u n (model f
@@ -187,7 +186,8 @@ module _ (profile : ℕ) (f : List ℕ) (bytes : All Byte f) (fine : profileVerd
         go true b c d fit fine2 = other-count profile f fine (undo1 m) (sound1 profile r m (facts .sound) (facts .judged) fit) fine2 (λ e. take-less e fit)
         go false true c d fit fine2 =
             let p = fits2-facts r m fit in
-            replaced-exactly profile f fine (refAt m (r .place) .chunk) (oldChunk r) (chunk-in (r .place) (p .inside)) (sound2 profile r m (facts .sound)
+            replaced-exactly profile f fine (refAt m (r .place) .chunk) (oldChunk r)
+            (chunk-in (model f) (r .place) (facts .sound) (p .inside)) (sound2 profile r m (facts .sound)
             (facts .judged)
             ht) fine2
         go false false true d fit fine2 =

@@ -1,18 +1,20 @@
 -- What the table in three columns promises (02, P10). Rows and columns are two forms of one list of entries: what holds of turning a form into another is
 -- proved once, over the four laws of a form, and what holds of a table's rows (P2) holds of its columns since both are lists of entries.
 use mathlib.Core.Path.{_≡_, ap, sym, _∙_}
-use Prim.Native.Nat.{ℕ, _*_, _/_, _≤_, _<_}
+use Prim.Native.Nat.{ℕ, _+_, _*_, _/_, _≤_, _<_}
 use mathlib.Core.List.{List}
 use mathlib.Core.Bool.{Bool, true, false}
 use native.Mathlib.Omega.{arith}
-use lib.ListN.{length, take, drop}
+use lib.ListN.{length, getD, take, drop}
 use lib.Seq.{take-at, take-all}
 use lib.Dec.{leb}
 use Rattle.blorb.specs.Format.{Entry}
 use Rattle.reader.specs.Reading.{lookupOf}
 use Rattle.rows.specs.Rows.{rowsOf, columnsOf, flat, flatColumns}
-use Rattle.rows.specs.Halving.{twoTo}
+use Rattle.rows.specs.Halving.{rowOf, twoTo}
 use Rattle.rows.proofs.HalvingLaws.{probes-few}
+use Rattle.rows.proofs.OrderLaws.{same-entry}
+use Rattle.rows.proofs.RowLaws.{row-by}
 use Rattle.rows.proofs.FlatLaws.{length-flat, length-rowsOf, rowsOf-flat}
 use Rattle.rows.proofs.ColumnLaws.{length-columnsOf, length-flatColumns, columnsOf-flat, flat-front, columns-front}
 use Rattle.table.specs.Answers.{searchOf, tableOf, roomFor, turnOf, written, checkOf, startFrom}
@@ -21,6 +23,17 @@ use Rattle.table.specs.declared.Built.the-variants as built
 use Rattle.table.specs.declared.Checked.the-variants as checked
 use Rattle.table.proofs.AnswerLaws.{turn-rows}
 use Rattle.table.proofs.Promises.{accepted-rows, accepted-is-table, table-is-accepted, accepted-search}
+
+-- "Row i of a slice of n whole rows is (s[i], s[n + i], s[2n + i]), n from the slice given"
+pub columns-row : (t : List ℕ) (i : ℕ) → i < length t / 3
+    → rowOf (columnsOf t) i ≡ record { usage = getD t i 0; number = getD t (length t / 3 + i) 0; start = getD t (2 * (length t / 3) + i) 0 }
+unfolding columnsOf
+columns-row t i h =
+    let n : ℕ = length t / 3 in
+    let a : i * 1 ≡ i = omega arith in
+    let b : i * 1 + n ≡ n + i = omega arith in
+    let c : i * 1 + 2 * n ≡ 2 * n + i = omega arith in
+    row-by t n 1 n i h ∙ same-entry _ _ (ap (λ (k : ℕ). getD t k 0) a) (ap (λ (k : ℕ). getD t k 0) b) (ap (λ (k : ℕ). getD t k 0) c)
 
 -- ---- turning a form into another
 

@@ -80,6 +80,16 @@ pub record Ends (l : List ℕ) (u : ℕ) (r : Record) : Type 0 where
   pub kind-high : r .kind ≤ 5
   pub back : (b : List ℕ) (len : ℕ) → afterUndo (state b len l u) .U ≡ u - (29 + r .length)
 
+module _ (l : List ℕ) (u : ℕ) (r : Record) (ends : Ends l u r) where
+  pub kind-is : (k : ℕ) → r .kind ≡ k → lastRec (take u l) .kind ≡ k
+  kind-is k h = ap (λ (z : Record). z .kind) (ends .numbers) ∙ h
+
+  -- the record's data, as the code lends them
+  pub body-is : take (u - 4 - (u - 4 - r .length)) (drop (u - 4 - r .length) l) ≡ lastRec (take u l) .body
+  body-is =
+      let e : u - 4 - (u - 4 - r .length) ≡ r .length = omega (arith, ends .room) in
+      ap (λ (z : ℕ). take z (drop (u - 4 - r .length) l)) e ∙ sym (ends .lies)
+
 pub good-ends : (l : List ℕ) (u : ℕ) (r : Record) → u ≤ length l → lastOf (take u l) ≡ Good r → Ends l u r
 unfolding afterUndo
 good-ends l u r inside h =

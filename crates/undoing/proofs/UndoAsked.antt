@@ -49,7 +49,7 @@ use Rattle.undoing.specs.UndoPlan.{
   unlistedPlan,
   linkedPlan,
 }
-use Rattle.undoing.proofs.LastRead.{Ends, good-ends, last-bad}
+use Rattle.undoing.proofs.LastRead.{Ends, good-ends, last-bad, kind-is, body-is}
 use Rattle.undoing.proofs.UndoFits.{fits-added, fits-replaced, fits-removed, fits-unlisted, fits-linked, begins-there}
 
 -- where the reader is asked, by the record's kind
@@ -87,43 +87,34 @@ module _ (profile : ℕ) (b : List ℕ) (l : ℕ) (j : List ℕ) (u : ℕ) (r : 
       a .facts-are ∙ ap (λ (z : ℕ). factsOf (model (take l b)) (r .usage) (r .number) z) (sym (asked-start r h))
       ∙ (λ i. factsOf (model (take l b)) (numbers i .usage) (numbers i .number) (numbers i .start - 12))
 
-  kind-is : (k : ℕ) → r .kind ≡ k → lastRec (take u j) .kind ≡ k
-  kind-is k h = ap (λ (z : Record). z .kind) (ends .numbers) ∙ h
-
-  -- the record's data, as the code lends them
-  body-is : take (u - 4 - (u - 4 - r .length)) (drop (u - 4 - r .length) j) ≡ lastRec (take u j) .body
-  body-is =
-      let e : u - 4 - (u - 4 - r .length) ≡ r .length = omega (arith, ends .room) in
-      ap (λ (z : ℕ). take z (drop (u - 4 - r .length) j)) e ∙ sym (ends .lies)
-
   pub record-room : 29 + r .length ≤ u
   record-room = ends .room
 
   pub asked-added : (x : Undoing) → r .kind ≡ 1 → x ≡ addedPlan t l r → x ≡ fittingPlan profile (take l b) (take u j)
   asked-added x h e =
-      e ∙ (λ i. addedPlan (facts-are i) (file-is i) (numbers i)) ∙ fits-added profile (take l b) (take u j) file-facts (a .bytes) (kind-is 1 h)
+      e ∙ (λ i. addedPlan (facts-are i) (file-is i) (numbers i)) ∙ fits-added profile (take l b) (take u j) file-facts (a .bytes) (kind-is j u r ends 1 h)
 
   pub asked-replaced : (x : Undoing) → r .kind ≡ 2 → x ≡ replacedPlan profile t l r (take (u - 4 - (u - 4 - r .length)) (drop (u - 4 - r .length) j))
       → x ≡ fittingPlan profile (take l b) (take u j)
   asked-replaced x h e =
-      e ∙ (λ i. replacedPlan profile (facts-are i) (file-is i) (numbers i) (body-is i)) ∙ fits-replaced profile (take l b) (take u j) file-facts
-      (a .bytes) (kind-is 2 h)
+      e ∙ (λ i. replacedPlan profile (facts-are i) (file-is i) (numbers i) (body-is j u r ends i)) ∙ fits-replaced profile (take l b) (take u j) file-facts
+      (a .bytes) (kind-is j u r ends 2 h)
 
   pub asked-removed : (x : Undoing) → (r .kind ≡ 1 → ⊥) → (r .kind ≡ 4 → ⊥) → (r .kind ≡ 5 → ⊥) → (r .kind ≡ 2 → ⊥)
       → x ≡ removedPlan profile t (take l b) r (take (u - 4 - (u - 4 - r .length)) (drop (u - 4 - r .length) j)) → x ≡ fittingPlan profile (take l b) (take u j)
   asked-removed x n1 n4 n5 n2 e =
       let h : r .kind ≡ 3 = omega (arith, ends .kind-low, ends .kind-high) in
-      e ∙ (λ i. removedPlan profile (start-facts (rw h) i) (take l b) (numbers i) (body-is i)) ∙ fits-removed profile (take l b) (take u j) file-facts
-      (a .bytes) (kind-is 3 h)
+      e ∙ (λ i. removedPlan profile (start-facts (rw h) i) (take l b) (numbers i) (body-is j u r ends i))
+      ∙ fits-removed profile (take l b) (take u j) file-facts (a .bytes) (kind-is j u r ends 3 h)
 
   pub asked-unlisted : (x : Undoing) → r .kind ≡ 4 → x ≡ unlistedPlan profile t (take l b) r → x ≡ fittingPlan profile (take l b) (take u j)
   asked-unlisted x h e =
       e ∙ (λ i. unlistedPlan profile (start-facts (rw h) i) (take l b) (numbers i)) ∙ fits-unlisted profile (take l b) (take u j) file-facts
-      (a .bytes) (kind-is 4 h)
+      (a .bytes) (kind-is j u r ends 4 h)
 
   pub asked-linked : (x : Undoing) → r .kind ≡ 5 → x ≡ linkedPlan t l r → x ≡ fittingPlan profile (take l b) (take u j)
   asked-linked x h e =
-      e ∙ (λ i. linkedPlan (facts-are i) (file-is i) (numbers i)) ∙ fits-linked profile (take l b) (take u j) file-facts (a .bytes) (kind-is 5 h)
+      e ∙ (λ i. linkedPlan (facts-are i) (file-is i) (numbers i)) ∙ fits-linked profile (take l b) (take u j) file-facts (a .bytes) (kind-is j u r ends 5 h)
 
   -- the index lies in the file
   pub index-inside : (length (take l b) ≤ 16777216) × (t .count ≤ 4096) × (24 + 12 * (t .count) ≤ length (take l b))

@@ -1,3 +1,4 @@
+-- The starts rise along the index, so the new entry goes where the first later one stands: the loop keeps that the entry before i starts no later.
 use native.Mathlib.Omega.{arith}
 use mathlib.Core.Path.{_≡_, sym, _∙_}
 use Prim.Native.Nat.{ℕ, _+_, _-_, _≤_, _<_}

@@ -1,3 +1,4 @@
+-- The parts of the verdict are judged in its order, each where those before it accept: for each way out there is one law (read-1 and on).
 use denote.Ref.{now}
 use native.Mathlib.Omega.{arith}
 use mathlib.Core.Path.{sym, ap, _∙_}

@@ -68,7 +68,8 @@ loop-again c =
     let room = c .before .before .before .before .before .if1 .left in
     let word = c .before .before .before .word-of in
     let w = c .before .covered .ensures in
-    let e : c .before .before .before .before .key-at .result ≡ key x (l .i) = key-is x (l .i) _ _ (l .inv .2) (c .before .before .before .before .key-at .ensures) in
+    let read = c .before .before .before .before .key-at in
+    let e : read .result ≡ key x (l .i) = key-is x (l .i) _ _ (l .inv .2) (read .ensures) in
     let h : l .count < length (l .suspects) = omega (arith, room, l .inv .3, l .inv .5) in (
       omega arith,
       omega arith,

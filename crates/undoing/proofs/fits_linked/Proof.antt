@@ -1,3 +1,4 @@
+-- The tests are those of the definition, one by one.
 use mathlib.Core.Path.{refl}
 use borrow.Author.Needs.{needs}
 use Rattle.undoing.proofs.fits_linked.Statement.{statement}

@@ -1,3 +1,4 @@
+-- Past the place behind the last entry there is none; at any other the two neighbours' tests are the two sides of the definition.
 use Rattle.undoing.proofs.UndoTests.{too-far, both-sides}
 use borrow.Author.Needs.{needs}
 use Rattle.undoing.proofs.in_order.Statement.{statement}

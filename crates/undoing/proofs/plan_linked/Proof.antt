@@ -1,3 +1,4 @@
+-- The definition goes by the same three cases: no such entry, an entry that the record does not fit or the frontispiece needs, and one that goes.
 use Rattle.undoing.proofs.UndoTests.{linked-not, linked-fits}
 use borrow.Author.Needs.{needs}
 use Rattle.undoing.proofs.plan_linked.Statement.{statement}

@@ -1,3 +1,4 @@
+-- In front of place 0 there is no entry; else the four bytes read are the start of the entry before.
 use Rattle.undoing.proofs.UndoTests.{none-before, one-before}
 use borrow.Author.Needs.{needs}
 use Rattle.undoing.proofs.starts_below.Statement.{statement}

@@ -1,3 +1,4 @@
+-- From the number of entries on there is no entry at the place; else the four bytes read are its start.
 use Rattle.undoing.proofs.UndoTests.{none-behind, one-behind}
 use borrow.Author.Needs.{needs}
 use Rattle.undoing.proofs.starts_from.Statement.{statement}
