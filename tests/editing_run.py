@@ -17,6 +17,7 @@ import editing_reference
 import reference
 from building import be
 from editing_ledger import Ledger
+from samples import checksum
 
 Scenario = namedtuple("Scenario", "name buf jrn len used shown steps profile", defaults=[reference.PLAIN])
 
@@ -110,14 +111,6 @@ def packed(x):
 
 
 # ---- telling
-
-def checksum(part):
-    """As the program's: knows the order of the bytes."""
-    total = 0
-    for b in part:
-        total = total % 4294967291 * 257 + b + 1
-    return total
-
 
 def words(answer):
     outcome = f"refused {answer.number} at {answer.place}" if answer.number else "done"

@@ -12,15 +12,14 @@ scenario of editing_by_hand.py, undo_by_hand.py, profile_by_hand.py, whole_by_ha
 scenario that is a run as under 01's 'Whole runs' is held to editing_ledger.py, which is told neither answers nor buffers: this script stops where
 they say another. Nothing comes from the library: neither its code nor anything it prints is read here.
 """
-import pathlib
 import sys
 from collections import Counter
 
 from editing_generated import run_of_many, runs, singles
 from editing_run import ROOM, held_to_ledger, is_run, lines, packed, results
 from link_by_hand import SCENARIOS
+from samples import only_check, save
 
-CRATE = pathlib.Path(__file__).resolve().parent.parent / "crates" / "editing_samples"
 RUNS, SINGLES, SEED = 48, 500, 1
 
 
@@ -62,16 +61,11 @@ def tally(scenarios):
 
 
 def main():
+    only_check()
     scenarios = made()
     stdin = b"".join(packed(x) for x in scenarios)
     stdout = "".join(line + "\n" for x in scenarios for line in lines(x)).encode()
-    if len(stdin) >= ROOM:
-        sys.exit(f"{len(stdin)} bytes are too many for the program's buffer")
-    for name, content in (("stdin", stdin), ("stdout", stdout)):
-        if "--check" not in sys.argv[1:]:
-            (CRATE / name).write_bytes(content)
-        elif (CRATE / name).read_bytes() != content:
-            sys.exit(f"{CRATE / name} is not what this script makes")
+    save("editing_samples", stdin, stdout, ROOM)
     calls = sum(step[0] != "given" for x in scenarios for step in x.steps)
     print(f"{len(SCENARIOS)} scenarios by hand, {SINGLES} single calls, {RUNS + 1} long runs; {calls} calls in all")
     print(f"{sum(map(is_run, scenarios))} held to the ledger; {len(stdin)} bytes in, {len(stdout)} out")

@@ -12,16 +12,14 @@ A packed sample: four numbers of four bytes (the length of its name, the length 
 has, how many rows are picked), the name, the file. Each number of the slice is 7 before. The file is listed into the
 slice, and the rows picked, with one that no file has.
 """
-import pathlib
 import sys
 from collections import Counter
 
 import forms_reference as reference
 from building import Dice, be, blorb, chunk
 from forms_reference import CAT, FORM, LIST, PROP
+from samples import CRATES, NUMBERS, checksum, only_check, save
 
-ROOT = pathlib.Path(__file__).resolve().parent.parent
-CRATE = ROOT / "crates" / "form_samples"
 ROOM = 1_048_576          # the program's buffer; the input has to be shorter
 FILLER = 7                # each number of the slice, before
 GENERATED, SEED = 1500, 9
@@ -78,7 +76,7 @@ def accepted():
     yield "200 FORMs", holder(CAT, *[EMPTY] * 200), [(12 * k, 4, 2) for k in range(1, 201)]
     yield "B as a FORM", blorb([(b"Data", 7, 0), (b"Pict", 1, 1)], [(b"TEXT", b"eel"), (b"Rect", bytes(8))]), [(0, 68, 1)]
     yield "a game with a sound, a FORM in a FORM", blorb([(b"Snd ", 3, 0)], [(FORM, b"AIFF")]), [(0, 40, 1), (36, 4, 2)]
-    eel = (ROOT / "samples" / "eel.blb").read_bytes()
+    eel = (CRATES.parent / "samples" / "eel.blb").read_bytes()
     yield "the sample file", eel, [(0, len(eel) - 8, 1)]
 
 
@@ -214,13 +212,6 @@ def generated(count, seed):
         yield f"generated {i}", s, dice.below(60), dice.below(4)
 
 
-def checksum(numbers, by):
-    total = 0
-    for x in numbers:
-        total = total % by * 257 + x + 1
-    return total
-
-
 def words(answer):
     what, *values = answer
     return {"refused": "refused {} at {}", "rows": "rows {}", "at": "at {} length {}"}[what].format(*values)
@@ -228,9 +219,9 @@ def words(answer):
 
 def lines(name, s, room, picks):
     answer = reference.listing(s, [FILLER] * room)
-    yield f"{name}: {words(answer)} sum {checksum(answer[-1], 16777213)}"
+    yield f"{name}: {words(answer)} sum {checksum(answer[-1], NUMBERS)}"
     for i in [*range(picks), 2 ** 64 - 1]:
-        yield f" {i}: {words(reference.pick(s, i))} sum {checksum(reference.picked(s, i), 4294967291)}"
+        yield f" {i}: {words(reference.pick(s, i))} sum {checksum(reference.picked(s, i))}"
 
 
 def packed(name, s, room, picks):
@@ -238,6 +229,7 @@ def packed(name, s, room, picks):
 
 
 def main():
+    only_check()
     samples, answers = [], Counter()
     for name, s, room, picks, said in by_hand():
         answer = reference.listing(s, [FILLER] * room)
@@ -250,16 +242,7 @@ def main():
         answers["listed" if answer[0] == "rows" else answer[1]] += 1
     stdin = b"".join(packed(*sample) for sample in samples)
     stdout = "".join(line + "\n" for sample in samples for line in lines(*sample)).encode()
-    if len(stdin) >= ROOM:
-        sys.exit(f"{len(stdin)} bytes of samples, room for fewer than {ROOM}")
-    files = {CRATE / "stdin": stdin, CRATE / "stdout": stdout}
-    if sys.argv[1:] == ["--check"]:
-        for path, content in files.items():
-            if not path.exists() or path.read_bytes() != content:
-                sys.exit(f"{path} is not as it would be written")
-    else:
-        for path, content in files.items():
-            path.write_bytes(content)
+    save("form_samples", stdin, stdout, ROOM)
     print(len(samples), "samples:", ", ".join(f"{answers[k]} {k}" for k in sorted(answers, key=str)))
 
 

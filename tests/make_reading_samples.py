@@ -15,7 +15,6 @@ A packed sample: five numbers of four bytes (the length of its name, the length 
 many pairs are asked, and the profile), the name, the file, eight bytes for each entry's number, four bytes of usage and
 four of number for each pair.
 """
-import pathlib
 import sys
 from collections import Counter
 
@@ -23,8 +22,8 @@ import reference
 from building import be
 from reading_by_hand import DATA, EXEC, LOOKED, PICT, SAMPLES, SND
 from reading_generated import ADRIFT_RESOURCES, generated
+from samples import checksum, only_check, save
 
-CRATE = pathlib.Path(__file__).resolve().parent.parent / "crates" / "reading_samples"
 ROOM = 1_048_576          # the program's buffer; the input has to be shorter
 GENERATED, SEED = 1200, 1
 ADRIFT_GENERATED, ADRIFT_SEED = 300, 2
@@ -47,14 +46,6 @@ def questions(s, far, profile):
     pairs += [(usage, (number + k) % 2 ** 32) for k in (1, 2 ** 16, 2 ** 24, 2 ** 32 - 1)]
     pairs += [(usage.swapcase(), number), (b"RIdx", number), (b"    ", 0)]    # no usage
     return [*picked, n, n + 1, *far], list(dict.fromkeys(pairs))
-
-
-def checksum(part):
-    """As the program's: knows the order of the bytes."""
-    total = 0
-    for b in part:
-        total = total % 4294967291 * 257 + b + 1
-    return total
 
 
 def words(answer):
@@ -89,6 +80,7 @@ def asked(name, s, profile, far):
 
 
 def main():
+    only_check()
     for name, s, verdict, profile in SAMPLES:
         stated = ("refused", *verdict) if isinstance(verdict, tuple) else ("accepted", len(s), verdict)
         if reference.read(s, profile) != stated:
@@ -107,13 +99,7 @@ def main():
         sys.exit("a name stands twice")
     stdin = b"".join(packed(*x) for x in samples)
     stdout = "".join(line + "\n" for x in samples for line in lines(*x)).encode()
-    if len(stdin) >= ROOM:
-        sys.exit(f"{len(stdin)} bytes are too many for the program's buffer")
-    for name, content in (("stdin", stdin), ("stdout", stdout)):
-        if "--check" not in sys.argv[1:]:
-            (CRATE / name).write_bytes(content)
-        elif (CRATE / name).read_bytes() != content:
-            sys.exit(f"{CRATE / name} is not what this script makes")
+    save("reading_samples", stdin, stdout, ROOM)
     verdicts = Counter(a[1] if a[0] == "refused" else 0 for a in (reference.read(x[1], x[2]) for x in samples))
     print(f"{len(samples)} samples ({len(SAMPLES)} by hand, {GENERATED + ADRIFT_GENERATED} generated), {len(stdin)} bytes")
     print(f"{sum(len(x[3]) for x in samples)} entries asked, {sum(len(x[4]) for x in samples)} pairs asked")

@@ -11,15 +11,14 @@ sample by hand is stated here as well, and this script stops where the reference
 A packed sample: twelve numbers of four bytes (the length of its name, the length of its file, the profile, the picture's number, and
 window width, window height, width and height in two numbers each, the higher one first), the name, the file.
 """
-import pathlib
 import sys
 from collections import Counter
 
 import scaling_reference as reference
 from building import Dice, be, blorb, put, put32
 from reference import DATA, PICT
+from samples import only_check, save
 
-CRATE = pathlib.Path(__file__).resolve().parent.parent / "crates" / "scaling_samples"
 ROOM = 1_048_576          # the program's buffer; the input has to be shorter
 GENERATED, SEED = 600, 4
 MOST = 65_535
@@ -241,6 +240,7 @@ def packed(name, s, window, picture, size, profile):
 
 
 def main():
+    only_check()
     samples = []
     for name, s, window, picture, size, said, *other in by_hand():
         profile = other[0] if other else 0
@@ -253,13 +253,7 @@ def main():
     samples += generated(GENERATED, SEED)
     stdin = b"".join(packed(*x) for x in samples)
     stdout = "".join(line(*x) + "\n" for x in samples).encode()
-    if len(stdin) >= ROOM:
-        sys.exit(f"{len(stdin)} bytes are too many for the program's buffer")
-    for name, content in (("stdin", stdin), ("stdout", stdout)):
-        if "--check" not in sys.argv[1:]:
-            (CRATE / name).write_bytes(content)
-        elif (CRATE / name).read_bytes() != content:
-            sys.exit(f"{CRATE / name} is not what this script makes")
+    save("scaling_samples", stdin, stdout, ROOM)
     told = Counter(a[1] if a[0] == "refused" else 0 for a in (reference.scaled(*x[1:]) for x in samples))
     print("by refusal (0: none):", *(f"{k}: {told[k]}" for k in sorted(told)))
     print(f"{len(samples)} samples ({hand} by hand, {GENERATED} generated), {len(stdin)} bytes")

@@ -10,14 +10,13 @@ here as well, and this script stops where the reference says another.
 
 A packed sample: two numbers of four bytes (the length of its name and of its bytes), the name, the bytes.
 """
-import pathlib
 import sys
 from collections import Counter
 
 import sound_reference as reference
 from building import Dice, be, chunk, grow, put, whole_form
+from samples import only_check, save
 
-CRATE = pathlib.Path(__file__).resolve().parent.parent / "crates" / "sound_samples"
 ROOM = 262_144            # the program's buffer; the input has to be shorter
 GENERATED, SEED = 600, 11
 UNIT = 16_383 + 63        # the exponent field under which the value is the significand itself
@@ -220,6 +219,7 @@ def told(answer):
 
 
 def main():
+    only_check()
     packed, lines, counts = [], [], Counter()
     for samples in (by_hand(), generated()):
         for name, b, right in samples:
@@ -229,15 +229,9 @@ def main():
             counts[answer[1] if answer[0] == "refused" else "sound"] += 1
             packed.append(be(len(name)) + be(len(b)) + name.encode("ascii") + b)
             lines.append(f"{name}: {told(answer)}\n")
-    files = {"stdin": b"".join(packed), "stdout": "".join(lines).encode("ascii")}
-    if len(files["stdin"]) >= ROOM:
-        sys.exit(f"{len(files['stdin'])} bytes are too many for the program's buffer")
-    for name, content in files.items():
-        if "--check" not in sys.argv:
-            (CRATE / name).write_bytes(content)
-        elif (CRATE / name).read_bytes() != content:
-            sys.exit(f"{CRATE / name} is not what this script writes")
-    print(f"{len(lines)} samples, {len(files['stdin'])} bytes:", ", ".join(f"{k} {n}" for k, n in sorted(counts.items(), key=str)))
+    stdin = b"".join(packed)
+    save("sound_samples", stdin, "".join(lines).encode("ascii"), ROOM)
+    print(f"{len(lines)} samples, {len(stdin)} bytes:", ", ".join(f"{k} {n}" for k, n in sorted(counts.items(), key=str)))
 
 
 if __name__ == "__main__":

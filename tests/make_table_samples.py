@@ -15,15 +15,14 @@ number of the slice, four bytes of usage and four of number for each pair. Each 
 checked as three columns, turned in the second slice into columns and (as columns) into rows, each of which is checked,
 and searched in both forms for each pair.
 """
-import pathlib
 import sys
 from collections import Counter
 
 import table_reference as reference
 from building import Dice, be, blorb, put32
 from reference import DATA, EXEC, PICT, SND
+from samples import NUMBERS, checksum, only_check, save
 
-CRATE = pathlib.Path(__file__).resolve().parent.parent / "crates" / "table_samples"
 ROOM = 1_048_576          # the program's buffer; the input has to be shorter
 SLICE = 16_384            # numbers in its longest slice
 FILLER = 7                # each number of the second slice, before
@@ -217,14 +216,6 @@ def second_room(table, way):
     return max(0, whole - 1) if way == 0 else whole + (0, 0, 1, 2, 9)[way - 1]
 
 
-def checksum(table):
-    """As the program's: knows the order of the numbers."""
-    total = 0
-    for x in table:
-        total = total % 16777213 * 257 + x + 1
-    return total
-
-
 def words(answer):
     what, *values = answer
     return {"accepted": "accepted", "refused": "refused {} at {}", "rows": "rows {}", "at": "at {}"}[what].format(*values)
@@ -232,12 +223,12 @@ def words(answer):
 
 def lines(name, s, table, room, profile, pairs):
     built = reference.build(s, table, profile)
-    yield (f"{name}: {words(reference.check(s, table, profile))}; {words(built)} sum {checksum(built[-1])}; "
+    yield (f"{name}: {words(reference.check(s, table, profile))}; {words(built)} sum {checksum(built[-1], NUMBERS)}; "
            f"then {words(reference.check(s, built[-1], profile))}")
     turned = reference.to_columns(table, [FILLER] * room)
     back = reference.to_rows(table, turned[-1])
-    yield (f" columns: {words(reference.columns_check(s, table, profile))}; to columns {words(turned)} sum {checksum(turned[-1])}; "
-           f"then {words(reference.columns_check(s, turned[-1], profile))}; to rows {words(back)} sum {checksum(back[-1])}; "
+    yield (f" columns: {words(reference.columns_check(s, table, profile))}; to columns {words(turned)} sum {checksum(turned[-1], NUMBERS)}; "
+           f"then {words(reference.columns_check(s, turned[-1], profile))}; to rows {words(back)} sum {checksum(back[-1], NUMBERS)}; "
            f"then {words(reference.check(s, back[-1], profile))}")
     for usage, number in pairs:
         found, other = reference.search(table, usage, number), reference.columns_search(table, usage, number)
@@ -258,6 +249,7 @@ def stated(what, name, answer, said):
 
 
 def main():
+    only_check()
     samples = []
     for k, (name, s, table, said, *other) in enumerate(by_hand()):
         profile = other[0] if other else 0
@@ -272,13 +264,9 @@ def main():
     samples += [(name, s, table, room, profile, questions(table)) for name, s, table, room, profile in generated(GENERATED, SEED)]
     stdin = b"".join(packed(*x) for x in samples)
     stdout = "".join(line + "\n" for x in samples for line in lines(*x)).encode()
-    if len(stdin) >= ROOM or max(max(len(x[2]), x[3]) for x in samples) > SLICE:
-        sys.exit(f"{len(stdin)} bytes are too many for the program's buffer")
-    for name, content in (("stdin", stdin), ("stdout", stdout)):
-        if "--check" not in sys.argv[1:]:
-            (CRATE / name).write_bytes(content)
-        elif (CRATE / name).read_bytes() != content:
-            sys.exit(f"{CRATE / name} is not what this script makes")
+    if max(max(len(x[2]), x[3]) for x in samples) > SLICE:
+        sys.exit("a slice has too many numbers for the program's")
+    save("table_samples", stdin, stdout, ROOM)
     asked = (("check", lambda s, t, r, p: reference.check(s, t, p)), ("build", lambda s, t, r, p: reference.build(s, t, p)),
              ("check of columns", lambda s, t, r, p: reference.columns_check(s, t, p)),
              ("to columns", lambda s, t, r, p: reference.to_columns(t, [FILLER] * r)),

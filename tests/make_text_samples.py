@@ -1,3 +1,4 @@
+#!/usr/bin/env python3
 """Writes the samples of the texts of 'RDes' (02, P7) and what reading them answers, for crates/text_samples.
 
     make_text_samples.py [--check]
@@ -7,21 +8,13 @@ The answers come from text_reference.py; those that the papers settle by a word 
 import random
 import sys
 from collections import Counter
-from pathlib import Path
 
 import text_reference as reference
+from building import be, blorb
+from samples import only_check, save
 
-CRATE = Path(__file__).resolve().parent.parent / "crates" / "text_samples"
 ROOM = 262_143
 PICT, SND = 0x50696374, 0x536E6420
-
-
-def be(n):
-    return n.to_bytes(4, "big")
-
-
-def chunk(kind, body):
-    return kind + be(len(body)) + body + b"\0" * (len(body) % 2)
 
 
 def rdes(entries, count=None, behind=b""):
@@ -31,11 +24,8 @@ def rdes(entries, count=None, behind=b""):
 
 def file(*bodies):
     """A file with pictures 1 and 2, and behind them an 'RDes' for each of the bodies."""
-    one, two = chunk(b"PNG ", b"picture"), chunk(b"JPEG", b"another!")
-    start = 12 + 8 + 4 + 24
-    index = be(2) + be(PICT) + be(1) + be(start) + be(PICT) + be(2) + be(start + len(one))
-    body = b"IFRS" + chunk(b"RIdx", index) + one + two + b"".join(chunk(b"RDes", b) for b in bodies)
-    return b"FORM" + be(len(body)) + body
+    chunks = [(b"PNG ", b"picture"), (b"JPEG", b"another!")] + [(b"RDes", b) for b in bodies]
+    return blorb([(b"Pict", 1, 0), (b"Pict", 2, 1)], chunks)
 
 
 FIRST = 12 + 8 + 28 + 16 + 16    # where the first 'RDes' of these files starts
@@ -154,6 +144,7 @@ def told(name, s, profile, usage, number):
 
 
 def main():
+    only_check()
     packed, lines, counts = [], [], Counter()
     for samples in (table(), by_hand(), generated()):
         for name, s, profile, usage, number, right in samples:
@@ -163,15 +154,9 @@ def main():
             counts[answer[1] if answer[0] == "refused" else "given"] += 1
             packed.append(be(len(name)) + be(len(s)) + be(profile) + be(usage) + be(number) + name.encode("ascii") + s)
             lines.append(told(name, s, profile, usage, number))
-    files = {"stdin": b"".join(packed), "stdout": "".join(lines).encode("ascii")}
-    if len(files["stdin"]) >= ROOM:
-        sys.exit(f"{len(files['stdin'])} bytes are too many for the program's buffer")
-    for name, content in files.items():
-        if "--check" not in sys.argv:
-            (CRATE / name).write_bytes(content)
-        elif (CRATE / name).read_bytes() != content:
-            sys.exit(f"{CRATE / name} is not what this script writes")
-    print(f"{len(lines)} samples, {len(files['stdin'])} bytes:", ", ".join(f"{k} {n}" for k, n in sorted(counts.items(), key=str)))
+    stdin = b"".join(packed)
+    save("text_samples", stdin, "".join(lines).encode("ascii"), ROOM)
+    print(f"{len(lines)} samples, {len(stdin)} bytes:", ", ".join(f"{k} {n}" for k, n in sorted(counts.items(), key=str)))
 
 
 if __name__ == "__main__":

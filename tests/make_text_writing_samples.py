@@ -11,14 +11,13 @@ stated here as well, and this script stops where the reference says another.
 A packed sample: four numbers of four bytes (the length of its name, how many numbers its list has, the length of its texts and
 that of the buffer), the name, four bytes for each number, the texts.
 """
-import pathlib
 import sys
 from collections import Counter
 
 import text_writing_reference as reference
 from building import Dice, be
+from samples import checksum, only_check, save
 
-CRATE = pathlib.Path(__file__).resolve().parent.parent / "crates" / "text_writing_samples"
 ROOM = 524_288            # the program's buffer for its input, which has to be shorter
 NUMBERS = 8_192           # numbers in its longest list
 BUFFER = 65_536           # bytes in its longest buffer
@@ -142,13 +141,6 @@ def filler(n):
     return bytes(i % 251 + 1 for i in range(n))
 
 
-def checksum(s):
-    total = 0
-    for x in s:
-        total = total % 4_294_967_291 * 257 + x + 1
-    return total
-
-
 def line(name, numbers, slice_, room, expected):
     *answer, buffer = reference.write(numbers, slice_, filler(room))
     if expected is not None and tuple(answer) != expected:
@@ -159,6 +151,7 @@ def line(name, numbers, slice_, room, expected):
 
 
 def main():
+    only_check()
     packed, told, count = b"", b"", Counter()
     for name, numbers, slice_, room, expected in [*by_hand(), *generated()]:
         assert len(numbers) <= NUMBERS and room <= BUFFER
@@ -167,17 +160,10 @@ def main():
         said, kind = line(name, numbers, slice_, room, expected)
         told += said
         count[kind] += 1
-    assert len(packed) < ROOM, len(packed)
-    files = {CRATE / "stdin": packed, CRATE / "stdout": told}
-    if sys.argv[1:] == ["--check"]:
-        for path, text in files.items():
-            if path.read_bytes() != text:
-                sys.exit(f"{path} is not as it would be written")
-        return
-    for path, text in files.items():
-        path.write_bytes(text)
+    save("text_writing_samples", packed, told, ROOM)
     for kind, n in sorted(count.items(), key=str):
         print(kind, n)
 
 
-main()
+if __name__ == "__main__":
+    main()

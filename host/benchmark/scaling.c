@@ -7,7 +7,7 @@
 
 #include "calls.h"
 #include "format.h"
-#include "repeats.h"
+#include "orders.h"
 
 #include <stdbool.h>
 #include <stdio.h>
@@ -16,8 +16,6 @@
 #include <time.h>
 
 enum { HEAD = 24, ROW = 28, START = 24, LARGEST = 65535, MOST_ROWS = (BLORB_MAX_SIZE - START - BLORB_HEADER_SIZE - HEAD) / ROW, ROUNDS = 101 };
-enum order { RISING, FALLING, SHUFFLED, AGAINST, CRAFTED, ORDERS };
-static const char *const orders[ORDERS] = {"rising", "falling", "shuffled", "against the hash", "crafted"};
 static const double SCALED_ROW_TIME = 0.4e9;
 static volatile uint64_t sink;
 
@@ -212,24 +210,6 @@ static uint32_t crafted(struct crafting *c, size_t i)
     return c->last;
 }
 
-/* The picture of row i. Against the hash: all marks of a block lie in one word by the factor that it begins with, and the numbers fall. */
-static uint32_t picture_of(size_t i, size_t count, enum order order, uint32_t *last)
-{
-    switch (order) {
-    case RISING:
-        return (uint32_t)i;
-    case FALLING:
-        return (uint32_t)(count - i);
-    case SHUFFLED:
-        return (uint32_t)i * 2654435761u;
-    default:
-        do
-            (*last)--;
-        while (mark_word(mixed(first_factor(block_of(i)), *last)) != 0);
-        return *last;
-    }
-}
-
 static uint8_t *file_of(size_t count, enum order order, size_t *length)
 {
     size_t size = HEAD + ROW * count;
@@ -247,7 +227,7 @@ static uint8_t *file_of(size_t count, enum order order, size_t *length)
     put32(reso + 4, 480);
     for (size_t i = 0; i < count; i++) {
         uint8_t *row = reso + HEAD + ROW * i;
-        put32(row, order == CRAFTED ? crafted(&c, i) : picture_of(i, count, order, &last));
+        put32(row, order == CRAFTED ? crafted(&c, i) : number_of(i, count, order, 0, &last));
         for (uint32_t k = 1; k < 7; k++)
             put32(row + 4 * k, k < 5 ? 2 : 7);
         put32(row + 4, 3);

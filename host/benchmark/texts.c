@@ -8,7 +8,7 @@
 
 #include "calls.h"
 #include "format.h"
-#include "repeats.h"
+#include "orders.h"
 
 #include <stdio.h>
 #include <stdlib.h>
@@ -132,9 +132,6 @@ static void print_long_text(enum kind kind)
 
 /* ---- many texts */
 
-enum order { RISING, FALLING, SHUFFLED, AGAINST, CRAFTED, ORDERS };
-static const char *const orders[ORDERS] = {"rising", "falling", "shuffled", "against the hash", "crafted"};
-
 static uint64_t random_number(uint64_t *state)
 {
     *state ^= *state << 13;
@@ -205,24 +202,6 @@ static void craft(uint64_t *keys, size_t count)
     }
 }
 
-/* The number of text i. Against the hash: all marks of a block lie in one word by the factor that it begins with, and the numbers fall. */
-static uint32_t number_of(size_t i, size_t count, enum order order, uint32_t *last)
-{
-    switch (order) {
-    case RISING:
-        return (uint32_t)i;
-    case FALLING:
-        return (uint32_t)(count - i);
-    case SHUFFLED:
-        return (uint32_t)i * 2654435761u;
-    default:
-        do
-            (*last)--;
-        while (mark_word(mixed(first_factor(block_of(i)), (uint64_t)BLORB_PICT << 32 | *last)) != 0);
-        return *last;
-    }
-}
-
 /* Usage and number of each text, as one number; all but the crafted ones are pictures'. */
 static uint64_t *keys_of(size_t count, enum order order)
 {
@@ -234,7 +213,7 @@ static uint64_t *keys_of(size_t count, enum order order)
     if (order == CRAFTED)
         craft(keys, count);
     for (size_t i = 0; order != CRAFTED && i < count; i++)
-        keys[i] = (uint64_t)BLORB_PICT << 32 | number_of(i, count, order, &last);
+        keys[i] = (uint64_t)BLORB_PICT << 32 | number_of(i, count, order, BLORB_PICT, &last);
     return keys;
 }
 

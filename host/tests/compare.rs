@@ -156,6 +156,22 @@ fn check_reading<T: PartialEq + Debug>(
     }
 }
 
+/// Asks of a file that is lent, under the case's profile and now and then under another one; the bytes stay as they are.
+pub fn on_file(tally: &mut Tally, rng: &mut Rng, call: &str, file: &[u8], mut ask: impl FnMut(&mut Tally, &mut Rng, &mut Lent, &Read)) {
+    let mut profiles = vec![rng.profile];
+    if rng.chance(AGAIN) {
+        profiles.push(rng.other_profile(rng.profile));
+    }
+    for profile in profiles {
+        let read = Read { file, profile, view: reference::read(file, profile), known: reference::read(file, rng.profile) };
+        let mut lent = Lent::new(file, rng.below(16));
+        ask(tally, rng, &mut lent, &read);
+        if let Some(complaint) = lent.complaint("file", file) {
+            tally.fail(&format!("blorb_{call} file={}", hex(file)), &complaint);
+        }
+    }
+}
+
 /// The reading calls on one file, under the case's profile and now and then under another one too.
 pub fn check_file(tally: &mut Tally, rng: &mut Rng, file: &[u8]) {
     let profile = rng.profile;

@@ -851,37 +851,57 @@ static uint32_t *numbers_in(const lent *l)
     return (uint32_t *)(void *)l->at;
 }
 
-/* Builds in a slice of that many numbers, which must then hold these rows and filler behind them. */
-static void builds(const image *f, size_t numbers, uint64_t refusal, uint64_t place, const uint32_t *rows, uint64_t count)
+/* The slice holds these rows, and filler behind them. */
+static void holds_rows(const lent *l, size_t numbers, const uint32_t *rows, uint64_t count, const char *what)
 {
     uint32_t filler;
     memset(&filler, FILLER, sizeof filler);
+    for (size_t i = 0; i < numbers; i++)
+        expect(numbers_in(l)[i] == (i < 3 * count ? rows[i] : filler), what);
+}
+
+/* Builds in a slice of that many numbers, which must then hold these rows. */
+static void builds(const image *f, size_t numbers, uint64_t refusal, uint64_t place, const uint32_t *rows, uint64_t count)
+{
     lent l = lend(f->at, f->length, f->length), t = lend(NULL, 0, 4 * numbers);
     blorb_build_answer b = blorb_table_build(l.at, l.size, profile, numbers_in(&t), numbers);
     expect(b.refusal == refusal && b.place == place && b.rows == count, "table: build");
-    for (size_t i = 0; i < numbers; i++)
-        expect(numbers_in(&t)[i] == (i < 3 * count ? rows[i] : filler), "table: the slice after build");
+    holds_rows(&t, numbers, rows, count, "table: the slice after build");
     expect(f->length == 0 || memcmp(l.at, f->at, f->length) == 0, "table: build leaves the file");
     give_back(&l);
     give_back(&t);
 }
 
-static void checks_table(const image *f, const uint32_t *from, size_t numbers, uint64_t refusal, uint64_t place)
+/* A table in one of its forms, rows or columns. */
+typedef struct {
+    blorb_check_answer (*check)(const uint8_t *, size_t, uint32_t, const uint32_t *, size_t);
+    blorb_search_answer (*search)(const uint32_t *, size_t, const char *, uint32_t);
+    const char *checked, *left, *found, *counted;
+} form_of_table;
+
+static const form_of_table in_rows = {
+    blorb_table_check, blorb_table_search, "table: check", "table: check leaves the slice", "table: search", "table: probes"
+};
+static const form_of_table in_columns = {
+    blorb_columns_check, blorb_columns_search, "columns: check", "columns: check leaves the slice", "columns: search", "columns: probes"
+};
+
+static void checks_in(form_of_table form, const image *f, const uint32_t *from, size_t numbers, uint64_t refusal, uint64_t place)
 {
     lent l = lend(f->at, f->length, f->length), t = lend((const uint8_t *)from, 4 * numbers, 4 * numbers);
-    blorb_check_answer c = blorb_table_check(l.at, l.size, profile, numbers_in(&t), numbers);
-    expect(c.refusal == refusal && c.place == place, "table: check");
-    expect(numbers == 0 || memcmp(t.at, from, 4 * numbers) == 0, "table: check leaves the slice");
+    blorb_check_answer c = form.check(l.at, l.size, profile, numbers_in(&t), numbers);
+    expect(c.refusal == refusal && c.place == place, form.checked);
+    expect(numbers == 0 || memcmp(t.at, from, 4 * numbers) == 0, form.left);
     give_back(&l);
     give_back(&t);
 }
 
-static void searches(const uint32_t *from, size_t numbers, const char *usage, uint32_t number, uint64_t start, uint64_t probes)
+static void searches(form_of_table form, const uint32_t *from, size_t numbers, const char *usage, uint32_t number, uint64_t start, uint64_t probes)
 {
     lent t = lend((const uint8_t *)from, 4 * numbers, 4 * numbers);
-    blorb_search_answer s = blorb_table_search(numbers_in(&t), numbers, usage, number);
-    expect(s.refusal == (start == 0 ? BLORB_NOT_THERE : BLORB_DONE) && s.place == 0 && s.start == start, "table: search");
-    expect(s.probes == probes, "table: probes");
+    blorb_search_answer s = form.search(numbers_in(&t), numbers, usage, number);
+    expect(s.refusal == (start == 0 ? BLORB_NOT_THERE : BLORB_DONE) && s.place == 0 && s.start == start, form.found);
+    expect(s.probes == probes, form.counted);
     give_back(&t);
 }
 
@@ -897,29 +917,29 @@ static void test_table(void)
     builds(&b, 0, 34, 0, rows, 0);
     builds(&s, 9, 0, 0, on_one, 3);
     builds(&empty, 9, 2, 0, rows, 0);
-    checks_table(&none, rows, 0, 0, 0);
-    checks_table(&none, rows, 1, 35, 0);
-    checks_table(&b, rows, 6, 0, 0);
-    checks_table(&b, rows, 7, 35, 2);
-    checks_table(&b, rows, 5, 35, 1);
-    checks_table(&b, rows, 0, 35, 0);
-    checks_table(&a, rows, 6, 35, 0);
-    checks_table(&empty, rows, 6, 2, 0);
+    checks_in(in_rows, &none, rows, 0, 0, 0);
+    checks_in(in_rows, &none, rows, 1, 35, 0);
+    checks_in(in_rows, &b, rows, 6, 0, 0);
+    checks_in(in_rows, &b, rows, 7, 35, 2);
+    checks_in(in_rows, &b, rows, 5, 35, 1);
+    checks_in(in_rows, &b, rows, 0, 35, 0);
+    checks_in(in_rows, &a, rows, 6, 35, 0);
+    checks_in(in_rows, &empty, rows, 6, 2, 0);
     for (size_t i = 0; i < 6; i++)
         for (int bit = 0; bit < 32; bit++) {
             uint32_t wrong[6];
             memcpy(wrong, rows, sizeof wrong);
             wrong[i] ^= (uint32_t)1 << bit;
-            checks_table(&b, wrong, 6, 35, i / 3);
+            checks_in(in_rows, &b, wrong, 6, 35, i / 3);
         }
-    searches(rows, 0, "Data", 7, 0, 0);
-    searches(rows, 2, "Data", 7, 0, 0);
-    searches(rows, 6, "Data", 7, 48, 2);
-    searches(rows, 6, "Pict", 1, 60, 1);
-    searches(rows, 7, "Pict", 2, 0, 1);
-    searches(rows, 6, "Aaaa", 7, 0, 2);
-    searches(on_one, 9, "Pict", 2, 60, 1);
-    searches(on_one, 9, "Pict", 3, 72, 2);
+    searches(in_rows, rows, 0, "Data", 7, 0, 0);
+    searches(in_rows, rows, 2, "Data", 7, 0, 0);
+    searches(in_rows, rows, 6, "Data", 7, 48, 2);
+    searches(in_rows, rows, 6, "Pict", 1, 60, 1);
+    searches(in_rows, rows, 7, "Pict", 2, 0, 1);
+    searches(in_rows, rows, 6, "Aaaa", 7, 0, 2);
+    searches(in_rows, on_one, 9, "Pict", 2, 60, 1);
+    searches(in_rows, on_one, 9, "Pict", 3, 72, 2);
 }
 
 /* ---- whole files of type 'FORM' */
@@ -947,7 +967,7 @@ static void test_whole_forms(void)
     finds(&even, 0, "Snd ", 3, 36, form, 12);
     expect(memcmp(f.at + 36, AIFF_13, 13) == 0, "the whole file stands in the Blorb file");
     builds(&f, 3, 0, 0, rows, 1);
-    searches(rows, 3, "Snd ", 3, 36, 1);
+    searches(in_rows, rows, 3, "Snd ", 3, 36, 1);
     pair p = prepared(&b, 50, &none, 29);
     made(&p, add(&p, "Snd ", 3, "FORM", AIFF_13, 13), &f, &rec, 29, "add of a whole file, no byte to spare");
     p = prepared(&b, 49, &none, 29);
@@ -1139,35 +1159,13 @@ typedef blorb_build_answer turning(const uint32_t *, size_t, uint32_t *, size_t)
 /* Turns a slice in a second one of that many numbers, which must then hold these numbers and filler behind them. */
 static void turns(turning *call, const uint32_t *from, size_t numbers, size_t room, uint64_t refusal, const uint32_t *turned, uint64_t count)
 {
-    uint32_t filler;
-    memset(&filler, FILLER, sizeof filler);
     lent t = lend((const uint8_t *)from, 4 * numbers, 4 * numbers), d = lend(NULL, 0, 4 * room);
     blorb_build_answer b = call(numbers_in(&t), numbers, numbers_in(&d), room);
     expect(b.refusal == refusal && b.place == 0 && b.rows == count, "columns: turning");
-    for (size_t i = 0; i < room; i++)
-        expect(numbers_in(&d)[i] == (i < 3 * count ? turned[i] : filler), "columns: the second slice");
+    holds_rows(&d, room, turned, count, "columns: the second slice");
     expect(numbers == 0 || memcmp(t.at, from, 4 * numbers) == 0, "columns: turning leaves the first slice");
     give_back(&t);
     give_back(&d);
-}
-
-static void checks_columns(const image *f, const uint32_t *from, size_t numbers, uint64_t refusal, uint64_t place)
-{
-    lent l = lend(f->at, f->length, f->length), t = lend((const uint8_t *)from, 4 * numbers, 4 * numbers);
-    blorb_check_answer c = blorb_columns_check(l.at, l.size, profile, numbers_in(&t), numbers);
-    expect(c.refusal == refusal && c.place == place, "columns: check");
-    expect(numbers == 0 || memcmp(t.at, from, 4 * numbers) == 0, "columns: check leaves the slice");
-    give_back(&l);
-    give_back(&t);
-}
-
-static void searches_columns(const uint32_t *from, size_t numbers, const char *usage, uint32_t number, uint64_t start, uint64_t probes)
-{
-    lent t = lend((const uint8_t *)from, 4 * numbers, 4 * numbers);
-    blorb_search_answer s = blorb_columns_search(numbers_in(&t), numbers, usage, number);
-    expect(s.refusal == (start == 0 ? BLORB_NOT_THERE : BLORB_DONE) && s.place == 0 && s.start == start, "columns: search");
-    expect(s.probes == probes, "columns: probes");
-    give_back(&t);
 }
 
 static void test_columns(void)
@@ -1187,29 +1185,29 @@ static void test_columns(void)
         turns(blorb_table_to_rows, columns, over, 0, 0, rows, 0);
     }
     turns(blorb_table_to_columns, rows, 6, 0, 34, columns, 0);
-    checks_columns(&none, columns, 0, 0, 0);
-    checks_columns(&none, columns, 1, 35, 0);
-    checks_columns(&b, columns, 6, 0, 0);
-    checks_columns(&b, columns, 7, 35, 2);
-    checks_columns(&b, columns, 0, 35, 0);
-    checks_columns(&b, rows, 6, 35, 0);
-    checks_columns(&b, of_three, 9, 35, 2);
-    checks_columns(&a, columns, 6, 35, 0);
-    checks_columns(&empty, columns, 6, 2, 0);
+    checks_in(in_columns, &none, columns, 0, 0, 0);
+    checks_in(in_columns, &none, columns, 1, 35, 0);
+    checks_in(in_columns, &b, columns, 6, 0, 0);
+    checks_in(in_columns, &b, columns, 7, 35, 2);
+    checks_in(in_columns, &b, columns, 0, 35, 0);
+    checks_in(in_columns, &b, rows, 6, 35, 0);
+    checks_in(in_columns, &b, of_three, 9, 35, 2);
+    checks_in(in_columns, &a, columns, 6, 35, 0);
+    checks_in(in_columns, &empty, columns, 6, 2, 0);
     for (size_t i = 0; i < 6; i++)
         for (int bit = 0; bit < 32; bit++) {
             uint32_t wrong[6];
             memcpy(wrong, columns, sizeof wrong);
             wrong[i] ^= (uint32_t)1 << bit;
-            checks_columns(&b, wrong, 6, 35, i % 2);
+            checks_in(in_columns, &b, wrong, 6, 35, i % 2);
         }
-    searches_columns(columns, 0, "Data", 7, 0, 0);
-    searches_columns(columns, 2, "Data", 7, 0, 0);
-    searches_columns(columns, 6, "Data", 7, 48, 2);
-    searches_columns(columns, 6, "Pict", 1, 60, 1);
-    searches_columns(columns, 7, "Pict", 2, 0, 1);
-    searches_columns(columns, 6, "Aaaa", 7, 0, 2);
-    searches_columns(of_three, 9, "Snd ", 2, 72, 2);
+    searches(in_columns, columns, 0, "Data", 7, 0, 0);
+    searches(in_columns, columns, 2, "Data", 7, 0, 0);
+    searches(in_columns, columns, 6, "Data", 7, 48, 2);
+    searches(in_columns, columns, 6, "Pict", 1, 60, 1);
+    searches(in_columns, columns, 7, "Pict", 2, 0, 1);
+    searches(in_columns, columns, 6, "Aaaa", 7, 0, 2);
+    searches(in_columns, of_three, 9, "Snd ", 2, 72, 2);
 }
 
 /* ---- scaled pictures */
@@ -1602,11 +1600,11 @@ static void test_gif(void)
     finds(&f, 0, "Pict", 1, 36, BLORB_TAG('G', 'I', 'F', ' '), 4);
     reads(&front, 0, 0, 1, "a GIF frontispiece");
     builds(&f, 3, 0, 0, rows, 1);
-    checks_table(&f, rows, 3, 0, 0);
+    checks_in(in_rows, &f, rows, 3, 0, 0);
     profile = BLORB_PLAIN;
     reads(&front, 14, 24, 0, "a GIF frontispiece, plain");
     builds(&f, 3, 14, 24, rows, 0);
-    checks_table(&f, rows, 3, 14, 24);
+    checks_in(in_rows, &f, rows, 3, 14, 24);
 }
 
 /* The file after an undo is judged under the profile of that call. */
@@ -1640,9 +1638,9 @@ static void test_unknown_profile(void)
             reads(files[k], 52, 0, 0, "52");
             builds(files[k], 3, 52, 0, rows, 0);
             builds(files[k], 0, 52, 0, rows, 0);
-            checks_table(files[k], rows, 3, 52, 0);
-            checks_table(files[k], rows, 0, 52, 0);
-            checks_columns(files[k], rows, 3, 52, 0);
+            checks_in(in_rows, files[k], rows, 3, 52, 0);
+            checks_in(in_rows, files[k], rows, 0, 52, 0);
+            checks_in(in_columns, files[k], rows, 3, 52, 0);
             no_texts(files[k], 52, 0, "52 before all of a text's refusals");
             scales(files[k], (uint64_t[]){1, 65536}, 1, (uint64_t[]){1, 1}, 52, 0, 0, 0, "52 before 33");
             for (int call = 0; call < EDITS; call++) {

@@ -131,6 +131,14 @@ fn at_limit(tally: &mut Tally, rng: &mut Rng) {
     expect(tally, rng, &link(b"Data", 1, b"Data", 9), &tight, 101);
 }
 
+/// Every call on a file that the reader refuses; it has the resource (usage, 2).
+fn expect_all(tally: &mut Tally, rng: &mut Rng, usage: &Tag, kind: &Tag, state: &State, number: u64) {
+    let add = add(b"Data", 9, b"TEXT", vec![]);
+    for call in [add, replace(usage, 2, kind, vec![]), remove(usage, 2), link(usage, 2, usage, 9999), Call::Undo] {
+        expect(tally, rng, &call, state, number);
+    }
+}
+
 /// One byte over with whatever contents, and two over with a file that is good but for its length.
 fn over_limit(tally: &mut Tally, rng: &mut Rng) {
     let good = filled(rng, LIMIT + 2).write();
@@ -138,15 +146,7 @@ fn over_limit(tally: &mut Tally, rng: &mut Rng) {
         check_file_and_52(tally, rng, &file);
         tally.count("built", 1);
         let state = generate::lend(rng, file, vec![1; 29], 50, 50);
-        for call in [
-            add(b"Data", 9, b"TEXT", vec![]),
-            replace(b"Data", 2, b"TEXT", vec![]),
-            remove(b"Data", 2),
-            link(b"Data", 2, b"Data", 9),
-            Call::Undo,
-        ] {
-            expect(tally, rng, &call, &state, 1);
-        }
+        expect_all(tally, rng, b"Data", b"TEXT", &state, 1);
     }
 }
 
@@ -260,15 +260,7 @@ fn too_many_entries(tally: &mut Tally, rng: &mut Rng) {
     let file = many_entries(rng, MOST_ENTRIES + 1, 50).write();
     check_file_and_52(tally, rng, &file);
     let state = generate::lend(rng, file, vec![1; 29], 100, 100);
-    for call in [
-        add(b"Data", 9, b"TEXT", vec![]),
-        replace(b"Pict", 2, b"JPEG", vec![]),
-        remove(b"Pict", 2),
-        link(b"Pict", 2, b"Pict", 9999),
-        Call::Undo,
-    ] {
-        expect(tally, rng, &call, &state, 11);
-    }
+    expect_all(tally, rng, b"Pict", b"JPEG", &state, 11);
 }
 
 // ---- Sizes beyond 32 bits ------------------------------------------------------------------------------------------

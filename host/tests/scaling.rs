@@ -4,7 +4,7 @@ use crate::archive::{self, Lent};
 use crate::generate::{self, Rng, LARGE_SIDE, REASONS};
 use crate::reference::scaling::{scaled, Asking, MOST};
 use crate::reference::{self, Refusal};
-use crate::{hex, Read, Tally, AGAIN};
+use crate::{hex, on_file, Read, Tally};
 
 fn describe(read: &Read, asking: &Asking) -> String {
     format!("blorb_scaled {asking:?} size={} profile={}\n  file={}", read.file.len(), read.profile, hex(read.file))
@@ -51,23 +51,14 @@ pub fn files(tally: &mut Tally, rng: &mut Rng) {
     if !damaged {
         check_built(tally, rng, &built);
     }
-    let mut profiles = vec![rng.profile];
-    if rng.chance(AGAIN) {
-        profiles.push(rng.other_profile(rng.profile));
-    }
-    for profile in profiles {
-        let read = Read { file: &file, profile, view: reference::read(&file, profile), known: reference::read(&file, rng.profile) };
-        let mut lent = Lent::new(&file, rng.below(16));
+    on_file(tally, rng, "scaled", &file, |tally, rng, lent, read| {
         for _ in 0..4 {
             let asking = any_asking(rng, &built.pictures, &built.windows);
-            if let Some(sides) = check_call(tally, &mut lent, &read, &asking) {
-                check_larger(tally, rng, &mut lent, &read, &asking, sides);
+            if let Some(sides) = check_call(tally, lent, read, &asking) {
+                check_larger(tally, rng, lent, read, &asking, sides);
             }
         }
-        if let Some(complaint) = lent.complaint("file", &file) {
-            tally.fail(&format!("blorb_scaled file={}", hex(&file)), &complaint);
-        }
-    }
+    });
 }
 
 /// The refusal that follows from how the file was built, against the reference; which reason 33 had, and what 31 and 32 stood before.

@@ -4,7 +4,7 @@ use crate::archive::{self, Lent};
 use crate::generate::{self, Description, Rng};
 use crate::reference::texts::{chunk_of, good_length, in_index, text, text_of, write};
 use crate::reference::{self, Refusal, Tag};
-use crate::{hex, number_of, Read, Tally, AGAIN};
+use crate::{hex, number_of, on_file, Read, Tally};
 
 fn describe(call: &str, read: &Read, arguments: &str) -> String {
     format!("blorb_{call} {arguments} size={} profile={}\n  file={}", read.file.len(), read.profile, hex(read.file))
@@ -54,18 +54,7 @@ pub fn files(tally: &mut Tally, rng: &mut Rng) {
     if !damaged {
         check_built(tally, rng, &built);
     }
-    let mut profiles = vec![rng.profile];
-    if rng.chance(AGAIN) {
-        profiles.push(rng.other_profile(rng.profile));
-    }
-    for profile in profiles {
-        let read = Read { file: &file, profile, view: reference::read(&file, profile), known: reference::read(&file, rng.profile) };
-        let mut lent = Lent::new(&file, rng.below(16));
-        check_texts(tally, rng, &mut lent, &read, &built.texts);
-        if let Some(complaint) = lent.complaint("file", &file) {
-            tally.fail(&format!("blorb_text file={}", hex(&file)), &complaint);
-        }
-    }
+    on_file(tally, rng, "text", &file, |tally, rng, lent, read| check_texts(tally, rng, lent, read, &built.texts));
     writing(tally, rng, &file);
 }
 

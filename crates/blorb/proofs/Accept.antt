@@ -154,7 +154,7 @@ entry-back s h l =
     )
     (three-fours s)
 
-length-entriesIn : (n : ℕ) (s : List ℕ) → length (entriesIn n s) ≡ n
+pub length-entriesIn : (n : ℕ) (s : List ℕ) → length (entriesIn n s) ≡ n
 unfolding entriesIn
 length-entriesIn zero s = refl
 length-entriesIn (suc n) s = ap suc (length-entriesIn n (drop 12 s))

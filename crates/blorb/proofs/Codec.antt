@@ -68,12 +68,12 @@ module _ (c : Chunk) (s : List ℕ) where
   unfolding chunkIn
   chunkIn-first ht hb = rw (first-type ht, first-length hb, first-body)
 
-chunksIn-step : (k : ℕ) (s : List ℕ) → 0 < length s → chunksIn (suc k) s ≡ chunkIn s ∷ chunksIn k (drop (sized (rd32 (drop 4 s))) s)
+pub chunksIn-step : (k : ℕ) (s : List ℕ) → 0 < length s → chunksIn (suc k) s ≡ chunkIn s ∷ chunksIn k (drop (sized (rd32 (drop 4 s))) s)
 unfolding chunksIn
 chunksIn-step k [] h = absurd (not-suc-le-zero h)
 chunksIn-step k (b ∷ s) h = refl
 
-chunksIn-nil : (k : ℕ) → chunksIn k [] ≡ []
+pub chunksIn-nil : (k : ℕ) → chunksIn k [] ≡ []
 unfolding chunksIn
 chunksIn-nil zero = refl
 chunksIn-nil (suc k) = refl

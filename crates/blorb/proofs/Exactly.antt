@@ -16,13 +16,13 @@ use Rattle.blorb.specs.Rules.{typeIn, picture, single, chunkRule, chunkR
 use Rattle.blorb.specs.Model.{Model, base, file, model}
 use Rattle.blorb.specs.Queries.{noRef, refAt, start}
 use Rattle.blorb.specs.All.{All}
-use Rattle.blorb.specs.Sound.{RefOk, Sound}
-use Rattle.blorb.proofs.AllLaws.{all-getD}
+use Rattle.blorb.specs.Sound.{Sound}
 use Rattle.blorb.proofs.Places.{lower-start}
 use Rattle.blorb.specs.Keeps.{EntryKeeps, Keeps, KeepsRules, ChunkKeeps, ChunksKeep, KeepsUnder}
 use Rattle.blorb.proofs.Checks.{then-accept, check-accept, pass, accepts, holds-last, and-both, both-true}
 use Rattle.blorb.proofs.Accept.{accept-back}
 use Rattle.blorb.proofs.VerdictLaws.{refsFault, modelFault, inOrder, verdict-file, file-judged, file-ordered}
+use Rattle.blorb.proofs.ModelLaws.{chunk-in}
 
 not-true : (b : Bool) → not b ≡ true → b ≡ false
 not-true true h = sym h
@@ -78,10 +78,7 @@ Starts-rise m = (i : ℕ) → suc i < length (m .refs) → start m (refAt m i .c
 start-test : (m : Model) → Sound m → (i : ℕ) → suc i < length (m .refs)
     → leb (start m (refAt m i .chunk)) (start m (refAt m (suc i) .chunk)) ≡ leb (refAt m i .chunk) (refAt m (suc i) .chunk)
 unfolding start
-start-test m s i l = lower-start _ _ _ _ (omega (arith, inside i (omega arith))) (omega (arith, inside (suc i) l))
-  where
-    inside : (j : ℕ) → j < length (m .refs) → refAt m j .chunk < length (m .chunks)
-    inside j h = all-getD (RefOk (length (m .chunks))) (m .refs) j noRef (s .refs-ok) h .chunk-there
+start-test m s i l = lower-start _ _ _ _ (omega (arith, chunk-in m i s (omega arith))) (omega (arith, chunk-in m (suc i) s l))
 
 starts-ordered : (m : Model) → Sound m → Each-order (m .refs) → Starts-rise m
 starts-ordered m s h i l = leb-true _ _ (start-test m s i l ∙ le-leb _ _ (h i l))

@@ -4,6 +4,8 @@ pub mod Places
 pub mod Codec
 pub mod ModelLaws
 pub mod Checks
+pub mod NumberLaws
+pub mod FindLaws
 pub mod Accept
 pub mod VerdictLaws
 pub mod Never

@@ -9,8 +9,9 @@ use Rattle.blorb.proofs.ByteLaws.{length-be32}
 use Rattle.blorb.specs.Format.{Ref, refOf, Chunk, Entry, size, sized, total, chunksOf, indexChunk}
 use Rattle.blorb.specs.Model.{Model, base, startOf, entryOf, file, model, modelOf}
 use Rattle.blorb.specs.All.{All}
-use Rattle.blorb.proofs.AllLaws.{all-map}
+use Rattle.blorb.proofs.AllLaws.{all-map, all-getD}
 use Rattle.blorb.specs.Sound.{W, RefOk, Sound}
+use Rattle.blorb.specs.Queries.{noRef, refAt}
 use Rattle.blorb.proofs.Places.{placeOf-startOf}
 use Rattle.blorb.proofs.Codec.{EntryOk, length-fileBytes, length-entriesBytes, chunksOf-fileBytes, entriesOf-indexChunk}
 
@@ -74,3 +75,7 @@ module _ (m : Model) (s : Sound m) (small : length (file m) < W) where
   model-file =
       rw (chunks-of, entriesOf-indexChunk (entries m) entries-ok few, length-map)
       λ i. record { refs = refOf-entryOf (base (length (m .refs))) (m .chunks) (m .refs) (s .refs-ok) i; chunks = m .chunks }
+
+-- an entry's chunk is there
+pub chunk-in : (m : Model) (i : ℕ) → Sound m → i < length (m .refs) → refAt m i .chunk < length (m .chunks)
+chunk-in m i s h = all-getD (RefOk (length (m .chunks))) (m .refs) i noRef (s .refs-ok) h .chunk-there

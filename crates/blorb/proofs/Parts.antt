@@ -71,19 +71,22 @@ entry-of at cs [] i = refl
 entry-of at cs (r ∷ rs) zero = refl
 entry-of at cs (r ∷ rs) (suc i) = entry-of at cs rs i
 
--- the start that stands in entry i of the index
-pub start-in : (m : Model) (i : ℕ) → Sound m → length (file m) < W → i < length (m .refs) → rd32 (drop (32 + 12 * i) (file m)) ≡ start m (refAt m i .chunk)
-unfolding start entryIn entryOf
-start-in m i s small h =
+-- entry i of the index in the file's bytes
+pub index-entry : (m : Model) (i : ℕ) → Sound m → length (file m) < W → i < length (m .refs)
+    → entryIn (drop (24 + 12 * i) (file m)) ≡ entryOf (base (length (m .refs))) (m .chunks) (refAt m i)
+index-entry m i s small h =
     let F : List ℕ = heading (length (m .refs)) (total (m .chunks)) in
     let X : List ℕ = entriesBytes (entries m) ++ chunksBytes (m .chunks) in
     let at : ℕ = base (length (m .refs)) in
-    let k : 32 + 12 * i ≡ 24 + (12 * i + 8) = omega arith in
-    let d : drop (32 + 12 * i) (file m) ≡ drop 8 (drop (12 * i) X)
-    = (λ z. drop (k z) (file-parts m z)) ∙ sym (drop-drop (12 * i + 8) 24 (F ++ X)) ∙ ap (drop (12 * i + 8))
-    (drop-at F X 24 (length-heading (length (m .refs)) (total (m .chunks))))
-    ∙ sym (drop-drop 8 (12 * i) X) in
-    let e : entryIn (drop (12 * i) X) ≡ entryOf at (m .chunks) (refAt m i)
-    = entry-in (entries m) i (entryOf at (m .chunks) noRef) (chunksBytes (m .chunks)) (entries-ok m s small) (simp length-map h) ∙ entry-of at
-    (m .chunks) (m .refs) i in
-    ap rd32 d ∙ ap (λ (y : Entry). y .start) e
+    let d : drop (24 + 12 * i) (file m) ≡ drop (12 * i) X
+    = ap (drop (24 + 12 * i)) (file-parts m) ∙ sym (drop-drop (12 * i) 24 (F ++ X))
+    ∙ ap (drop (12 * i)) (drop-at F X 24 (length-heading (length (m .refs)) (total (m .chunks)))) in
+    ap entryIn d ∙ entry-in (entries m) i (entryOf at (m .chunks) noRef) (chunksBytes (m .chunks)) (entries-ok m s small) (simp length-map h)
+    ∙ entry-of at (m .chunks) (m .refs) i
+
+-- the start that stands in it
+pub start-in : (m : Model) (i : ℕ) → Sound m → length (file m) < W → i < length (m .refs) → rd32 (drop (32 + 12 * i) (file m)) ≡ start m (refAt m i .chunk)
+unfolding start entryIn entryOf
+start-in m i s small h =
+    let k : 32 + 12 * i ≡ 24 + 12 * i + 8 = omega arith in
+    rw (k, ← drop-drop 8 (24 + 12 * i) (file m)) (ap (λ (y : Entry). y .start) (index-entry m i s small h))

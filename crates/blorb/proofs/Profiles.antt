@@ -1,14 +1,14 @@
 -- "A file accepted as plain is accepted under ADRIFT" (02, P12): the checks are the same but for rule 5, and ADRIFT allows what plain does.
-use mathlib.Core.Path.{_≡_, refl, ap, _∙_}
+use mathlib.Core.Path.{_≡_, refl, _∙_}
 use Prim.Native.Nat.{ℕ, _+_}
-use mathlib.Core.List.{List, [], _∷_, _++_, map}
+use mathlib.Core.List.{List, [], _∷_, _++_}
 use mathlib.Core.Bool.{Bool, true, false, _||_, _&&_}
-use lib.ListN.{length, getD}
+use lib.ListN.{getD}
 use lib.Dec.{eqb, leb}
 use Rattle.blorb.specs.Format.{Chunk, Entry, Ref, refOf, chunksOf}
 use Rattle.blorb.specs.Verdict.{Rules, accept, noChunk, refFault, entriesFault, restFault, layoutFault, verdict, reading}
 use Rattle.blorb.specs.Rules.{plainAllows, adriftAllows, allows, rulesOf, profileVerdict}
-use Rattle.blorb.proofs.Checks.{then-accept, check-accept, pass, accepts, holds-last}
+use Rattle.blorb.proofs.Checks.{then-accept, check-accept, pass, accepts}
 
 -- S allows all that R allows, and has its rule 7
 pub record More (R S : Rules) : Type 0 where

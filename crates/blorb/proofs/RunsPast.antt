@@ -4,13 +4,13 @@
 -- that some 6 are 28 or 29 (`past-verdict`). Under a profile's rules nothing but the walk refuses with 6, 28 or 29: so 01's 6 holds of a file exactly
 -- when one of the three does, at the same chunk (`file-broken-when`, `file-broken-only`).
 use mathlib.Core.Path.{_≡_, refl, sym, ap, subst, _∙_}
-use Prim.Native.Nat.{ℕ, zero, suc, _+_, _≤_, _<_, _%_}
+use Prim.Native.Nat.{ℕ, zero, suc, _+_, _≤_, _%_}
 use mathlib.Core.List.{List, [], _∷_}
 use mathlib.Core.Bool.{Bool, true, false, _||_, not, cond}
-use mathlib.Core.Logic.{_⊎_, inl, inr, ⊎-elim}
+use mathlib.Core.Logic.{_⊎_, inl, inr}
 use native.Mathlib.Omega.{arith}
-use lib.ListN.{length, getD, drop, length-drop}
-use lib.Dec.{eqb, leb}
+use lib.ListN.{length, drop, length-drop}
+use lib.Dec.{leb}
 use borrow.Author.Tests.{le-leb, leb-true}
 use Rattle.blorb.specs.Bytes.{rd32}
 use Rattle.blorb.specs.Format.{sized, chunksOf}
@@ -30,7 +30,7 @@ use Rattle.blorb.specs.RunsPast.{
   BrokenAt,
   pastVerdict,
 }
-use Rattle.blorb.proofs.Checks.{then-accept, check-accept, pass, stop, refuses}
+use Rattle.blorb.proofs.Checks.{then-accept, check-accept, stop, refuses}
 use Rattle.blorb.proofs.Never.{Never, never-itself, other, both, Elsewhere, head-never, layout-never}
 
 abbrev numberOf : Verdict → ℕ

@@ -3,6 +3,7 @@ use mathlib.Core.Path.{_≡_, refl, sym, ap, _∙_}
 use Prim.Native.Nat.{ℕ, _≤_, _<_}
 use mathlib.Core.List.{List}
 use mathlib.Core.Bool.{Bool, true, false, _&&_, _||_}
+pub use mathlib.Core.Bool.{or-false, or-assoc}
 use native.Mathlib.Omega.{arith}
 use lib.ListN.{length, take}
 use lib.Seq.{getD-take}
@@ -17,14 +18,6 @@ use Rattle.blorb.specs.declared.Usage.{Usage}
 use Rattle.blorb.specs.declared.Usage.the-variants.{Pict, Snd, Data, Exec}
 use Rattle.blorb.specs.declared.Known.the-variants.{Is, Unknown}
 use Rattle.blorb.specs.Usages.{codeOf, pickKnown, usageOf, pictType, gifType, wavType, sndType, dataType, execType}
-
-pub or-false : (b : Bool) → b || false ≡ b
-or-false true = refl
-or-false false = refl
-
-pub or-assoc : (a b c : Bool) → (a || b) || c ≡ a || (b || c)
-or-assoc true b c = refl
-or-assoc false b c = refl
 
 -- usages
 known-go : (a b c d : Bool) (k : Usage) (u : ℕ) → (a ≡ true → u ≡ codeOf Pict) → (b ≡ true → u ≡ codeOf Snd) → (c ≡ true → u ≡ codeOf Data)

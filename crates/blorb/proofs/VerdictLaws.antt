@@ -80,12 +80,12 @@ chunk-fine at c s h =
       le-leb (sized (length (c .body))) (size c + length s) (omega (arith, size-sized c)),
     )
 
-walk-nil : (k at : ℕ) → walkFault k at [] ≡ accept
+pub walk-nil : (k at : ℕ) → walkFault k at [] ≡ accept
 unfolding walkFault
 walk-nil zero at = refl
 walk-nil (suc k) at = refl
 
-walk-step : (k at : ℕ) (s : List ℕ) → 0 < length s → walkFault (suc k) at s ≡ chunkFault at s then walkFault k (at + sized (rd32 (drop 4 s)))
+pub walk-step : (k at : ℕ) (s : List ℕ) → 0 < length s → walkFault (suc k) at s ≡ chunkFault at s then walkFault k (at + sized (rd32 (drop 4 s)))
     (drop (sized (rd32 (drop 4 s))) s)
 unfolding walkFault
 walk-step k at [] h = absurd (not-suc-le-zero h)

@@ -3,20 +3,23 @@
 use mathlib.Core.Path.{_≡_, refl, sym, ap, _∙_}
 use Prim.Native.Nat.{ℕ, zero, suc, _+_, _-_, _%_, _≤_, _<_}
 use mathlib.Core.List.{List, [], _∷_}
-use mathlib.Core.Bool.{Bool, true, false, _&&_, _||_, not}
+use mathlib.Core.Bool.{Bool, true, false, _&&_, _||_, and-true}
 use native.Mathlib.Omega.{arith}
 use native.Mathlib.Nat.{not-suc-le-zero}
 use lib.ListN.{length, getD, drop, length-drop, drop-of-length-le}
 use lib.Seq.{drop-drop, length-take-le, getD-drop}
 use lib.Dec.{eqb}
-use borrow.Author.Tests.{eq-eqb, ne-eqb, le-leb, lt-leb, leb-true, lt-ltb, le-ltb}
+use borrow.Author.Tests.{eq-eqb, ne-eqb, le-leb, lt-leb, leb-true, lt-ltb, le-ltb, not-true}
 use Rattle.chunks.specs.Ordinary.{ordinaryType, allOrdinary, Along}
 use Rattle.blorb.specs.Tags.{RelN, Fspc, RIdx}
 use Rattle.blorb.specs.Bytes.{rd32}
 use Rattle.blorb.specs.Format.{Chunk, sized, size, chunkIn, chunksIn}
 use Rattle.blorb.specs.Verdict.{Verdict, accept, refuse, check, _then_, chunkFault, walkFault, secondIndex}
 use Rattle.chunks.specs.Walk.{chunkFrom, nextAt, chunksFrom, walkFrom, skipAt, firstFault}
+pub use Rattle.blorb.proofs.Checks.{neither}
 use Rattle.blorb.proofs.Checks.{then-accept, check-accept, pass, stop, holds-last, fails-last, accepts, refuses, and-both}
+use Rattle.blorb.proofs.VerdictLaws.{walk-step, walk-nil}
+use Rattle.blorb.proofs.Codec.{chunksIn-step, chunksIn-nil}
 
 -- the step of a walk
 shorter : (k n : ℕ) (s : List ℕ) → 0 < length s → length s ≤ suc k → length (drop (sized n) s) ≤ k
@@ -36,12 +39,6 @@ walk-same (suc k) (suc j) at (b ∷ s) h g =
     (walk-same k j (at + sized (rd32 (drop 4 (b ∷ s)))) (drop (sized (rd32 (drop 4 (b ∷ s)))) (b ∷ s))
     (shorter k _ (b ∷ s) (omega arith) h) (shorter j _ (b ∷ s) (omega arith) g))
 
-walk-one : (k at : ℕ) (s : List ℕ) → 0 < length s
-    → walkFault (suc k) at s ≡ chunkFault at s then walkFault k (at + sized (rd32 (drop 4 s))) (drop (sized (rd32 (drop 4 s))) s)
-unfolding walkFault
-walk-one k at [] h = absurd (not-suc-le-zero h)
-walk-one k at (b ∷ s) h = refl
-
 chunks-same : (k j : ℕ) (s : List ℕ) → length s ≤ k → length s ≤ j → chunksIn k s ≡ chunksIn j s
 unfolding chunksIn
 chunks-same zero zero s h g = refl
@@ -54,32 +51,17 @@ chunks-same (suc k) (suc j) (b ∷ s) h g =
     ap (λ (l : List Chunk). chunkIn (b ∷ s) ∷ l)
     (chunks-same k j (drop (sized (rd32 (drop 4 (b ∷ s)))) (b ∷ s)) (shorter k _ (b ∷ s) (omega arith) h) (shorter j _ (b ∷ s) (omega arith) g))
 
-chunks-one : (k : ℕ) (s : List ℕ) → 0 < length s → chunksIn (suc k) s ≡ chunkIn s ∷ chunksIn k (drop (sized (rd32 (drop 4 s))) s)
-unfolding chunksIn
-chunks-one k [] h = absurd (not-suc-le-zero h)
-chunks-one k (b ∷ s) h = refl
-
-chunks-none : (k : ℕ) → chunksIn k [] ≡ []
-unfolding chunksIn
-chunks-none zero = refl
-chunks-none (suc k) = refl
-
-walk-none : (k at : ℕ) → walkFault k at [] ≡ accept
-unfolding walkFault
-walk-none zero at = refl
-walk-none (suc k) at = refl
-
 module _ (f : List ℕ) (at : ℕ) where
   dropped : length (drop at f) ≤ length f
   dropped = rw (length-drop at f) (omega arith)
 
   pub walk-end : length f ≤ at → walkFrom f at ≡ accept
   unfolding walkFrom
-  walk-end h = rw (drop-of-length-le f h) (walk-none (length f) at)
+  walk-end h = rw (drop-of-length-le f h) (walk-nil (length f) at)
 
   pub chunks-end : length f ≤ at → chunksFrom f at ≡ []
   unfolding chunksFrom
-  chunks-end h = rw (drop-of-length-le f h) (chunks-none (length f))
+  chunks-end h = rw (drop-of-length-le f h) (chunksIn-nil (length f))
 
   pub walk-on : at < length f
       → walkFrom f at ≡ chunkFault at (drop at f) then walkFrom f (at + sized (rd32 (drop 4 (drop at f))))
@@ -88,7 +70,7 @@ module _ (f : List ℕ) (at : ℕ) where
       let n : ℕ = sized (rd32 (drop 4 (drop at f))) in
       let z : 0 < length (drop at f) = rw (length-drop at f) (omega arith) in
       let l : length (drop at f) ≤ suc (length f) = omega (arith, dropped) in
-      walk-same (length f) (suc (length f)) at (drop at f) dropped l ∙ walk-one (length f) at (drop at f) z
+      walk-same (length f) (suc (length f)) at (drop at f) dropped l ∙ walk-step (length f) at (drop at f) z
       ∙ ap (λ (d : List ℕ). chunkFault at (drop at f) then walkFault (length f) (at + n) d) (drop-drop n at f)
 
   pub chunks-on : at < length f → chunksFrom f at ≡ chunkFrom f at ∷ chunksFrom f (at + sized (rd32 (drop 4 (drop at f))))
@@ -97,7 +79,7 @@ module _ (f : List ℕ) (at : ℕ) where
       let n : ℕ = sized (rd32 (drop 4 (drop at f))) in
       let z : 0 < length (drop at f) = rw (length-drop at f) (omega arith) in
       let l : length (drop at f) ≤ suc (length f) = omega (arith, dropped) in
-      chunks-same (length f) (suc (length f)) (drop at f) dropped l ∙ chunks-one (length f) (drop at f) z
+      chunks-same (length f) (suc (length f)) (drop at f) dropped l ∙ chunksIn-step (length f) (drop at f) z
       ∙ ap (λ (d : List ℕ). chunkIn (drop at f) ∷ chunksIn (length f) d) (drop-drop n at f)
 
 -- a chunk without fault, whatever stands behind it
@@ -279,23 +261,10 @@ along-next f from at n t p o h e q k w a =
 pub along-on : (f : List ℕ) (from at n t : ℕ) (p : Bool) → at < length f → chunkFault at (drop at f) ≡ accept
     → t ≡ rd32 (drop at f) → ordinaryType t ≡ true → n ≡ skipAt f at → Along f from at p → Along f from n p
 along-on f from at n t p h e q k w a = rw (and-true p) at (along-next f from at n t p true h e q (sym k) w a)
-  where
-    and-true : (b : Bool) → b && true ≡ b
-    and-true true = refl
-    and-true false = refl
-
-not-or : (a b : Bool) → not (a || b) ≡ true → (a ≡ false) × (b ≡ false)
-not-or true b e = let z : _≡_ {A = ℕ} 0 1 = cc in absurd (omega arith)
-not-or false true e = let z : _≡_ {A = ℕ} 0 1 = cc in absurd (omega arith)
-not-or false false e = (refl, refl)
-
-pub neither : (a b : Bool) → a || b ≡ false → (a ≡ false) × (b ≡ false)
-neither true b e = let z : _≡_ {A = ℕ} 0 1 = cc in absurd (omega arith)
-neither false b e = (refl, e)
 
 pub ordinary-not : (t : ℕ) → ordinaryType t ≡ true → (eqb t RIdx ≡ false) × (eqb t RelN ≡ false) × (eqb t Fspc ≡ false)
 ordinary-not t e =
-    let a = not-or (eqb t RIdx) (eqb t RelN || eqb t Fspc) e in
+    let a = neither (eqb t RIdx) (eqb t RelN || eqb t Fspc) (not-true _ e) in
     let b = neither (eqb t RelN) (eqb t Fspc) (a .1) in
     (a .0, b .0, b .1)
 

@@ -1,14 +1,14 @@
 -- 02, P7: "A list whose pairs are all in the index, written and then read as the one 'RDes' of an accepted file, has the same pairs and texts in the same
 -- order": by entry and by pair. What is written has no fault of its own, so nothing is asked of the verdict on the texts.
-use mathlib.Core.Path.{_≡_, refl, sym, ap, subst, _∙_}
-use Prim.Native.Nat.{ℕ, zero, suc, _+_, _*_, _-_, _%_, _≤_, _<_}
+use mathlib.Core.Path.{_≡_, refl, sym, ap, _∙_}
+use Prim.Native.Nat.{ℕ, zero, suc, _+_, _-_, _%_, _≤_, _<_}
 use mathlib.Core.List.{List, [], _∷_, _++_, append-assoc}
-use mathlib.Core.Bool.{Bool, true, false, _&&_, _||_}
+use mathlib.Core.Bool.{true, false, _&&_}
 use native.Mathlib.Omega.{arith}
 use native.Mathlib.Nat.{not-suc-le-zero}
-use lib.ListN.{length, take, drop, getD, replicate, length-append, length-drop, take-append-drop}
+use lib.ListN.{length, take, drop, getD, replicate, length-drop, take-append-drop}
 use lib.Seq.{drop-drop, take-take, take-at, length-take-le}
-use lib.Dec.{eqb, ltb}
+use lib.Dec.{eqb}
 use borrow.Author.Tests.{lt-ltb, le-ltb, eq-eqb}
 use Rattle.blorb.specs.Bytes.{be32, rd32}
 use Rattle.blorb.specs.Sound.{W}
@@ -16,20 +16,19 @@ use Rattle.blorb.specs.Format.{chunkBytes, chunkOf, size}
 use Rattle.blorb.specs.Verdict.{Verdict, accept, refuse, pairIn}
 use Rattle.blorb.proofs.ByteLaws.{rd32-be32, drop-be32, drop-two}
 use Rattle.blorb.proofs.Codec.{length-chunkBytes}
-use Rattle.blorb.specs.Model.{Model, model}
+use Rattle.blorb.specs.Model.{model}
+use Rattle.blorb.proofs.Checks.{neither}
 use Rattle.rdes.specs.Rdes.{RDes, Desc, desc, bodyOf, usageAt, numberAt, sizeAt, textAt, nextAt, offsetOf, fillsFrom, descsFrom, pairAmong, chunkFault}
-use Rattle.rdes.proofs.EntryLaws.{Room, entry-room, entry-of, text-length, fills-all}
+use Rattle.rdes.proofs.EntryLaws.{entry-room, entry-of, text-length, fills-all}
 use Rattle.rdes.proofs.FaultLaws.{none}
 use Rattle.rdes.proofs.ReadBack.{read-back}
 use Rattle.locate.specs.Located.{locatedOf, dataAt}
 use Rattle.locate.specs.declared.Located.the-variants as located
-use Rattle.locate.proofs.Promises.{Stands, located-stood}
-use Rattle.descriptions.specs.Texts.{rdesVerdict, describedOf, givenAt, toldOf}
+use Rattle.locate.proofs.Promises.{located-stood}
+use Rattle.descriptions.specs.Texts.{rdesVerdict, describedOf, toldOf}
 use Rattle.descriptions.proofs.Telling.{tell-first}
-use Rattle.descriptions.specs.declared.Described.{Described}
-use Rattle.descriptions.specs.declared.Described.the-variants.{Given, Refused}
-use Rattle.descriptions.specs.declared.Told.{Told}
-use Rattle.descriptions.specs.declared.Told.the-variants.{Text, Refused as Untold}
+use Rattle.descriptions.specs.declared.Described.the-variants.{Refused}
+use Rattle.descriptions.specs.declared.Told.the-variants.{Text}
 use Rattle.described.specs.ReadsBack.{Gives, Tells, ReadsBack}
 use Rattle.describing.specs.List.{usageOf, numberOf, textOf, rowAt, rowsFrom, countOf, listOf}
 use Rattle.describing.specs.Writing.{repeated, wholeSize, writeFault, answered, writingOf, writtenOf}
@@ -44,10 +43,6 @@ inner s zero m l h = take-take s m l (omega arith)
 inner s (suc a) zero l h = absurd (omega arith)
 inner s (suc a) (suc m) [] h = refl
 inner s (suc a) (suc m) (x ∷ l) h = inner s a m l (omega arith)
-
-neither : (x y : Bool) → (x || y) ≡ false → (x ≡ false) × (y ≡ false)
-neither true y q = (q, cc)
-neither false y q = (refl, q)
 
 -- a pair that is not among these is not that of any of them
 not-among : (u k : ℕ) (es : List Desc) (j : ℕ) (z : Desc) → pairAmong u k es ≡ false → j < length es

@@ -1,23 +1,22 @@
 -- 38 and 39 by the first repeated pair and the first bad text: up to the bad text all texts are good, and before the first repeat all pairs are
 -- apart, so the entry that comes first decides. A pair is one key, u * 2 ^ 32 + k, since both numbers have 32 bits.
 use mathlib.Core.Path.{_≡_, refl, sym, ap, _∙_}
-use Prim.Native.Nat.{ℕ, zero, suc, _+_, _*_, _≤_, _<_}
-use mathlib.Core.List.{List, [], _∷_, _++_}
-use mathlib.Core.Bool.{Bool, true, false, _&&_, _||_}
+use Prim.Native.Nat.{ℕ, zero, suc, _+_, _≤_, _<_}
+use mathlib.Core.List.{List, []}
+use mathlib.Core.Bool.{true, false}
 use native.Mathlib.Omega.{arith}
 use lib.ListN.{length, getD, take, drop}
 use lib.Seq.{take-suc}
-use lib.Dec.{eqb}
-use borrow.Author.Tests.{eq-eqb, ne-eqb, eqb-true, eqb-false}
 use Rattle.blorb.specs.Bytes.{rd32, Byte}
 use Rattle.blorb.specs.All.{All}
 use Rattle.blorb.specs.Sound.{W}
 use Rattle.blorb.specs.Verdict.{accept, refuse}
 use Rattle.blorb.proofs.Accept.{rd32-small}
 use Rattle.blorb.proofs.AllLaws.{all-drop}
+use Rattle.blorb.proofs.NumberLaws.{key-eqb}
 use Rattle.utf8.specs.Utf8.{goodLength}
 use Rattle.rdes.specs.Rdes.{Desc, textAt, nextAt, offsetOf, fillsFrom, descsFrom, pairAmong, goodText, entriesFault}
-use Rattle.rdes.proofs.EntryLaws.{offset-none, offset-next, descs-length, entry-of, entry-room}
+use Rattle.rdes.proofs.EntryLaws.{offset-none, offset-next, descs-length, entry-of, entry-room, pair-snoc}
 use Rattle.rdes.proofs.FaultLaws.{span, none, Clean, clean-all, clean-38, clean-39, offset-span}
 use Rattle.repeats.specs.Keys.{pairKey, entryAt, entryKey, EntriesInside}
 use Rattle.repeats.specs.Repeats.{among, firstRepeat, Apart}
@@ -25,25 +24,6 @@ use Rattle.repeats.specs.declared.First.{First}
 use Rattle.repeats.specs.declared.First.the-variants.{At, Nothing}
 use Rattle.repeats.proofs.Answers.{among-none, answer-at, answer-nothing}
 use Rattle.descriptions.specs.Opened.{GoodTo, BadAt, repeatedBy, repeatFault}
-
--- a pair is its key
-key-eqb : (a b u k : ℕ) → b < W → k < W → eqb (pairKey a b) (pairKey u k) ≡ eqb a u && eqb b k
-key-eqb a b u k hb hk = go (eqb a u) refl (eqb b k) refl
-  where
-    go : (p : Bool) → eqb a u ≡ p → (q : Bool) → eqb b k ≡ q → eqb (pairKey a b) (pairKey u k) ≡ p && q
-    go true e true f = eq-eqb (pairKey a b) (pairKey u k) (omega (arith, eqb-true a u e, eqb-true b k f))
-    go true e false f = ne-eqb (pairKey a b) (pairKey u k) (λ s. eqb-false b k f (omega (arith, eqb-true a u e)))
-    go false e q f = ne-eqb (pairKey a b) (pairKey u k) (λ s. eqb-false a u e (omega arith))
-
-pair-snoc : (u k : ℕ) (xs : List Desc) (e : Desc) → pairAmong u k (xs ++ (e ∷ [])) ≡ (eqb (e .usage) u && eqb (e .number) k) || pairAmong u k xs
-unfolding pairAmong
-pair-snoc u k [] e = refl
-pair-snoc u k (x ∷ xs) e = rw (pair-snoc u k xs e) (swap (eqb (x .usage) u && eqb (x .number) k) (eqb (e .usage) u && eqb (e .number) k) (pairAmong u k xs))
-  where
-    swap : (a b c : Bool) → a || (b || c) ≡ b || (a || c)
-    swap true true c = refl
-    swap true false c = refl
-    swap false b c = refl
 
 module _ (d : List ℕ) where
   -- the entries stand where the search for a repeat finds them

@@ -21,9 +21,10 @@ use Rattle.blorb.proofs.ByteLaws.{length-be32}
 use Rattle.blorb.specs.Sound.{W, Sound}
 use Rattle.blorb.proofs.Checks.{then-accept, check-accept, both-true}
 use Rattle.blorb.proofs.Accept.{accept-back, accept-short}
-use Rattle.blorb.proofs.ModelLaws.{model-file}
+use Rattle.blorb.proofs.ModelLaws.{model-file, chunk-in}
 use Rattle.blorb.proofs.Profiles.{profile-known}
 use Rattle.blorb.proofs.VerdictLaws.{modelFault, file-judged}
+use Rattle.blorb.proofs.FindLaws.{pair-found, find-pair, look-missing, look-find}
 use Rattle.reader.specs.Reading.{foundAt, lookupOf, partOf}
 use Rattle.reader.specs.declared.Looked.{Looked}
 use Rattle.reader.specs.declared.Looked.the-variants.{Found, Refused}
@@ -31,18 +32,15 @@ use Rattle.reader.proofs.Promises.{lookup-here, lookup-nowhere}
 use Rattle.edits.specs.Edit.{Edit, add, replace, remove, link, added, linked, edited, givenChunk}
 use Rattle.edits.specs.Run.{ArgsOk, wholeFault, targetFault, editedFile, editFault}
 use Rattle.edits.proofs.Applies.{Applies}
-use Rattle.edits.proofs.FaultLaws.{pair-found}
 use Rattle.edits.proofs.LastLaws.{drop-take}
 use Rattle.edits.proofs.WholeForms.{given-shown}
 use Rattle.undoing.proofs.ChunkAt.{drop-start}
 use Rattle.edits.proofs.AddVerdict.{added-verdict}
 use Rattle.edits.proofs.LinkVerdict.{linked-verdict}
 use Rattle.edits.proofs.RunLaws.{Good, target-applies, hundred-accept}
-use Rattle.edits.proofs.FitLaws.{edit-sound, find-pair}
+use Rattle.edits.proofs.FitLaws.{edit-sound}
 use Rattle.edits.proofs.ReadBack.{
   same,
-  look-missing,
-  look-find,
   add-reads,
   add-keeps,
   replace-reads,
@@ -54,7 +52,6 @@ use Rattle.edits.proofs.ReadBack.{
   link-on-new,
   link-on-old,
 }
-use Rattle.edits.proofs.JudgedLaws.{chunk-in}
 use Rattle.editor.specs.ReadsBack.{Content, nothing, holds, contentOf, Holds, DataBytes, OwnPair, Apart, OtherPair}
 
 -- the two answers of a lookup

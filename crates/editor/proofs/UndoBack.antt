@@ -1,4 +1,5 @@
--- What a plan to go on tells, and that the writers give the file that the definitions say.
+-- What a plan to go on tells, and that the writers give the file that the definitions say: the record fits, so each of its numbers is the one that the writer
+-- of its kind asks for, and the file written is that of the model undone.
 use mathlib.Core.Path.{_≡_, refl, sym, ap, _∙_}
 use Prim.Native.Nat.{ℕ, _+_, _*_, _-_, _≤_, _<_, _%_}
 use mathlib.Core.List.{List}
@@ -18,16 +19,13 @@ use Rattle.blorb.specs.All.{All}
 use Rattle.blorb.proofs.AllLaws.{all-take}
 use Rattle.blorb.specs.Sound.{W}
 use Rattle.blorb.specs.Bytes.{Byte}
-use Rattle.blorb.proofs.Checks.{then-accept, check-accept}
+use Rattle.blorb.proofs.Checks.{then-accept, check-accept, and-both, neither, is-accept}
 use Rattle.blorb.proofs.Accept.{accept-short}
-use Rattle.blorb.proofs.ModelLaws.{length-file}
+use Rattle.blorb.proofs.ModelLaws.{length-file, chunk-in}
 use Rattle.edits.specs.Edit.{removed, removedBoth, removedEntry, replaced, entered, inserted}
 use Rattle.edits.specs.GoneSize.{goneSize}
-use Rattle.edits.specs.Journal.{Rec, lastRec, wellFormed, fits, fits3, fits4, undo2, undo3, undo4, undo5, oldChunk}
+use Rattle.edits.specs.Journal.{Rec, lastRec, wellFormed, fits, undo2, undo3, undo4, undo5, oldChunk}
 use Rattle.edits.specs.Run.{undo, state, undoneFile, undoFault, fault}
-use Rattle.edits.proofs.BoolLaws.{and-parts}
-use Rattle.edits.proofs.UndoLaws.{or-false}
-use Rattle.edits.proofs.JudgedLaws.{chunk-in}
 use Rattle.edits.proofs.UndoJudged.{AcceptedFile, accepted-facts, fits1-facts, fits2-facts, fits5-facts, undo1-removed, kind-1, kind-2, kind-3, kind-4, kind-5}
 use Rattle.edits.proofs.FitFacts.{size-is}
 use Rattle.edits.proofs.UndoTold.{after-2, after-3, after-4}
@@ -39,6 +37,7 @@ use Rattle.undoing.specs.LastRecord.{numbersOf, lastOf}
 use Rattle.undoing.specs.UndoPlan.{chunkStart, chunkSize, goOf, undoingOf, undoPlan}
 use Rattle.undoing.proofs.LastRead.{Ends, good-ends, kind-is, body-is}
 use Rattle.rewrite.proofs.InsertBytes.{insertable3, insertable4}
+use Rattle.rewrite.proofs.Writes.{stands-length}
 use Rattle.undoing.proofs.UndoFits.{chunk-ends, at-1, at-2, at-3, at-4, at-5}
 
 -- the undo goes on with these numbers
@@ -68,10 +67,6 @@ formed-last : (j : List ℕ) → wellFormed j ≡ true → lastOf j ≡ Good (nu
 unfolding lastOf
 formed-last j h = rw h
 
-accepted-fine : (v : Verdict) → accepted v ≡ true → v ≡ accept
-accepted-fine accept h = refl
-accepted-fine (refuse k p) h = cc
-
 index-in : (m : Model) → 24 + 12 * length (m .refs) ≤ length (file m)
 unfolding base
 index-in m = omega (arith, length-file m)
@@ -100,9 +95,9 @@ module _ (profile : ℕ) (b : List ℕ) (l : ℕ) (j : List ℕ) (u k a s t : �
       let h2 = then-accept _ _ (h1 .1) in
       let h3 = then-accept _ _ (h2 .1) in
       let h4 = then-accept _ _ (h3 .1) in
-      let lens = and-parts (leb l (length b)) (leb u (length j)) (check-accept _ _ _ (h1 .0)) in
-      let test = and-parts (wellFormed q && fits (lastRec q) (model f)) (accepted (verdict (rulesOf profile) (undoneFile f q))) (check-accept _ _ _ (h4 .0)) in
-      let good = and-parts (wellFormed q) (fits (lastRec q) (model f)) (test .0) in
+      let lens = and-both (leb l (length b)) (leb u (length j)) (check-accept _ _ _ (h1 .0)) in
+      let test = and-both (wellFormed q && fits (lastRec q) (model f)) (accepted (verdict (rulesOf profile) (undoneFile f q))) (check-accept _ _ _ (h4 .0)) in
+      let good = and-both (wellFormed q) (fits (lastRec q) (model f)) (test .0) in
       let inside : l ≤ length b = leb-true l (length b) (lens .0) in
       let len : length (take l b) ≡ l = length-take-le l b inside in
       let g : Go (length (model f .refs)) (chunkStart (lastRec q) (model f)) (chunkSize (lastRec q) (model f)) (length (undoneFile f q))
@@ -124,7 +119,7 @@ module _ (profile : ℕ) (b : List ℕ) (l : ℕ) (j : List ℕ) (u k a s t : �
         file-facts = st;
         ends = good-ends j u r (leb-true u (length j) (lens .1)) (formed-last q (good .0) ∙ ap Good n);
         fit = good .1;
-        fine = accepted-fine _ (test .1);
+        fine = is-accept _ (test .1);
         room = leb-true _ _ (check-accept _ _ _ (h4 .1));
         at-is = cc;
         size-is = cc;
@@ -152,36 +147,40 @@ module _ (profile : ℕ) (b : List ℕ) (l : ℕ) (j : List ℕ) (u k a s t : �
   file-is : length (take l b) ≡ l
   file-is = length-take-le l b (w .stands .inside)
 
-  whole-is : length (file (model (take l b))) ≡ l
-  whole-is = ap length (w .file-facts .whole) ∙ file-is
-
   small : length (file (model (take l b))) < W
   small = omega (arith, w .file-facts .short)
 
   after-short : length (undoneFile (take l b) (take u j)) ≤ 16777216
   after-short = accept-short (rulesOf profile) (undoneFile (take l b) (take u j)) (w .fine)
 
-  -- kind 1
-  back-added : r .kind ≡ 1 → Stands b l k × Removable b l k (r .place) a s
+  -- the entry at the record's place goes, with its own chunk or alone
+  entry-goes : (x : Bool) → rec .place < length (m .refs) → shared m (rec .place) ≡ x → a ≡ start m (refAt m (rec .place) .chunk)
+      → s ≡ cond x 0 (size (chunkAt m (refAt m (rec .place) .chunk))) → Stands b l k × Removable b l k (r .place) a s
   unfolding goneSize
-  back-added h =
-      let fit = sym (kind-1 rec m (kind-is j u r (w .ends) 1 h) .0) ∙ w .fit in
-      let p = fits1-facts rec m fit in
-      let listed : rec .place < length (m .refs) = omega (arith, p .count) in
-      let there = chunk-in m (rec .place) (w .file-facts .sound) listed in
+  entry-goes x listed e ea es =
       let c : ℕ = refAt m (rec .place) .chunk in
-      let ea : a ≡ start m c = w .at-is ∙ at-1 rec m (kind-is j u r (w .ends) 1 h) .0 in
-      let es : s ≡ size (chunkAt m c) = w .size-is ∙ at-1 rec m (kind-is j u r (w .ends) 1 h) .1 in (
+      let there = chunk-in m (rec .place) (w .file-facts .sound) listed in (
         w .stands,
         record {
           listed = omega (arith, listed, place-is, w .stands .entries);
           starts = ea ∙ ap (λ (z : ℕ). start m (refAt m z .chunk)) place-is;
-          gone = es ∙ sym (ap (λ (z : Bool). cond z 0 (size (chunkAt m c))) (p .alone))
+          gone = es ∙ sym (ap (λ (z : Bool). cond z 0 (size (chunkAt m c))) e)
               ∙ ap (λ (z : ℕ). cond (shared m z) 0 (size (chunkAt m (refAt m z .chunk)))) place-is;
           behind = omega (arith, ea, start-behind m c, w .stands .entries);
-          ends = omega (arith, ea, es, chunk-ends m c (w .file-facts .sound) there small, whole-is);
+          ends = omega (arith, ea, es, most x (size (chunkAt m c)), chunk-ends m c (w .file-facts .sound) there small, stands-length b l k (w .stands));
         },
       )
+    where
+      most : (x : Bool) (n : ℕ) → cond x 0 n ≤ n
+      most true n = omega arith
+      most false n = omega arith
+
+  -- kind 1
+  back-added : r .kind ≡ 1 → Stands b l k × Removable b l k (r .place) a s
+  back-added h =
+      let q = kind-is j u r (w .ends) 1 h in
+      let p = fits1-facts rec m (sym (kind-1 rec m q .0) ∙ w .fit) in
+      entry-goes false (omega (arith, p .count)) (p .alone) (w .at-is ∙ at-1 rec m q .0) (w .size-is ∙ at-1 rec m q .1)
 
   written-added : r .kind ≡ 1 → file (removed (model (take l b)) (r .place)) ≡ undoneFile (take l b) (take u j)
   unfolding undoneFile
@@ -191,24 +190,10 @@ module _ (profile : ℕ) (b : List ℕ) (l : ℕ) (j : List ℕ) (u k a s t : �
 
   -- kind 5
   back-linked : r .kind ≡ 5 → Stands b l k × Removable b l k (r .place) a s
-  unfolding goneSize
   back-linked h =
-      let fit = sym (kind-5 rec m (kind-is j u r (w .ends) 5 h) .0) ∙ w .fit in
-      let p = fits5-facts rec m fit in
-      let c : ℕ = refAt m (rec .place) .chunk in
-      let there = chunk-in m (rec .place) (w .file-facts .sound) (p .inside) in
-      let ea : a ≡ start m c = w .at-is ∙ at-5 rec m (kind-is j u r (w .ends) 5 h) .0 in
-      let es : s ≡ 0 = w .size-is ∙ at-5 rec m (kind-is j u r (w .ends) 5 h) .1 in (
-        w .stands,
-        record {
-          listed = omega (arith, p .inside, place-is, w .stands .entries);
-          starts = ea ∙ ap (λ (z : ℕ). start m (refAt m z .chunk)) place-is;
-          gone = es ∙ sym (ap (λ (z : Bool). cond z 0 (size (chunkAt m c))) (p .holds))
-              ∙ ap (λ (z : ℕ). cond (shared m z) 0 (size (chunkAt m (refAt m z .chunk)))) place-is;
-          behind = omega (arith, ea, start-behind m c, w .stands .entries);
-          ends = omega (arith, ea, es, chunk-ends m c (w .file-facts .sound) there small, whole-is);
-        },
-      )
+      let q = kind-is j u r (w .ends) 5 h in
+      let p = fits5-facts rec m (sym (kind-5 rec m q .0) ∙ w .fit) in
+      entry-goes true (p .inside) (p .holds) (w .at-is ∙ at-5 rec m q .0) (w .size-is ∙ at-5 rec m q .1)
 
   written-linked : r .kind ≡ 5 → file (removed (model (take l b)) (r .place)) ≡ undoneFile (take l b) (take u j)
   unfolding undoneFile undo5 removed
@@ -218,20 +203,19 @@ module _ (profile : ℕ) (b : List ℕ) (l : ℕ) (j : List ℕ) (u k a s t : �
       ap file (ap (λ (z : Bool). cond z (removedEntry m (r .place)) (removedBoth m (r .place) (refAt m (r .place) .chunk))) e
       ∙ ap (removedEntry m) (sym place-is) ∙ sym (kind-5 rec m (kind-is j u r (w .ends) 5 h) .1))
 
-  -- kinds 1 and 5: an entry goes, with its own chunk or alone
-  pub back-gone : (eqb (r .kind) 1 || eqb (r .kind) 5) ≡ true → Stands b l k × Removable b l k (r .place) a s
-  back-gone h = go (eqb (r .kind) 1) refl h
+  -- kinds 1 and 5
+  either : {P : Type 0} → (r .kind ≡ 1 → P) → (r .kind ≡ 5 → P) → (eqb (r .kind) 1 || eqb (r .kind) 5) ≡ true → P
+  either {P = P} one five h = go (eqb (r .kind) 1) refl h
     where
-      go : (x : Bool) → eqb (r .kind) 1 ≡ x → (x || eqb (r .kind) 5) ≡ true → Stands b l k × Removable b l k (r .place) a s
-      go true e h = back-added (eqb-true _ _ e)
-      go false e h = back-linked (eqb-true _ _ h)
+      go : (x : Bool) → eqb (r .kind) 1 ≡ x → (x || eqb (r .kind) 5) ≡ true → P
+      go true e h = one (eqb-true _ _ e)
+      go false e h = five (eqb-true _ _ h)
+
+  pub back-gone : (eqb (r .kind) 1 || eqb (r .kind) 5) ≡ true → Stands b l k × Removable b l k (r .place) a s
+  back-gone h = either back-added back-linked h
 
   pub written-gone : (eqb (r .kind) 1 || eqb (r .kind) 5) ≡ true → file (removed (model (take l b)) (r .place)) ≡ undoneFile (take l b) (take u j)
-  written-gone h = go (eqb (r .kind) 1) refl h
-    where
-      go : (x : Bool) → eqb (r .kind) 1 ≡ x → (x || eqb (r .kind) 5) ≡ true → file (removed (model (take l b)) (r .place)) ≡ undoneFile (take l b) (take u j)
-      go true e h = written-added (eqb-true _ _ e)
-      go false e h = written-linked (eqb-true _ _ h)
+  written-gone h = either written-added written-linked h
 
   -- kind 2
   pub back-replaced : (All Byte j) → r .kind ≡ 2
@@ -254,7 +238,7 @@ module _ (profile : ℕ) (b : List ℕ) (l : ℕ) (j : List ℕ) (u k a s t : �
             starts = ea ∙ ap (λ (z : ℕ). start m (refAt m z .chunk)) place-is;
             sized = es ∙ ap (λ (z : ℕ). size (chunkAt m (refAt m z .chunk))) place-is;
             behind = omega (arith, ea, start-behind m c, w .stands .entries);
-            ends = omega (arith, ea, es, chunk-ends m c (w .file-facts .sound) there small, whole-is);
+            ends = omega (arith, ea, es, chunk-ends m c (w .file-facts .sound) there small, stands-length b l k (w .stands));
           },
           (omega (arith, to, w .room), omega (arith, to, after-short)),
         ),
@@ -269,20 +253,17 @@ module _ (profile : ℕ) (b : List ℕ) (l : ℕ) (j : List ℕ) (u k a s t : �
   -- kind 3, the one that is left
   pub kind-3-left : (eqb (r .kind) 1 || eqb (r .kind) 5) ≡ false → (r .kind ≡ 4 → ⊥) → (r .kind ≡ 2 → ⊥) → r .kind ≡ 3
   kind-3-left n n4 n2 =
-      let o = or-false (eqb (r .kind) 1) (eqb (r .kind) 5) n in
+      let o = neither (eqb (r .kind) 1) (eqb (r .kind) 5) n in
       omega (arith, eqb-false (r .kind) 1 (o .0), eqb-false (r .kind) 5 (o .1), w .ends .kind-low, w .ends .kind-high)
 
   module _ (h : r .kind ≡ 3) where
-    fit-3 : fits3 (lastRec (take u j)) (model (take l b)) ≡ true
-    fit-3 = sym (kind-3 rec m (kind-is j u r (w .ends) 3 h) .0) ∙ w .fit
-
     at-3-is : a ≡ lastRec (take u j) .start - 12
     at-3-is = w .at-is ∙ at-3 rec m (kind-is j u r (w .ends) 3 h) .0
 
     pub back-removed : (All Byte j) → Stands b l k × (Insertable b l k (r .place) a × ((l + (20 + (length d + length d % 2)) ≤ length b)
         × (l + (20 + (length d + length d % 2)) ≤ 16777216)))
     back-removed bj =
-        let i = insertable3 b l k (w .stands) rec fit-3 in
+        let i = insertable3 b l k (w .stands) rec (sym (kind-3 rec m (kind-is j u r (w .ends) 3 h) .0) ∙ w .fit) in
         let to : length (undoneFile (take l b) (take u j)) ≡ l + 12 + sizeOf (length d)
         = after-3 profile (take l b) (take u j) (w .file-facts) (all-take Byte u j bj) (kind-is j u r (w .ends) 3 h)
         ∙ (λ i. file-is i + 12 + sizeOf (length (sym (body-is j u r (w .ends)) i))) in
@@ -298,17 +279,15 @@ module _ (profile : ℕ) (b : List ℕ) (l : ℕ) (j : List ℕ) (u k a s t : �
 
   -- kind 4
   module _ (h : r .kind ≡ 4) where
-    fit-4 : fits4 (lastRec (take u j)) (model (take l b)) ≡ true
-    fit-4 = sym (kind-4 rec m (kind-is j u r (w .ends) 4 h) .0) ∙ w .fit
-
     at-4-is : a ≡ lastRec (take u j) .start - 12
     at-4-is = w .at-is ∙ at-4 rec m (kind-is j u r (w .ends) 4 h) .0
 
     pub back-unlisted : (All Byte j) → Stands b l k × (Insertable b l k (r .place) a × ((l + 12 ≤ length b) × (l + 12 ≤ 16777216)))
     back-unlisted bj =
-        let i = insertable4 b l k (w .stands) rec fit-4 in
+        let fit = sym (kind-4 rec m (kind-is j u r (w .ends) 4 h) .0) ∙ w .fit in
+        let i = insertable4 b l k (w .stands) rec fit in
         let to : length (undoneFile (take l b) (take u j)) ≡ l + 12
-        = after-4 profile (take l b) (take u j) (w .file-facts) (all-take Byte u j bj) (kind-is j u r (w .ends) 4 h) fit-4 ∙ ap (λ (z : ℕ). z + 12) file-is in
+        = after-4 profile (take l b) (take u j) (w .file-facts) (all-take Byte u j bj) (kind-is j u r (w .ends) 4 h) fit ∙ ap (λ (z : ℕ). z + 12) file-is in
         (w .stands, (coe 0 1 (z. Insertable b l k (place-is z) (sym at-4-is z)) i, (omega (arith, to, w .room), omega (arith, to, after-short))))
 
     pub written-unlisted : file (entered (model (take l b)) (r .place) (placeAt (model (take l b)) a) (r .usage) (r .number)) ≡ undoneFile (take l b) (take u j)

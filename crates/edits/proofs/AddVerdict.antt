@@ -10,23 +10,13 @@ use lib.Seq.{append-snoc}
 use lib.Dec.{eqb, leb}
 use Rattle.blorb.specs.Format.{Ref, Chunk, size, total}
 use Rattle.blorb.specs.Tags.{RIdx}
-use Rattle.blorb.specs.Verdict.{Rules, Verdict, accept, refuse, _then_, check, secondIndex, refFault, knownUsage, noChunk}
+use Rattle.blorb.specs.Verdict.{Rules, Verdict, accept, _then_, check, secondIndex, refFault, knownUsage, noChunk}
 use Rattle.blorb.specs.Model.{Model, base}
 use Rattle.edits.specs.Edit.{added}
 use Rattle.blorb.specs.All.{All}
 use Rattle.blorb.specs.Sound.{RefOk, Sound}
-use Rattle.blorb.proofs.Checks.{then-accept, check-accept, pass, accepts}
+use Rattle.blorb.proofs.Checks.{then-accept, check-accept, pass, accepts, then-assoc, then-end}
 use Rattle.blorb.proofs.VerdictLaws.{refsFault, modelFault}
-
-pub then-assoc : (a b c : Verdict) → (a then b) then c ≡ a then (b then c)
-unfolding _then_
-then-assoc accept b c = refl
-then-assoc (refuse k p) b c = refl
-
-pub then-end : (a : Verdict) → a then accept ≡ a
-unfolding _then_
-then-end accept = refl
-then-end (refuse k p) = refl
 
 second-append : (at : ℕ) (cs : List Chunk) (c : Chunk) → secondIndex at (cs ++ (c ∷ [])) ≡ secondIndex at cs then check (not (eqb (c .type) RIdx)) 9
     (at + total cs)

@@ -14,14 +14,14 @@ use borrow.Author.Tests.{eqb-true, eqb-false, ltb-true, ltb-false, le-ltb}
 use Rattle.blorb.specs.Format.{Ref, Chunk}
 use Rattle.blorb.specs.Model.{Model}
 use Rattle.blorb.specs.Queries.{find, refAt, noRef, shared, uses, without}
-use Rattle.blorb.specs.Sound.{RefOk, Sound}
-use Rattle.blorb.proofs.AllLaws.{all-getD}
+use Rattle.blorb.specs.Sound.{Sound}
+use Rattle.blorb.proofs.ModelLaws.{chunk-in}
+use Rattle.blorb.proofs.Checks.{neither}
+use Rattle.blorb.proofs.FindLaws.{find-pair}
 use Rattle.edits.specs.Edit.{Edit, add, replace, remove, link, givenChunk, edited}
-use Rattle.edits.specs.Edit.{with-at, lower, added, linked, linkPlace, entered, replaced, removed, removedEntry, removedBoth}
+use Rattle.edits.specs.Edit.{lower, added, linked, linkPlace, entered, replaced, removed, removedEntry, removedBoth}
 use Rattle.edits.specs.TwoEditors.{Other, NamesOther}
 use Rattle.edits.proofs.Applies.{Applies}
-use Rattle.edits.proofs.UndoLaws.{or-false}
-use Rattle.edits.proofs.FitLaws.{find-pair}
 use Rattle.edits.proofs.ReadBack.{same, chunkOn, on-find, on-with}
 
 -- no other entry stands on a chunk that is not shared
@@ -33,11 +33,11 @@ other-chunk k (r ∷ rs) zero (suc j) h b ne = all k rs j h (le-of-suc-le-suc b)
   where
     all : (k : ℕ) (rs : List Ref) (j : ℕ) → uses k rs ≡ false → j < length rs → getD rs j noRef .chunk ≢ k
     all k [] j h b = absurd (not-suc-le-zero b)
-    all k (r ∷ rs) zero h b = eqb-false (r .chunk) k (or-false _ _ h .0)
-    all k (r ∷ rs) (suc j) h b = all k rs j (or-false (eqb (r .chunk) k) (uses k rs) h .1) (le-of-suc-le-suc b)
-other-chunk k (r ∷ rs) (suc i) zero h b ne = eqb-false (r .chunk) k (or-false (eqb (r .chunk) k) (uses k (without i rs)) h .0)
+    all k (r ∷ rs) zero h b = eqb-false (r .chunk) k (neither _ _ h .0)
+    all k (r ∷ rs) (suc j) h b = all k rs j (neither (eqb (r .chunk) k) (uses k rs) h .1) (le-of-suc-le-suc b)
+other-chunk k (r ∷ rs) (suc i) zero h b ne = eqb-false (r .chunk) k (neither (eqb (r .chunk) k) (uses k (without i rs)) h .0)
 other-chunk k (r ∷ rs) (suc i) (suc j) h b ne =
-    other-chunk k rs i j (or-false (eqb (r .chunk) k) (uses k (without i rs)) h .1) (le-of-suc-le-suc b) (λ e. ne (ap suc e))
+    other-chunk k rs i j (neither (eqb (r .chunk) k) (uses k (without i rs)) h .1) (le-of-suc-le-suc b) (λ e. ne (ap suc e))
 
 -- different pairs are found at different places
 apart : (u n v o : ℕ) (rs : List Ref) → find u n rs < length rs → find v o rs < length rs → Other u n v o → find u n rs ≢ find v o rs
@@ -118,7 +118,7 @@ module _ (m : Model) (s : Sound m) (u n t : ℕ) (d : List ℕ) (a : Applies m (
   c = givenChunk t d
 
   there : k < length (m .chunks)
-  there = rw (← on-find u n (m .refs)) (all-getD (RefOk (length (m .chunks))) (m .refs) (find u n (m .refs)) noRef (s .refs-ok) (a .0) .chunk-there)
+  there = rw (← on-find u n (m .refs)) (chunk-in m (find u n (m .refs)) s (a .0))
 
   -- another entry's chunk is another one
   elsewhere : (v o : ℕ) → find v o (m .refs) < length (m .refs) → Other u n v o → k ≢ refAt m (find v o (m .refs)) .chunk

@@ -14,7 +14,7 @@ use Rattle.blorb.specs.Bytes.{Byte}
 use Rattle.blorb.specs.Format.{Chunk}
 use Rattle.blorb.specs.Verdict.{Verdict, accept, refuse, _then_, check, verdict}
 use Rattle.blorb.specs.Rules.{rulesOf}
-use Rattle.blorb.specs.Model.{Model, base, model, file}
+use Rattle.blorb.specs.Model.{Model, model, file}
 use Rattle.blorb.specs.Queries.{find, refAt, shared}
 use Rattle.blorb.specs.All.{All}
 use Rattle.blorb.specs.Sound.{Sound}
@@ -22,7 +22,7 @@ use Rattle.blorb.proofs.Accept.{accept-back}
 use Rattle.blorb.proofs.VerdictLaws.{modelFault, inOrder, verdict-file, file-ordered}
 use Rattle.blorb.proofs.Never.{Never, never-itself, other, both, more, Elsewhere, model-never}
 use Rattle.edits.specs.Edit.{Edit, add, replace, remove, link, edited, linked, entered, added, replaced, removed, removedBoth, removedEntry, givenChunk}
-use Rattle.edits.specs.Run.{ArgsOk, hundred, wholeFault, targetFault, editedFile, editRecord, editFault}
+use Rattle.edits.specs.Run.{ArgsOk, hundred, wholeFault, targetFault, editedFile, editFault}
 use Rattle.edits.proofs.Applies.{Applies}
 use Rattle.edits.proofs.FitLaws.{edit-sound}
 use Rattle.edits.proofs.RunLaws.{target-applies}

@@ -17,12 +17,11 @@ use Rattle.blorb.specs.Model.{Model, base, startOf, file}
 use Rattle.blorb.specs.Queries.{find, refAt, chunkAt, shared, start}
 use Rattle.blorb.specs.Sound.{Sound}
 use Rattle.blorb.proofs.Places.{size-pos, placeOf-startOf, startOf-placeOf}
-use Rattle.blorb.proofs.ModelLaws.{length-file, total-take}
+use Rattle.blorb.proofs.ModelLaws.{length-file, total-take, chunk-in}
 use Rattle.blorb.proofs.VerdictLaws.{modelFault}
+use Rattle.blorb.proofs.FindLaws.{find-pair}
+use Rattle.blorb.proofs.Checks.{and-both, same-test}
 use Rattle.edits.specs.Journal.{Rec, hasPair, fits1, fits2, fits3, fits4, fits5, oldPlace}
-use Rattle.edits.proofs.FitLaws.{find-pair}
-use Rattle.edits.proofs.BoolLaws.{and-parts, same-test}
-use Rattle.edits.proofs.JudgedLaws.{chunk-in}
 use Rattle.edits.proofs.UndoJudged.{fits1-facts, fitsAt, fits-at, fits2-at, fits5-at, found-at}
 
 -- the bytes of a chunk, by the length of its data
@@ -111,10 +110,10 @@ module _ (profile : ℕ) (r : Rec) (m : Model) (s : Sound m) (ok : modelFault (r
   told1-fits h =
       let k : ℕ = refAt m at .chunk in
       let end : Bool = eqb (start m k + (8 + (length (chunkAt m k .body) + length (chunkAt m k .body) % 2))) (length (file m)) in
-      let a = and-parts (ltb at (length (m .refs))) (eqb at (r .place) && (eqb (length (m .refs)) (r .place + 1) && (end && not (shared m at)))) h in
-      let b = and-parts (eqb at (r .place)) (eqb (length (m .refs)) (r .place + 1) && (end && not (shared m at))) (a .1) in
-      let c = and-parts (eqb (length (m .refs)) (r .place + 1)) (end && not (shared m at)) (b .1) in
-      let d = and-parts end (not (shared m at)) (c .1) in
+      let a = and-both (ltb at (length (m .refs))) (eqb at (r .place) && (eqb (length (m .refs)) (r .place + 1) && (end && not (shared m at)))) h in
+      let b = and-both (eqb at (r .place)) (eqb (length (m .refs)) (r .place + 1) && (end && not (shared m at))) (a .1) in
+      let c = and-both (eqb (length (m .refs)) (r .place + 1)) (end && not (shared m at)) (b .1) in
+      let d = and-both end (not (shared m at)) (c .1) in
       let l : at < length (m .refs) = ltb-true at (length (m .refs)) (a .0) in
       let n : length (m .refs) ≡ suc (r .place) = omega (arith, eqb-true (length (m .refs)) (r .place + 1) (c .0)) in
       let e : suc k ≡ length (m .chunks) = last-ends m k (chunk-in m at s l) (ap (λ (z : ℕ). start m k + z) (size-is (chunkAt m k)) ∙ eqb-true _ _ (d .0)) in
@@ -141,9 +140,9 @@ module _ (profile : ℕ) (r : Rec) (m : Model) (s : Sound m) (ok : modelFault (r
     told-at : toldAt q r m at ≡ true → fitsAt q r m ≡ true
     told-at h =
         let k : ℕ = refAt m at .chunk in
-        let a = and-parts (ltb at (length (m .refs))) (eqb at (r .place) && (eqb (start m k) (r .start) && q at)) h in
-        let b = and-parts (eqb at (r .place)) (eqb (start m k) (r .start) && q at) (a .1) in
-        let d = and-parts (eqb (start m k) (r .start)) (q at) (b .1) in
+        let a = and-both (ltb at (length (m .refs))) (eqb at (r .place) && (eqb (start m k) (r .start) && q at)) h in
+        let b = and-both (eqb at (r .place)) (eqb (start m k) (r .start) && q at) (a .1) in
+        let d = and-both (eqb (start m k) (r .start)) (q at) (b .1) in
         let l : at < length (m .refs) = ltb-true at (length (m .refs)) (a .0) in
         ap (λ (i : ℕ). ltb i (length (m .refs)) && hasPair r (refAt m i) && eqb (start m (refAt m i .chunk)) (r .start) && q i)
         (sym (eqb-true at (r .place) (b .0)))
@@ -205,7 +204,7 @@ module _ (r : Rec) (m : Model) where
   pub fits3-in : fits3 r m ≡ true → GoesIn
   unfolding fits3
   fits3-in fit =
-      let a = and-parts (leb (r .place) (length (m .refs))) (isStart back (base (length (m .refs))) (m .chunks) || eqb back (start m (length (m .chunks))))
+      let a = and-both (leb (r .place) (length (m .refs))) (isStart back (base (length (m .refs))) (m .chunks) || eqb back (start m (length (m .chunks))))
       fit in
       go (isStart back (base (length (m .refs))) (m .chunks)) refl (leb-true _ _ (a .0)) (a .1)
     where
@@ -222,5 +221,5 @@ module _ (r : Rec) (m : Model) where
   pub fits4-in : fits4 r m ≡ true → GoesIn
   unfolding fits4
   fits4-in fit =
-      let a = and-parts (leb (r .place) (length (m .refs))) (isStart back (base (length (m .refs))) (m .chunks)) fit in
+      let a = and-both (leb (r .place) (length (m .refs))) (isStart back (base (length (m .refs))) (m .chunks)) fit in
       begin-in (leb-true _ _ (a .0)) (a .1)

@@ -2,7 +2,7 @@
 use mathlib.Core.Path.{_≡_, refl, ap}
 use Prim.Native.Nat.{ℕ, zero, suc, _+_, _-_, _≤_, _<_}
 use mathlib.Core.List.{List, [], _∷_, _++_, map, append-nil}
-use mathlib.Core.Bool.{Bool, true, false, cond, _&&_, _||_}
+use mathlib.Core.Bool.{Bool, true, false, cond, _||_, or-true}
 use native.Mathlib.Omega.{arith}
 use native.Mathlib.Nat.{le-of-suc-le-suc, not-suc-le-zero}
 use lib.ListN.{length, getD, take, drop, length-append, length-take, length-drop, length-set}
@@ -34,35 +34,15 @@ use Rattle.edits.specs.Edit.{
 use Rattle.blorb.specs.Queries.{find, uses, shared, refAt, noRef, chunkAt, without, start}
 use Rattle.edits.specs.Journal.{Rec, removal, recOf, undo2, undo5, undone, fits, fits1, fits2, fits3, fits4, fits5}
 use Rattle.blorb.specs.All.{All}
-use Rattle.blorb.proofs.AllLaws.{all-getD, all-append, all-take, all-drop, all-set, all-imp}
+use Rattle.blorb.proofs.AllLaws.{all-append, all-take, all-drop, all-set, all-imp}
 use Rattle.blorb.specs.Sound.{W, RefOk, ChunkOk, Sound}
 use Rattle.edits.specs.Run.{ArgsOk}
 use Rattle.edits.proofs.Applies.{Applies}
 use Rattle.blorb.proofs.Places.{isStart-startOf}
-use Rattle.edits.proofs.UndoLaws.{
-  undo-add,
-  undo-replace,
-  undo-remove,
-  undo-remove-entry,
-  entry-start,
-  length-without,
-  length-remaining,
-  remove-start,
-  or-false,
-}
-
--- the entry that find gives is the one sought
-pub find-pair : (u n : ℕ) (rs : List Ref) → find u n rs < length rs → (getD rs (find u n rs) noRef .usage ≡ u) × (getD rs (find u n rs) noRef .number ≡ n)
-unfolding find
-find-pair u n [] h = absurd (not-suc-le-zero h)
-find-pair u n (r ∷ rs) h = go (eqb (r .usage) u) (eqb (r .number) n) refl refl h (find-pair u n rs)
-  where
-    go : (b c : Bool) → eqb (r .usage) u ≡ b → eqb (r .number) n ≡ c → cond (b && c) 0 (suc (find u n rs)) < length (r ∷ rs)
-        → (find u n rs < length rs → (getD rs (find u n rs) noRef .usage ≡ u) × (getD rs (find u n rs) noRef .number ≡ n))
-        → (getD (r ∷ rs) (cond (b && c) 0 (suc (find u n rs))) noRef .usage ≡ u) × (getD (r ∷ rs) (cond (b && c) 0 (suc (find u n rs))) noRef .number ≡ n)
-    go true true p q h ih = (eqb-true (r .usage) u p, eqb-true (r .number) n q)
-    go true false p q h ih = ih (le-of-suc-le-suc h)
-    go false c p q h ih = ih (le-of-suc-le-suc h)
+use Rattle.blorb.proofs.ModelLaws.{chunk-in}
+use Rattle.blorb.proofs.FindLaws.{find-pair}
+use Rattle.blorb.proofs.Checks.{neither}
+use Rattle.edits.proofs.UndoLaws.{undo-add, undo-replace, undo-remove, undo-remove-entry, entry-start, length-without, length-remaining, remove-start}
 
 -- no entry stands on a chunk that is not there
 uses-none : (k : ℕ) (rs : List Ref) → All (RefOk k) rs → uses k rs ≡ false
@@ -92,10 +72,6 @@ fit-add m u n c t b s =
       eq-eqb n n refl,
       eq-eqb (suc (length (m .chunks))) (length (m .chunks ++ (c ∷ []))) (simp length-append (omega arith)),
     )
-
-or-true : (a : Bool) → a || true ≡ true
-or-true true = refl
-or-true false = refl
 
 -- a replaced chunk starts where it did
 pub start-replaced : (m : Model) (k : ℕ) (c : Chunk) → start (replaced m k c) k ≡ start m k
@@ -143,16 +119,13 @@ fit-remove-entry m i u n h valid =
       isStart-startOf (base (length (without i (m .refs)))) (m .chunks) (refAt m i .chunk) valid,
     )
 
-valid-at : (m : Model) (i : ℕ) → Sound m → i < length (m .refs) → refAt m i .chunk < length (m .chunks)
-valid-at m i s h = all-getD (RefOk (length (m .chunks))) (m .refs) i noRef (s .refs-ok) h .chunk-there
-
 -- the record of a removal fits, and its undo takes the removal back
 removal-back : (m : Model) (i : ℕ) (b : Bool) → shared m i ≡ b → Sound m → i < length (m .refs)
     → (fits (removal b m (refAt m i .usage) (refAt m i .number) i) (cond b (removedEntry m i) (removedBoth m i (refAt m i .chunk))) ≡ true)
     × (undone (removal b m (refAt m i .usage) (refAt m i .number) i) (cond b (removedEntry m i) (removedBoth m i (refAt m i .chunk))) ≡ m)
 unfolding fits undone removal
-removal-back m i true e s h = (fit-remove-entry m i (refAt m i .usage) (refAt m i .number) h (valid-at m i s h), undo-remove-entry m i h (valid-at m i s h))
-removal-back m i false e s h = (fit-remove m i (refAt m i .usage) (refAt m i .number) h (valid-at m i s h), undo-remove m i h (valid-at m i s h) e)
+removal-back m i true e s h = (fit-remove-entry m i (refAt m i .usage) (refAt m i .number) h (chunk-in m i s h), undo-remove-entry m i h (chunk-in m i s h))
+removal-back m i false e s h = (fit-remove m i (refAt m i .usage) (refAt m i .number) h (chunk-in m i s h), undo-remove m i h (chunk-in m i s h) e)
 
 -- a link and its undo
 pub linkPlace-le : (k : ℕ) (rs : List Ref) → linkPlace k rs ≤ length rs
@@ -241,7 +214,7 @@ lowers-ok : (k n : ℕ) (rs : List Ref) → uses k rs ≡ false → k ≤ n → 
 unfolding uses
 lowers-ok k n [] h b ok = tt
 lowers-ok k n (r ∷ rs) h b ok =
-    let p = or-false (eqb (r .chunk) k) (uses k rs) h in
+    let p = neither (eqb (r .chunk) k) (uses k rs) h in
     (lower-ok k n r (p .0) b (ok .0), lowers-ok k n rs (p .1) b (ok .1))
 
 more-ok : (n k : ℕ) → n ≤ k → (r : Ref) → RefOk n r → RefOk k r
@@ -261,8 +234,8 @@ unfolding removedBoth shared
 sound-removed m i true e s h = unlisted-sound m i s
 sound-removed m i false e s h =
     let k : ℕ = refAt m i .chunk in
-    let l = length-without k (m .chunks) (valid-at m i s h) in
-    let v = valid-at m i s h in
+    let l = length-without k (m .chunks) (chunk-in m i s h) in
+    let v = chunk-in m i s h in
     record {
       refs-ok = lowers-ok k (length (without k (m .chunks))) (without i (m .refs)) e (omega arith)
           (rw l (all-without (RefOk (length (m .chunks))) i (m .refs) (s .refs-ok)));
@@ -297,7 +270,7 @@ linked-sound m u n j s hu hn h =
     let P : Ref → Type 0 = RefOk (length (m .chunks)) in
     record {
       refs-ok = all-append P (take i (m .refs)) (x ∷ drop i (m .refs)) (all-take P i (m .refs) (s .refs-ok))
-          (record { usage-fits = hu; number-fits = hn; chunk-there = valid-at m j s h }, all-drop P i (m .refs) (s .refs-ok));
+          (record { usage-fits = hu; number-fits = hn; chunk-there = chunk-in m j s h }, all-drop P i (m .refs) (s .refs-ok));
       chunks-ok = s .chunks-ok;
     }
 

@@ -2,7 +2,7 @@
 use mathlib.Core.Path.{_≡_, refl, ap, _∙_}
 use Prim.Native.Nat.{ℕ, zero, suc, _+_, _≤_, _<_}
 use mathlib.Core.List.{List, [], _∷_, _++_, map}
-use mathlib.Core.Bool.{Bool, true, false, cond, _&&_, _||_, not, and-true}
+use mathlib.Core.Bool.{Bool, true, false, cond, _&&_, _||_, not, and-true, or-true}
 use native.Mathlib.Omega.{arith}
 use native.Mathlib.Nat.{le-of-suc-le-suc, not-suc-le-zero}
 use lib.ListN.{length, getD, take, drop, length-append, length-take, length-drop, length-map}
@@ -17,13 +17,13 @@ use Rattle.blorb.specs.Queries.{find, frontNumber}
 use Rattle.blorb.specs.All.{All}
 use Rattle.blorb.proofs.AllLaws.{all-append, all-take, all-drop, all-map}
 use Rattle.blorb.specs.Sound.{W, RefOk, ChunkOk, Sound}
-use Rattle.blorb.proofs.Checks.{then-accept, check-accept, pass}
+use Rattle.blorb.proofs.Checks.{then-accept, check-accept, pass, or-map}
 use Rattle.blorb.proofs.ModelLaws.{length-file}
 use Rattle.blorb.proofs.VerdictLaws.{refsFault, modelFault, inOrder}
+use Rattle.blorb.proofs.FindLaws.{pair-found}
 use Rattle.edits.specs.Edit.{with-at, raise, entered, inserted}
 use Rattle.edits.proofs.AddVerdict.{second-any}
 use Rattle.edits.proofs.Starts.{map-append}
-use Rattle.edits.proofs.FaultLaws.{pair-found}
 use Rattle.edits.proofs.RuleSeven.{allowed-plain}
 use Rattle.edits.proofs.FrontLaws.{Like, like-self, like-with, optional-like, front-picture}
 use Rattle.edits.proofs.UndoVerdict.{accepted-then, accepted-check, refs-with}
@@ -100,19 +100,11 @@ picture-raise q cs k c (r ∷ rs) h = rw (raised-chunk cs k c r h, picture-raise
 -- a picture stays there when an entry comes in
 pub picture-with : (q : ℕ) (cs : List Chunk) (i : ℕ) (x : Ref) (rs : List Ref) → picture q cs rs ≡ true → picture q cs (with-at i x rs) ≡ true
 unfolding picture with-at
-picture-with q cs zero x rs h = later (eqb (x .usage) Pict && eqb (x .number) q && not (eqb (getD cs (x .chunk) noChunk .type) Rect)) (picture q cs rs) h
-  where
-    later : (a b : Bool) → b ≡ true → a || b ≡ true
-    later true b h = refl
-    later false b h = h
+picture-with q cs zero x rs h = rw h (or-true (eqb (x .usage) Pict && eqb (x .number) q && not (eqb (getD cs (x .chunk) noChunk .type) Rect)))
 picture-with q cs (suc i) x [] h = let z : _≡_ {A = ℕ} 0 1 = cc in absurd (omega arith)
 picture-with q cs (suc i) x (r ∷ rs) h =
-    go (eqb (r .usage) Pict && eqb (r .number) q && not (eqb (getD cs (r .chunk) noChunk .type) Rect)) (picture q cs rs)
+    or-map (eqb (r .usage) Pict && eqb (r .number) q && not (eqb (getD cs (r .chunk) noChunk .type) Rect)) (picture q cs rs)
     (picture q cs (take i rs ++ x ∷ drop i rs)) h (picture-with q cs i x rs)
-  where
-    go : (a b b′ : Bool) → a || b ≡ true → (b ≡ true → b′ ≡ true) → a || b′ ≡ true
-    go true b b′ h f = refl
-    go false b b′ h f = f h
 
 -- a second index: only the new chunk can be one
 second-with : (at at′ : ℕ) (cs : List Chunk) (k : ℕ) (c : Chunk) → secondIndex at cs ≡ accept → accepted (secondIndex at′ (with-at k c cs)) ≡ not

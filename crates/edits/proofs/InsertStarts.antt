@@ -2,7 +2,7 @@
 use mathlib.Core.Path.{_≡_, refl, sym, ap, _∙_}
 use Prim.Native.Nat.{ℕ, zero, suc, _+_, _*_, _-_, _≤_}
 use mathlib.Core.List.{List, [], _∷_, map}
-use mathlib.Core.Bool.{Bool, true, false, cond, _&&_, _||_}
+use mathlib.Core.Bool.{Bool, true, false, cond, _||_}
 use native.Mathlib.Omega.{arith}
 use native.Mathlib.Nat.{le-of-suc-le-suc, not-suc-le-zero}
 use lib.ListN.{length, getD, take, drop, length-map, length-take}
@@ -17,6 +17,7 @@ use Rattle.edits.specs.Edit.{with-at, raise, entered, inserted}
 use Rattle.edits.specs.Journal.{Rec, oldPlace, fits3, fits4}
 use Rattle.blorb.proofs.Places.{size-pos, startOf-placeOf, placeOf-startOf}
 use Rattle.blorb.proofs.ModelLaws.{entries}
+use Rattle.blorb.proofs.Checks.{and-both}
 use Rattle.edits.specs.Starts.{moved}
 use Rattle.edits.proofs.Starts.{total-more, total-mono}
 use Rattle.edits.proofs.InsertJudged.{length-with}
@@ -126,10 +127,6 @@ starts-entered m i k u n =
     all (y ∷ rs) = λ z. record { usage = y .usage; number = y .number; start = grown (y .chunk) z } ∷ all rs z
 
 -- a record that fits: its start less 12 is where the chunk at its place begins, or the file's end
-fit-parts : (a b : Bool) → a && b ≡ true → (a ≡ true) × (b ≡ true)
-fit-parts true b h = (refl, h)
-fit-parts false b h = let z : _≡_ {A = Bool} false true = h in (h, cc)
-
 further : (n : ℕ) (cs : List Chunk) (k s : ℕ) → startOf (base n) cs k ≡ s - 12 → s ≡ startOf (base n) cs k + 12
 unfolding startOf base
 further n cs k s e = omega arith
@@ -143,7 +140,7 @@ fit3 m r h = (leb-true (r .place) (length (m .refs)) (p .0), go (isStart (r .sta
 
     p : (leb (r .place) (length (m .refs)) ≡ true) × ((isStart (r .start - 12) (base (length (m .refs))) (m .chunks) || eqb (r .start - 12)
         (startOf (base (length (m .refs))) (m .chunks) (length (m .chunks)))) ≡ true)
-    p = fit-parts (leb (r .place) (length (m .refs))) (isStart (r .start - 12) (base (length (m .refs))) (m .chunks) || eqb (r .start - 12)
+    p = and-both (leb (r .place) (length (m .refs))) (isStart (r .start - 12) (base (length (m .refs))) (m .chunks) || eqb (r .start - 12)
         (startOf (base (length (m .refs))) (m .chunks) (length (m .chunks)))) h
 
     back : startOf at (m .chunks) (oldPlace r m) ≡ r .start - 12 → r .start ≡ startOf at (m .chunks) (oldPlace r m) + 12
@@ -161,7 +158,7 @@ fit3 m r h = (leb-true (r .place) (length (m .refs)) (p .0), go (isStart (r .sta
 pub fit4 : (m : Model) (r : Rec) → fits4 r m ≡ true → (r .place ≤ length (m .refs)) × (r .start ≡ start m (oldPlace r m) + 12)
 unfolding fits4 start
 fit4 m r h =
-    let p = fit-parts (leb (r .place) (length (m .refs))) (isStart (r .start - 12) (base (length (m .refs))) (m .chunks)) h in
+    let p = and-both (leb (r .place) (length (m .refs))) (isStart (r .start - 12) (base (length (m .refs))) (m .chunks)) h in
     let e : startOf (base (length (m .refs))) (m .chunks) (oldPlace r m) ≡ r .start - 12 = startOf-placeOf (r .start - 12) (base (length (m .refs)))
     (m .chunks) (p .1) .0 in
     (leb-true (r .place) (length (m .refs)) (p .0), further (length (m .refs)) (m .chunks) (oldPlace r m) (r .start) e)

@@ -13,15 +13,14 @@ use Rattle.blorb.specs.Tags.{Pict, Fspc}
 use Rattle.blorb.specs.Rules.{typeIn, optional, rulesOf}
 use Rattle.blorb.specs.Model.{Model, base, file}
 use Rattle.blorb.specs.Queries.{find, noRef, frontNumber}
-use Rattle.blorb.proofs.AllLaws.{all-getD}
-use Rattle.blorb.specs.Sound.{RefOk, Sound}
+use Rattle.blorb.specs.Sound.{Sound}
 use Rattle.blorb.proofs.Checks.{then-accept, check-accept}
 use Rattle.blorb.proofs.VerdictLaws.{refsFault, modelFault, inOrder, verdict-file, file-ordered}
-use Rattle.edits.proofs.FaultLaws.{pair-found}
-use Rattle.edits.proofs.FrontLaws.{pairs-once, pair-right}
+use Rattle.blorb.proofs.FindLaws.{pair-found}
 use Rattle.edits.proofs.ReadBack.{same}
 use Rattle.edits.proofs.RuleSeven.{Plain, allowed-plain}
 use Rattle.edits.proofs.UndoVerdict.{accepted-then, accepted-check}
+use Rattle.edits.proofs.FrontPicture.{pairs-once, pair-right}
 
 -- what an accepted model tells
 pub record Parts (profile : ℕ) (m : Model) : Type 0 where
@@ -89,10 +88,7 @@ find-at R cs e p u n (suc i) (r ∷ rs) ok l h =
     first false x f t = x
     first true x f t = x ∙ sym t ∙ f x
 
--- an entry's chunk is there, and is one that rule 5 allows
-pub chunk-in : (m : Model) (i : ℕ) → Sound m → i < length (m .refs) → getD (m .refs) i noRef .chunk < length (m .chunks)
-chunk-in m i s h = all-getD (RefOk (length (m .chunks))) (m .refs) i noRef (s .refs-ok) h .chunk-there
-
+-- an entry's chunk is one that rule 5 allows
 pub chunk-plain : (profile : ℕ) (cs : List Chunk) (e : List Ref) (p : ℕ) (rs : List Ref) (i : ℕ) → refsFault (rulesOf profile) cs e p rs ≡ accept
     → i < length rs → Plain (getD cs (getD rs i noRef .chunk) noChunk)
 unfolding refsFault refFault

@@ -11,9 +11,9 @@ use lib.Dec.{eqb, leb}
 use borrow.Author.Tests.{ne-eqb, le-leb, lt-leb, leb-true}
 use Rattle.blorb.specs.Bytes.{rd32}
 use Rattle.blorb.proofs.ByteLaws.{rd32-at}
+use Rattle.blorb.proofs.Checks.{and-both}
 use Rattle.edits.specs.Journal.{Rec, trailer, recIn, lastBody, lastRec, zeros, wellFormed}
 use Rattle.edits.specs.KindRule.{kindRule}
-use Rattle.edits.proofs.BoolLaws.{and-parts}
 
 -- a part of a first part
 pub drop-take : (n k : ℕ) (l : List ℕ) → drop n (take k l) ≡ take (k - n) (drop n l)
@@ -178,12 +178,12 @@ pub record WellFormed (l : List ℕ) (u : ℕ) : Type 0 where
 seven : (a b c d e f g : Bool) → a && b && c && d && e && f && g ≡ true
     → (a ≡ true) × (b ≡ true) × (c ≡ true) × (d ≡ true) × (e ≡ true) × (f ≡ true) × (g ≡ true)
 seven a b c d e f g h =
-    let p6 = and-parts (a && b && c && d && e && f) g h in
-    let p5 = and-parts (a && b && c && d && e) f (p6 .0) in
-    let p4 = and-parts (a && b && c && d) e (p5 .0) in
-    let p3 = and-parts (a && b && c) d (p4 .0) in
-    let p2 = and-parts (a && b) c (p3 .0) in
-    let p1 = and-parts a b (p2 .0) in
+    let p6 = and-both (a && b && c && d && e && f) g h in
+    let p5 = and-both (a && b && c && d && e) f (p6 .0) in
+    let p4 = and-both (a && b && c && d) e (p5 .0) in
+    let p3 = and-both (a && b && c) d (p4 .0) in
+    let p2 = and-both (a && b) c (p3 .0) in
+    let p1 = and-both a b (p2 .0) in
     (p1 .0, p1 .1, p2 .1, p3 .1, p4 .1, p5 .1, p6 .1)
 
 pub well-formed-part : (l : List ℕ) (u : ℕ) → u ≤ length l → wellFormed (take u l) ≡ true → WellFormed l u

@@ -16,9 +16,9 @@ pub mod Noted
 pub mod RuleSeven
 pub mod FaultLaws
 pub mod FrontLaws
+pub mod FrontPicture
 pub mod ReadBack
 pub mod UndoVerdict
-pub mod BoolLaws
 pub mod LastLaws
 pub mod JudgedLaws
 pub mod RemoveJudged

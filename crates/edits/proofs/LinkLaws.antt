@@ -14,19 +14,17 @@ use Rattle.blorb.specs.Format.{Ref}
 use Rattle.blorb.specs.Model.{Model, base, file}
 use Rattle.blorb.specs.Queries.{find, noRef, refAt, start}
 use Rattle.blorb.specs.Sound.{Sound}
-use Rattle.blorb.proofs.Checks.{and-both}
+use Rattle.blorb.proofs.Checks.{and-both, neither}
 use Rattle.blorb.proofs.Places.{lower-start}
-use Rattle.blorb.proofs.ModelLaws.{entries, length-file}
+use Rattle.blorb.proofs.ModelLaws.{entries, length-file, chunk-in}
 use Rattle.blorb.proofs.VerdictLaws.{inOrder}
 use Rattle.edits.specs.Edit.{with-at, upTo, anyUpTo, linkPlace, entered, linked, link}
 use Rattle.edits.specs.Journal.{recOf}
 use Rattle.edits.specs.Starts.{moved}
-use Rattle.edits.proofs.UndoLaws.{or-false}
 use Rattle.edits.proofs.FitLaws.{linked-start, linkPlace-le}
 use Rattle.edits.proofs.OrderLaws.{up-to-no, up-to-yes}
 use Rattle.edits.proofs.InsertJudged.{length-with}
 use Rattle.edits.proofs.InsertStarts.{starts-entered}
-use Rattle.edits.proofs.JudgedLaws.{chunk-in}
 
 -- "All starts grow by 12"
 pub starts-linked : (m : Model) (k u n : ℕ)
@@ -51,8 +49,8 @@ link-record m v o u n = (refl, linked-start m u n (refAt m (find v o (m .refs)) 
 beyond : (k : ℕ) (rs : List Ref) (j : ℕ) → anyUpTo k rs ≡ false → j < length rs → k < getD rs j noRef .chunk
 unfolding anyUpTo
 beyond k [] j e h = absurd (not-suc-le-zero h)
-beyond k (r ∷ rs) zero e h = up-to-no k r (or-false (upTo k r) (anyUpTo k rs) e .0)
-beyond k (r ∷ rs) (suc j) e h = beyond k rs j (or-false (upTo k r) (anyUpTo k rs) e .1) (le-of-suc-le-suc h)
+beyond k (r ∷ rs) zero e h = up-to-no k r (neither (upTo k r) (anyUpTo k rs) e .0)
+beyond k (r ∷ rs) (suc j) e h = beyond k rs j (neither (upTo k r) (anyUpTo k rs) e .1) (le-of-suc-le-suc h)
 
 pub link-behind : (k : ℕ) (rs : List Ref) (j : ℕ) → linkPlace k rs ≤ j → j < length rs → k < getD rs j noRef .chunk
 unfolding linkPlace

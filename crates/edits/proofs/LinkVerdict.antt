@@ -1,9 +1,9 @@
 -- What is left to judge of a file after a link, where the file before it was accepted: 11, 12 and 14 to 16 of the new entry. No chunk comes in and no picture
 -- goes, so 9 and 17 to 19 can't arise. A pair that is there already is repeated by the later of the two entries, which may be the old one (02, P8).
 use mathlib.Core.Path.{_≡_, refl, sym, ap, _∙_}
-use Prim.Native.Nat.{ℕ, zero, suc, _+_, _*_, _≤_, _<_}
+use Prim.Native.Nat.{ℕ, zero, suc, _+_, _*_, _≤_}
 use mathlib.Core.List.{List, [], _∷_, _++_}
-use mathlib.Core.Bool.{Bool, true, false, cond, _&&_, _||_, not}
+use mathlib.Core.Bool.{Bool, true, false, cond, _||_, not, or-false}
 use native.Mathlib.Omega.{arith}
 use native.Mathlib.Nat.{le-of-suc-le-suc, not-suc-le-zero}
 use lib.ListN.{length, getD}
@@ -11,7 +11,7 @@ use lib.Dec.{eqb, leb, ltb}
 use borrow.Author.Tests.{not-true, lt-ltb, le-ltb}
 use Rattle.blorb.specs.Format.{Ref, Chunk}
 use Rattle.blorb.specs.Tags.{Exec}
-use Rattle.blorb.specs.Verdict.{Rules, Verdict, accept, refuse, _then_, check, noChunk, refFault, pairIn, knownUsage, accepted}
+use Rattle.blorb.specs.Verdict.{Rules, Verdict, accept, refuse, _then_, check, noChunk, refFault, pairIn, knownUsage}
 use Rattle.blorb.specs.Queries.{find, frontNumber}
 use Rattle.blorb.specs.Rules.{optional, rulesOf}
 use Rattle.blorb.specs.Model.{Model, base}
@@ -19,11 +19,11 @@ use Rattle.edits.proofs.FrontLaws.{like-self}
 use Rattle.edits.proofs.InsertJudged.{front-stays, picture-with, length-with}
 use Rattle.edits.proofs.JudgedLaws.{model-parts}
 use Rattle.edits.proofs.FitLaws.{linkPlace-le}
-use Rattle.blorb.proofs.Checks.{then-accept, check-accept, pass, stop, accepts, holds-last, fails-last, refuses}
+use Rattle.blorb.proofs.Checks.{then-accept, check-accept, pass, stop, accepts, holds-last, fails-last, is-accept, then-assoc, then-end}
 use Rattle.blorb.proofs.VerdictLaws.{refsFault, modelFault}
+use Rattle.blorb.proofs.FindLaws.{ltb-suc}
 use Rattle.edits.specs.Edit.{with-at, entered, linked, linkPlace}
-use Rattle.edits.proofs.AddVerdict.{then-assoc, then-end, second-any}
-use Rattle.edits.proofs.FaultLaws.{ltb-suc}
+use Rattle.edits.proofs.AddVerdict.{second-any}
 use Rattle.edits.proofs.ReadBack.{same}
 use Rattle.edits.proofs.UndoVerdict.{More, pair-snoc, more-keep, same-turn}
 
@@ -36,13 +36,9 @@ module _ (R : Rules) (cs : List Chunk) (x : Ref) where
       let a = then-accept _ _ ok in
       let b = then-accept _ _ (a .1) in
       let none : pairIn (r .usage) (r .number) e ≡ false = not-true _ (check-accept _ _ _ (b .1)) in
-      let t : pairIn (r .usage) (r .number) e′ ≡ same r (x .usage) (x .number) = m (r .usage) (r .number) ∙ rw none (or-last (same x (r .usage) (r .number)))
+      let t : pairIn (r .usage) (r .number) e′ ≡ same r (x .usage) (x .number) = m (r .usage) (r .number) ∙ rw none (or-false (same x (r .usage) (r .number)))
       ∙ same-turn x r in
       pass _ _ _ _ (check-accept _ _ _ (a .0)) ∙ pass _ _ _ _ (check-accept _ _ _ (b .0)) ∙ ap (λ (z : Bool). check (not z) 16 q) t
-    where
-      or-last : (z : Bool) → z || false ≡ z
-      or-last true = refl
-      or-last false = refl
 
   refs-behind : (e e′ : List Ref) (p q : ℕ) (rs : List Ref) → More x e e′ → refsFault R cs e p rs ≡ accept
       → refsFault R cs e′ q rs ≡ check (not (pairIn (x .usage) (x .number) rs)) 16 (q + 12 * find (x .usage) (x .number) rs)
@@ -144,10 +140,6 @@ module _ (R : Rules) (cs : List Chunk) (x : Ref) where
           go true false = rw (lt-ltb 0 (suc i) (omega arith)) (ap (check false 16) z)
           go false true = ap (check false 16) z
           go false false = rw (ltb-suc f i) (λ k. check (not (pairIn (x .usage) (x .number) rs)) 16 (cond (ltb f i) (z k) (w k)))
-
-is-accept : (v : Verdict) → accepted v ≡ true → v ≡ accept
-is-accept accept h = refl
-is-accept (refuse k p) h = let z : _≡_ {A = Bool} false true = h in cc
 
 -- the whole verdict of an accepted model after a link on its chunk k: 11, then the new entry, then the pair; 9 and rule 7 can't be at fault
 pub linked-verdict : (profile : ℕ) (m : Model) (k u n : ℕ) → modelFault (rulesOf profile) m ≡ accept

@@ -1,5 +1,5 @@
 -- The edits keep the entries in the order of their chunks (02, P5: "01's edits keep the order").
-use mathlib.Core.Path.{_≡_, refl, ap, _∙_}
+use mathlib.Core.Path.{_≡_, refl, ap}
 use Prim.Native.Nat.{ℕ, zero, suc, _+_, _-_, _≤_, _<_}
 use mathlib.Core.List.{List, [], _∷_, _++_, map}
 use mathlib.Core.Bool.{Bool, true, false, cond, _&&_, _||_, and-true}
@@ -12,8 +12,7 @@ use Rattle.blorb.specs.Format.{Ref}
 use Rattle.blorb.specs.All.{All}
 use Rattle.blorb.specs.Sound.{RefOk}
 use Rattle.blorb.specs.Queries.{without}
-use Rattle.blorb.proofs.Checks.{and-both, both-true}
-use Rattle.edits.proofs.UndoLaws.{or-false}
+use Rattle.blorb.proofs.Checks.{and-both, both-true, neither}
 use Rattle.blorb.proofs.VerdictLaws.{inOrder}
 use Rattle.edits.specs.Edit.{with-at, lower, raise, upTo, anyUpTo, linkPlace}
 
@@ -144,6 +143,6 @@ order-linked c k x (r ∷ rs) e h o =
         → (r .chunk ≤ k → inOrder (r .chunk) (with-at (linkPlace k rs) x rs) ≡ true) → inOrder c (with-at (cond b (suc (linkPlace k rs)) 0) x (r ∷ rs)) ≡ true
     go true q a o f = both-true _ _ a (f (up-to-first (r .chunk) k (r ∷ rs) (both-true _ _ (le-leb (r .chunk) (r .chunk) (omega arith)) o) q))
     go false q a o f =
-        let n : upTo k r ≡ false = (unfold anyUpTo in or-false (upTo k r) (anyUpTo k rs) q .0) in
+        let n : upTo k r ≡ false = (unfold anyUpTo in neither (upTo k r) (anyUpTo k rs) q .0) in
         both-true _ _ (le-leb c (x .chunk) (omega (arith, e)))
         (both-true _ _ (le-leb (x .chunk) (r .chunk) (omega (arith, e, up-to-no k r n))) o)

@@ -15,12 +15,12 @@ use Rattle.blorb.specs.Queries.{noRef, refAt, start}
 use Rattle.blorb.specs.Sound.{Sound}
 use Rattle.blorb.proofs.Places.{startOf-before, lower-start}
 use Rattle.blorb.proofs.VerdictLaws.{inOrder}
-use Rattle.edits.specs.Edit.{with-at, raise, entered, inserted}
+use Rattle.blorb.proofs.Checks.{and-where}
+use Rattle.blorb.proofs.ModelLaws.{chunk-in}
+use Rattle.edits.specs.Edit.{raise, entered, inserted}
 use Rattle.edits.specs.Journal.{Rec, fits3, fits4, undo3, undo4, oldPlace}
 use Rattle.edits.specs.Order.{between}
-use Rattle.edits.proofs.BoolLaws.{and-where}
-use Rattle.edits.proofs.JudgedLaws.{chunk-in}
-use Rattle.edits.proofs.FitFacts.{GoesIn, fits3-in, fits4-in}
+use Rattle.edits.proofs.FitFacts.{fits3-in, fits4-in}
 use Rattle.edits.proofs.OrderLaws.{chunkBefore, notBehind, order-with, order-raise}
 
 -- the chunks of the neighbours by the entries' places
@@ -66,13 +66,10 @@ module _ (m : Model) (k x : ℕ) (s : Sound m) (kin : k ≤ length (m .chunks)) 
   abbrev at : ℕ → ℕ
   at i = start m (refAt m i .chunk)
 
-  inside : (i : ℕ) → i < length (m .refs) → refAt m i .chunk < length (m .chunks)
-  inside i h = chunk-in m i s h
-
   start-not-behind : (i : ℕ) → i < length (m .refs) → leb (refAt m i .chunk) k ≡ ltb (at i) (x + 1)
   unfolding start
   start-not-behind i h =
-      sym (lower-start (base (length (m .refs))) (m .chunks) (refAt m i .chunk) k (omega (arith, inside i h)) kin)
+      sym (lower-start (base (length (m .refs))) (m .chunks) (refAt m i .chunk) k (omega (arith, chunk-in m i s h)) kin)
       ∙ ap (leb (at i)) ex ∙ below-suc (at i) x
     where
       below-suc : (a b : ℕ) → leb a b ≡ ltb a (b + 1)
@@ -95,13 +92,14 @@ module _ (m : Model) (k x : ℕ) (s : Sound m) (kin : k ≤ length (m .chunks)) 
           sym (lt-ltb (at i) x (rw (← ex) l))
       go false e =
           let l : leb (start m k) (at i) ≡ true
-          = lower-start bs (m .chunks) k (refAt m i .chunk) kin (omega (arith, inside i h)) ∙ le-leb k (refAt m i .chunk) (ltb-false (refAt m i .chunk) k e) in
+          = lower-start bs (m .chunks) k (refAt m i .chunk) kin (omega (arith, chunk-in m i s h))
+          ∙ le-leb k (refAt m i .chunk) (ltb-false (refAt m i .chunk) k e) in
           sym (le-ltb (at i) x (rw (← ex) (leb-true _ _ l)))
 
   start-behind : (i : ℕ) → i < length (m .refs) → leb k (refAt m i .chunk) ≡ leb x (at i)
   unfolding start
   start-behind i h =
-      sym (lower-start (base (length (m .refs))) (m .chunks) k (refAt m i .chunk) kin (omega (arith, inside i h)))
+      sym (lower-start (base (length (m .refs))) (m .chunks) k (refAt m i .chunk) kin (omega (arith, chunk-in m i s h)))
       ∙ ap (λ (z : ℕ). leb z (at i)) ex
 
   -- both neighbours; `limit` is what the one in front starts below

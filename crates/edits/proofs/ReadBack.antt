@@ -2,7 +2,7 @@
 use mathlib.Core.Path.{_≡_, refl, sym, ap, _∙_}
 use Prim.Native.Nat.{ℕ, zero, suc, _+_, _<_}
 use mathlib.Core.List.{List, [], _∷_, _++_, map}
-use mathlib.Core.Bool.{Bool, true, false, cond, _&&_, _||_}
+use mathlib.Core.Bool.{Bool, true, false, cond, _&&_, _||_, or-true}
 use native.Mathlib.Nat.{le-of-suc-le-suc, not-suc-le-zero}
 use lib.ListN.{length, getD, take, drop, set, List·getD-append}
 use lib.Seq.{getD-set-same, getD-set-other, getD-append-seam}
@@ -15,21 +15,15 @@ use Rattle.blorb.specs.Queries.{find, noRef, refAt, without, uses, shared}
 use Rattle.edits.specs.Edit.{with-at, lower, added, replaced, removed, removedBoth, removedEntry, linkPlace, entered, linked}
 use Rattle.blorb.specs.All.{All}
 use Rattle.blorb.specs.Sound.{RefOk, Sound}
-use Rattle.blorb.proofs.Checks.{then-accept}
-use Rattle.edits.proofs.UndoLaws.{or-false}
+use Rattle.blorb.proofs.Checks.{then-accept, neither}
 use Rattle.blorb.proofs.VerdictLaws.{refsFault}
-use Rattle.edits.proofs.RemoveVerdict.{same-chunk}
+use Rattle.edits.proofs.RemoveVerdict.{same-chunk, pair-lower}
 use Rattle.blorb.specs.Lookup.{missing, here, lookIn, lookup}
-use Rattle.edits.proofs.FrontLaws.{pairs-once, pair-right}
+use Rattle.blorb.proofs.FindLaws.{look-find, look-missing}
+use Rattle.edits.proofs.FrontPicture.{pairs-once, pair-right}
 
 abbrev pub same : Ref → ℕ → ℕ → Bool
 same r u n = eqb (r .usage) u && eqb (r .number) n
-
--- a pair that no entry has is missing
-pub look-missing : (cs : List Chunk) (u n : ℕ) (rs : List Ref) → pairIn u n rs ≡ false → lookIn cs u n rs ≡ missing
-unfolding lookIn pairIn
-look-missing cs u n [] h = refl
-look-missing cs u n (r ∷ rs) h = let o = or-false (same r u n) (pairIn u n rs) h in rw (o .0) (look-missing cs u n rs (o .1))
 
 -- ADD
 look-more : (cs : List Chunk) (c : Chunk) (u n : ℕ) (rs : List Ref) (x : Ref) → All (RefOk (length cs)) rs
@@ -68,19 +62,6 @@ add-keeps m u n c u′ n′ s ne =
     go false e = let z : lookIn (m .chunks ++ (c ∷ [])) u′ n′ (x ∷ []) ≡ missing = (unfold lookIn in rw ne) in z
         ∙ sym (look-missing (m .chunks) u′ n′ (m .refs) e)
 
--- an entry's pair looks its chunk up, if no earlier entry has it
-pub look-find : (cs : List Chunk) (u n : ℕ) (rs : List Ref) → find u n rs < length rs → lookIn cs u n rs ≡ here (getD cs (getD rs (find u n rs) noRef .chunk)
-    noChunk)
-unfolding lookIn find
-look-find cs u n [] h = absurd (not-suc-le-zero h)
-look-find cs u n (r ∷ rs) h = go (same r u n) h (look-find cs u n rs)
-  where
-    go : (b : Bool) → cond b 0 (suc (find u n rs)) < suc (length rs)
-        → (find u n rs < length rs → lookIn cs u n rs ≡ here (getD cs (getD rs (find u n rs) noRef .chunk) noChunk))
-        → cond b (here (getD cs (r .chunk) noChunk)) (lookIn cs u n rs) ≡ here (getD cs (getD (r ∷ rs) (cond b 0 (suc (find u n rs))) noRef .chunk) noChunk)
-    go true h ih = refl
-    go false h ih = ih (le-of-suc-le-suc h)
-
 -- REPLACE
 pub replace-reads : (m : Model) (u n : ℕ) (c : Chunk) → find u n (m .refs) < length (m .refs) → refAt m (find u n (m .refs)) .chunk < length (m .chunks)
     → lookup (replaced m (refAt m (find u n (m .refs)) .chunk) c) u n ≡ here c
@@ -92,7 +73,7 @@ look-off : (cs : List Chunk) (k : ℕ) (c : Chunk) (u n : ℕ) (rs : List Ref) �
 unfolding lookIn uses
 look-off cs k c u n [] h = refl
 look-off cs k c u n (r ∷ rs) h =
-    let o = or-false (eqb (r .chunk) k) (uses k rs) h in
+    let o = neither (eqb (r .chunk) k) (uses k rs) h in
     rw (getD-set-other cs k (r .chunk) c noChunk (eqb-false _ _ (o .0)), look-off cs k c u n rs (o .1))
 
 look-others : (cs : List Chunk) (k : ℕ) (c : Chunk) (u n i : ℕ) (rs : List Ref) → i < length rs → uses k (without i rs) ≡ false → same (getD rs i noRef) u
@@ -102,7 +83,7 @@ unfolding lookIn uses without
 look-others cs k c u n i [] l h ne = absurd (not-suc-le-zero l)
 look-others cs k c u n zero (r ∷ rs) l h ne = rw ne (look-off cs k c u n rs h)
 look-others cs k c u n (suc i) (r ∷ rs) l h ne =
-    let o = or-false (eqb (r .chunk) k) (uses k (take i rs ++ drop (suc i) rs)) h in
+    let o = neither (eqb (r .chunk) k) (uses k (take i rs ++ drop (suc i) rs)) h in
     rw (getD-set-other cs k (r .chunk) c noChunk (eqb-false _ _ (o .0)), look-others cs k c u n i rs (le-of-suc-le-suc l) (o .1) ne)
 
 pub replace-keeps : (m : Model) (i : ℕ) (c : Chunk) (u′ n′ : ℕ) → i < length (m .refs) → shared m i ≡ false → same (refAt m i) u′ n′ ≡ false
@@ -122,7 +103,7 @@ look-lower : (cs : List Chunk) (k u n : ℕ) (rs : List Ref) → uses k rs ≡ f
 unfolding lookIn uses
 look-lower cs k u n [] h = refl
 look-lower cs k u n (r ∷ rs) h =
-    let o = or-false (eqb (r .chunk) k) (uses k rs) h in
+    let o = neither (eqb (r .chunk) k) (uses k rs) h in
     rw (same-chunk cs k r (o .0), look-lower cs k u n rs (o .1)) (unfold lower in refl)
 
 pub remove-keeps : (m : Model) (i u′ n′ : ℕ) → i < length (m .refs) → same (refAt m i) u′ n′ ≡ false → lookup (removed m i) u′ n′ ≡ lookup m u′ n′
@@ -140,10 +121,6 @@ unfolding pairIn
 pair-at u n i [] l h = absurd (not-suc-le-zero l)
 pair-at u n zero (r ∷ rs) l h = rw h
 pair-at u n (suc i) (r ∷ rs) l h = rw (pair-at u n i rs (le-of-suc-le-suc l) h) (or-true (same r u n))
-  where
-    or-true : (a : Bool) → a || true ≡ true
-    or-true true = refl
-    or-true false = refl
 
 -- the pair of a removed entry is gone
 pub pair-gone : (R : Rules) (cs : List Chunk) (e : List Ref) (p : ℕ) (u n i : ℕ) (rs : List Ref) → refsFault R cs e p rs ≡ accept → i < length rs
@@ -163,11 +140,6 @@ pair-gone R cs e p u n (suc i) (r ∷ rs) ok l h =
         let b = pair-at u n i rs (le-of-suc-le-suc l) h in
         x ∙ sym b ∙ a
 
-pair-lowered : (k u n : ℕ) (rs : List Ref) → pairIn u n (map (lower k) rs) ≡ pairIn u n rs
-unfolding pairIn lower
-pair-lowered k u n [] = refl
-pair-lowered k u n (r ∷ rs) = rw (pair-lowered k u n rs)
-
 pub remove-gone : (R : Rules) (m : Model) (i u n : ℕ) → refsFault R (m .chunks) [] 24 (m .refs) ≡ accept → i < length (m .refs) → same (refAt m i) u n ≡ true
     → lookup (removed m i) u n ≡ missing
 unfolding lookup removed
@@ -177,7 +149,7 @@ remove-gone R m i u n ok l h = go (shared m i)
         (cond b (removedEntry m i) (removedBoth m i (refAt m i .chunk)) .refs) ≡ missing
     go true = (unfold removedEntry in look-missing (m .chunks) u n (without i (m .refs)) (pair-gone R (m .chunks) [] 24 u n i (m .refs) ok l h))
     go false = (unfold removedBoth in look-missing (without (refAt m i .chunk) (m .chunks)) u n (map (lower (refAt m i .chunk)) (without i (m .refs)))
-        (pair-lowered (refAt m i .chunk) u n (without i (m .refs)) ∙ pair-gone R (m .chunks) [] 24 u n i (m .refs) ok l h))
+        (pair-lower (refAt m i .chunk) u n (without i (m .refs)) ∙ pair-gone R (m .chunks) [] 24 u n i (m .refs) ok l h))
 
 -- LINK: an entry more on a chunk that is there
 look-with : (cs : List Chunk) (u n i : ℕ) (x : Ref) (rs : List Ref) → same x u n ≡ false → lookIn cs u n (with-at i x rs) ≡ lookIn cs u n rs
@@ -191,7 +163,7 @@ look-new : (cs : List Chunk) (u n i : ℕ) (x : Ref) (rs : List Ref) → same x 
 unfolding lookIn with-at pairIn
 look-new cs u n zero x rs e none = rw e
 look-new cs u n (suc i) x [] e none = rw e
-look-new cs u n (suc i) x (r ∷ rs) e none = let o = or-false (same r u n) (pairIn u n rs) none in rw (o .0) (look-new cs u n i x rs e (o .1))
+look-new cs u n (suc i) x (r ∷ rs) e none = let o = neither (same r u n) (pairIn u n rs) none in rw (o .0) (look-new cs u n i x rs e (o .1))
 
 -- the new pair gives what the original (v, o) gives, and any other pair what it gave
 pub link-reads : (m : Model) (v o u n : ℕ) → find v o (m .refs) < length (m .refs) → pairIn u n (m .refs) ≡ false
@@ -231,7 +203,7 @@ on-new : (u n i : ℕ) (x : Ref) (rs : List Ref) → same x u n ≡ true → pai
 unfolding chunkOn with-at pairIn
 on-new u n zero x rs e none = rw e
 on-new u n (suc i) x [] e none = rw e
-on-new u n (suc i) x (r ∷ rs) e none = let o = or-false (same r u n) (pairIn u n rs) none in rw (o .0) (on-new u n i x rs e (o .1))
+on-new u n (suc i) x (r ∷ rs) e none = let o = neither (same r u n) (pairIn u n rs) none in rw (o .0) (on-new u n i x rs e (o .1))
 
 -- and from the same place: after a link to chunk k the new pair is found on chunk k, and any other pair on the chunk that it was on
 pub link-on-new : (m : Model) (k u n : ℕ) → pairIn u n (m .refs) ≡ false → refAt (linked m k u n) (find u n (linked m k u n .refs)) .chunk ≡ k

@@ -2,7 +2,7 @@
 use mathlib.Core.Path.{_≡_, refl, ap, _∙_}
 use Prim.Native.Nat.{ℕ, zero, suc, _+_, _≤_, _<_}
 use mathlib.Core.List.{List, [], _∷_, _++_, map}
-use mathlib.Core.Bool.{Bool, true, false, _&&_, _||_, not}
+use mathlib.Core.Bool.{Bool, true, false, _&&_, not}
 use native.Mathlib.Omega.{arith}
 use native.Mathlib.Nat.{le-of-suc-le-suc, not-suc-le-zero}
 use lib.ListN.{length, getD, take, drop}
@@ -16,19 +16,20 @@ use Rattle.blorb.specs.Model.{Model, base, file}
 use Rattle.blorb.specs.Queries.{find, noRef, refAt, chunkAt, without, uses, shared, frontNumber}
 use Rattle.blorb.proofs.AllLaws.{all-getD}
 use Rattle.blorb.specs.Sound.{RefOk, Sound}
-use Rattle.blorb.proofs.Checks.{then-accept, check-accept, pass}
-use Rattle.blorb.proofs.ModelLaws.{length-file}
+use Rattle.blorb.proofs.Checks.{then-accept, check-accept, pass, or-map, neither}
+use Rattle.blorb.proofs.ModelLaws.{length-file, chunk-in}
 use Rattle.blorb.proofs.VerdictLaws.{refsFault, modelFault, inOrder}
 use Rattle.edits.specs.Edit.{remove, edited, lower, removed, removedBoth, removedEntry}
 use Rattle.edits.proofs.OrderLaws.{order-without, order-removed}
 use Rattle.edits.proofs.AddVerdict.{second-any}
-use Rattle.edits.proofs.UndoLaws.{or-false, length-without, length-remaining}
+use Rattle.edits.proofs.UndoLaws.{length-without, length-remaining}
 use Rattle.edits.proofs.FitLaws.{edit-sound, unlisted-sound}
 use Rattle.edits.proofs.Lengths.{length-removed}
 use Rattle.edits.proofs.RemoveVerdict.{same-chunk, refs-without, refs-removed}
-use Rattle.edits.proofs.FrontLaws.{like-self, like-without, optional-like, front-picture, picture-none}
+use Rattle.edits.proofs.FrontLaws.{like-self, like-without, optional-like, front-picture}
 use Rattle.edits.proofs.ReadBack.{same, pair-gone}
-use Rattle.edits.proofs.JudgedLaws.{model-parts, accepted-ordered, accepted-front, isFront, find-at, chunk-in, chunk-plain}
+use Rattle.edits.proofs.JudgedLaws.{model-parts, accepted-ordered, accepted-front, isFront, find-at, chunk-plain}
+use Rattle.edits.proofs.FrontPicture.{picture-none}
 
 -- no second index among fewer chunks
 pub second-without : (at at′ : ℕ) (cs : List Chunk) (k : ℕ) → secondIndex at cs ≡ accept → secondIndex at′ (without k cs) ≡ accept
@@ -46,18 +47,14 @@ pub picture-less : (q : ℕ) (cs : List Chunk) (i : ℕ) (rs : List Ref) → i <
 unfolding picture without
 picture-less q cs i [] l ne h = absurd (not-suc-le-zero l)
 picture-less q cs zero (r ∷ rs) l ne h = rw ne at h
-picture-less q cs (suc i) (r ∷ rs) l ne h = go (same r Pict q && not (eqb (getD cs (r .chunk) noChunk .type) Rect)) (picture q cs rs)
+picture-less q cs (suc i) (r ∷ rs) l ne h = or-map (same r Pict q && not (eqb (getD cs (r .chunk) noChunk .type) Rect)) (picture q cs rs)
     (picture q cs (take i rs ++ drop (suc i) rs)) h (picture-less q cs i rs (le-of-suc-le-suc l) ne)
-  where
-    go : (a b b′ : Bool) → a || b ≡ true → (b ≡ true → b′ ≡ true) → a || b′ ≡ true
-    go true b b′ h f = refl
-    go false b b′ h f = f h
 
 pub picture-lower : (q : ℕ) (cs : List Chunk) (k : ℕ) (rs : List Ref) → uses k rs ≡ false → picture q (without k cs) (map (lower k) rs) ≡ picture q cs rs
 unfolding picture uses
 picture-lower q cs k [] h = refl
 picture-lower q cs k (r ∷ rs) h =
-    let o = or-false (eqb (r .chunk) k) (uses k rs) h in
+    let o = neither (eqb (r .chunk) k) (uses k rs) h in
     rw (same-chunk cs k r (o .0), picture-lower q cs k rs (o .1)) (unfold lower in refl)
 
 pub picture-without : (profile q : ℕ) (cs : List Chunk) (i : ℕ) (rs : List Ref) → refsFault (rulesOf profile) cs [] 24 rs ≡ accept → i < length rs

@@ -12,8 +12,7 @@ use Rattle.blorb.specs.Format.{Ref, Chunk}
 use Rattle.blorb.specs.Verdict.{Rules, accept, refFault, pairIn, noChunk}
 use Rattle.blorb.specs.Queries.{uses, without}
 use Rattle.edits.specs.Edit.{lower}
-use Rattle.blorb.proofs.Checks.{then-accept, check-accept, pass, accepts, holds-last}
-use Rattle.edits.proofs.UndoLaws.{or-false}
+use Rattle.blorb.proofs.Checks.{then-accept, check-accept, pass, accepts, holds-last, neither}
 use Rattle.blorb.proofs.VerdictLaws.{refsFault}
 use Rattle.edits.proofs.Starts.{map-append}
 
@@ -57,13 +56,13 @@ Fewer a b = (u n : ℕ) → pairIn u n a ≡ false → pairIn u n b ≡ false
 pair-append : (u n : ℕ) (a b : List Ref) → pairIn u n a ≡ false → pairIn u n b ≡ false → pairIn u n (a ++ b) ≡ false
 unfolding pairIn
 pair-append u n [] b h k = k
-pair-append u n (r ∷ a) b h k = let q = or-false (eqb (r .usage) u && eqb (r .number) n) (pairIn u n a) h in rw (q .0) (pair-append u n a b (q .1) k)
+pair-append u n (r ∷ a) b h k = let q = neither (eqb (r .usage) u && eqb (r .number) n) (pairIn u n a) h in rw (q .0) (pair-append u n a b (q .1) k)
 
 pair-parts : (u n : ℕ) (a b : List Ref) → pairIn u n (a ++ b) ≡ false → (pairIn u n a ≡ false) × (pairIn u n b ≡ false)
 unfolding pairIn
 pair-parts u n [] b h = (refl, h)
 pair-parts u n (r ∷ a) b h =
-    let q = or-false (eqb (r .usage) u && eqb (r .number) n) (pairIn u n (a ++ b)) h in
+    let q = neither (eqb (r .usage) u && eqb (r .number) n) (pairIn u n (a ++ b)) h in
     let t = pair-parts u n a b (q .1) in
     (rw (q .0) (t .0), t .1)
 
@@ -76,7 +75,7 @@ module _ (R : Rules) where
   unfolding refsFault uses refFault
   refs-lower cs k earlier p [] h = refl
   refs-lower cs k earlier p (r ∷ rs) h =
-      let q = or-false (eqb (r .chunk) k) (uses k rs) h in
+      let q = neither (eqb (r .chunk) k) (uses k rs) h in
       rw (
         same-chunk cs k r (q .0),
         pair-lower k (lower k r .usage) (lower k r .number) earlier,

@@ -15,19 +15,19 @@ use Rattle.blorb.specs.Rules.{allows, typeIn, optional, rulesOf}
 use Rattle.blorb.specs.Model.{Model, base, file}
 use Rattle.blorb.specs.Queries.{find, refAt, chunkAt, shared, frontNumber}
 use Rattle.blorb.specs.Sound.{W, Sound}
-use Rattle.blorb.proofs.Checks.{then-accept, check-accept, pass}
-use Rattle.blorb.proofs.ModelLaws.{length-file, size-getD}
+use Rattle.blorb.proofs.Checks.{then-accept, check-accept, pass, then-end, and-where}
+use Rattle.blorb.proofs.ModelLaws.{length-file, size-getD, chunk-in}
 use Rattle.blorb.proofs.VerdictLaws.{refsFault, modelFault, inOrder}
+use Rattle.blorb.proofs.FindLaws.{find-pair}
 use Rattle.edits.specs.Edit.{replaced}
-use Rattle.edits.proofs.AddVerdict.{second-any, then-end}
-use Rattle.edits.proofs.FitLaws.{replaced-sound, find-pair}
+use Rattle.edits.proofs.AddVerdict.{second-any}
+use Rattle.edits.proofs.FitLaws.{replaced-sound}
 use Rattle.edits.proofs.Lengths.{length-replaced}
 use Rattle.edits.proofs.ReplaceVerdict.{refs-replaced}
 use Rattle.edits.proofs.RuleSeven.{allowed-plain}
-use Rattle.edits.proofs.FrontLaws.{optional-replaced}
 use Rattle.edits.proofs.UndoVerdict.{accepted-check}
-use Rattle.edits.proofs.BoolLaws.{and-where}
-use Rattle.edits.proofs.JudgedLaws.{model-parts, accepted-ordered, accepted-front, isFront, chunk-in, chunk-plain}
+use Rattle.edits.proofs.JudgedLaws.{model-parts, accepted-ordered, accepted-front, isFront, chunk-plain}
+use Rattle.edits.proofs.FrontPicture.{optional-replaced}
 
 -- a second index: only the new chunk can be one
 second-set : (at at′ : ℕ) (cs : List Chunk) (k : ℕ) (c : Chunk) → k < length cs → secondIndex at cs ≡ accept → accepted (secondIndex at′ (set cs k c)) ≡ not

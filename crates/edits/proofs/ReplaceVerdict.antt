@@ -12,10 +12,8 @@ use borrow.Author.Tests.{eqb-false}
 use Rattle.blorb.specs.Format.{Ref, Chunk}
 use Rattle.blorb.specs.Verdict.{Rules, Verdict, accept, _then_, check, refFault, noChunk}
 use Rattle.blorb.specs.Queries.{uses, noRef, without}
-use Rattle.blorb.proofs.Checks.{then-accept, check-accept, pass, accepts}
-use Rattle.edits.proofs.UndoLaws.{or-false}
+use Rattle.blorb.proofs.Checks.{then-accept, check-accept, pass, accepts, neither, then-end}
 use Rattle.blorb.proofs.VerdictLaws.{refsFault}
-use Rattle.edits.proofs.AddVerdict.{then-end}
 
 module _ (R : Rules) (cs : List Chunk) (k : ℕ) (c : Chunk) (there : k < length cs) where
   -- an entry on another chunk is judged as before
@@ -27,7 +25,7 @@ module _ (R : Rules) (cs : List Chunk) (k : ℕ) (c : Chunk) (there : k < length
   unfolding refsFault uses
   others earlier p [] h = refl
   others earlier p (r ∷ rs) h =
-      let q = or-false (eqb (r .chunk) k) (uses k rs) h in
+      let q = neither (eqb (r .chunk) k) (uses k rs) h in
       rw (other earlier p r (q .0), others (earlier ++ (r ∷ [])) (p + 12) rs (q .1))
 
   -- the entry on the replaced chunk
@@ -52,7 +50,7 @@ module _ (R : Rules) (cs : List Chunk) (k : ℕ) (c : Chunk) (there : k < length
   refs-replaced earlier p (r ∷ rs) (suc i) h e alone ok =
       let a = then-accept _ _ ok in
       let b = then-accept _ _ (a .1) in
-      let q = or-false (eqb (r .chunk) k) (uses k (without i rs)) alone in
+      let q = neither (eqb (r .chunk) k) (uses k (without i rs)) alone in
       let z : p + 12 + 12 * i ≡ p + 12 * suc i = omega arith in
       pass _ _ _ _ (check-accept _ _ _ (a .0))
       ∙ accepts _ _ (other earlier p r (q .0) ∙ b .0)

@@ -2,7 +2,7 @@
 use mathlib.Core.Path.{_≡_, refl, ap, _∙_}
 use Prim.Native.Nat.{ℕ, _+_}
 use mathlib.Core.List.{List, [], _∷_, _++_}
-use mathlib.Core.Bool.{Bool, true, false, cond, _&&_, _||_, not}
+use mathlib.Core.Bool.{Bool, true, false, cond, _&&_, not, and-false}
 use native.Mathlib.Omega.{arith}
 use lib.ListN.{length, getD, List·getD-append}
 use lib.Dec.{eqb}
@@ -14,12 +14,7 @@ use Rattle.blorb.specs.Tags.{Pict, Snd, Data, Exec, Rect, RelN, Fspc}
 use Rattle.blorb.specs.Rules.{allows, plainAllows, adriftAllows, oneOf, picture, single, chunkRule, chunkRules, optional}
 use Rattle.blorb.specs.All.{All}
 use Rattle.blorb.specs.Sound.{RefOk}
-use Rattle.blorb.proofs.Checks.{then-accept, check-accept, pass, accepts, holds-last}
-use Rattle.edits.proofs.AddVerdict.{then-end}
-
-or-true : (a : Bool) → a || true ≡ true
-or-true true = refl
-or-true false = refl
+use Rattle.blorb.proofs.Checks.{then-accept, check-accept, pass, accepts, holds-last, or-map, then-end}
 
 -- a picture that is there stays there
 abbrev pub Kept : List Chunk → List Ref → List Chunk → List Ref → Type 0
@@ -79,12 +74,8 @@ unfolding picture
 picture-more n cs c [] x ok h = let z : _≡_ {A = ℕ} 0 1 = cc in absurd (omega arith)
 picture-more n cs c (r ∷ rs) x ok h =
     rw (List·getD-append cs (c ∷ []) noChunk (r .chunk) (ok .0 .chunk-there))
-    (go (eqb (r .usage) Pict && eqb (r .number) n && not (eqb (getD cs (r .chunk) noChunk .type) Rect)) (picture n cs rs)
+    (or-map (eqb (r .usage) Pict && eqb (r .number) n && not (eqb (getD cs (r .chunk) noChunk .type) Rect)) (picture n cs rs)
     (picture n (cs ++ (c ∷ [])) (rs ++ (x ∷ []))) h (picture-more n cs c rs x (ok .1)))
-  where
-    go : (a b b′ : Bool) → a || b ≡ true → (b ≡ true → b′ ≡ true) → a || b′ ≡ true
-    go true b b′ h f = refl
-    go false b b′ h f = f h
 
 -- after an add rule 7 holds
 pub optional-added : (at at′ : ℕ) (rs : List Ref) (cs : List Chunk) (x : Ref) (c : Chunk) → All (RefOk (length cs)) rs → Plain c
@@ -95,16 +86,12 @@ optional-added at at′ rs cs x c ok p h =
     (rules-kept rs (rs ++ (x ∷ [])) cs (cs ++ (c ∷ [])) [] at at′ cs (λ n e. picture-more n cs c rs x ok e) h)
 
 -- what rule 5 allows is neither 'RelN' nor 'Fspc'
-and-none : (a : Bool) → a && false ≡ false
-and-none true = refl
-and-none false = refl
-
 not-allowed : (profile u : ℕ) (b : List ℕ)
     → (allows profile u (record { type = RelN; body = b }) ≡ false) × (allows profile u (record { type = Fspc; body = b }) ≡ false)
 unfolding allows plainAllows adriftAllows oneOf
 not-allowed profile u b = (
-  rw (and-none (eqb u Pict), and-none (eqb u Snd), and-none (eqb u Data), and-none (eqb u Exec), and-none (eqb profile 1)),
-  rw (and-none (eqb u Pict), and-none (eqb u Snd), and-none (eqb u Data), and-none (eqb u Exec), and-none (eqb profile 1)),
+  rw (and-false (eqb u Pict), and-false (eqb u Snd), and-false (eqb u Data), and-false (eqb u Exec), and-false (eqb profile 1)),
+  rw (and-false (eqb u Pict), and-false (eqb u Snd), and-false (eqb u Data), and-false (eqb u Exec), and-false (eqb profile 1)),
 )
 
 other-type : (profile t u : ℕ) (c : Chunk) → allows profile u (record { type = t; body = c .body }) ≡ false → allows profile u c ≡ true

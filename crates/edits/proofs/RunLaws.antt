@@ -10,14 +10,14 @@ use borrow.Author.Tests.{leb-true, ltb-true, not-true}
 use Rattle.blorb.specs.Verdict.{Rules, Verdict, accept, refuse, verdict, noChunk}
 use Rattle.blorb.specs.Model.{Model, model, file, startOf, base}
 use Rattle.edits.specs.Edit.{Edit, add, replace, remove, link, linkPlace, edited}
-use Rattle.blorb.specs.Queries.{find, shared, refAt, noRef, chunkAt, start}
+use Rattle.blorb.specs.Queries.{find, shared, refAt, chunkAt, start}
 use Rattle.edits.specs.Journal.{recOf, removal, lastRec, wellFormed, fits, zeros}
 use Rattle.blorb.proofs.AllLaws.{all-getD}
-use Rattle.blorb.specs.Sound.{W, RefOk, ChunkOk, Sound}
+use Rattle.blorb.specs.Sound.{W, ChunkOk, Sound}
 use Rattle.edits.specs.Run.{ArgsOk, hundred, written, noted, targetFault, editedFile, editRecord, undoneFile, editFault}
 use Rattle.edits.proofs.Applies.{Applies}
 use Rattle.edits.proofs.FitLaws.{edit-back, edit-sound, linkPlace-le, linked-start}
-use Rattle.blorb.proofs.ModelLaws.{model-file, length-file, total-take, size-getD}
+use Rattle.blorb.proofs.ModelLaws.{model-file, length-file, total-take, size-getD, chunk-in}
 use Rattle.blorb.proofs.Places.{body-size}
 use Rattle.edits.proofs.JournalLaws.{RecOk, last-rec, well-formed, length-recBytes}
 use Rattle.blorb.proofs.Accept.{accept-short}
@@ -70,14 +70,11 @@ module _ (m : Model) (s : Sound m) (small : length (file m) ≤ 16777216) where
   unfolding base
   place-small i h = omega (arith, length-file m)
 
-  there : (i : ℕ) → i < length (m .refs) → refAt m i .chunk < length (m .chunks)
-  there i h = all-getD (RefOk (length (m .chunks))) (m .refs) i noRef (s .refs-ok) h .chunk-there
-
   body-small : (i : ℕ) → i < length (m .refs) → 25 + length (chunkAt m (refAt m i .chunk) .body) < W
-  body-small i h = omega (arith, body-size (chunkAt m (refAt m i .chunk)), size-getD (m .chunks) (refAt m i .chunk) noChunk (there i h), length-file m)
+  body-small i h = omega (arith, body-size (chunkAt m (refAt m i .chunk)), size-getD (m .chunks) (refAt m i .chunk) noChunk (chunk-in m i s h), length-file m)
 
   type-small : (i : ℕ) → i < length (m .refs) → chunkAt m (refAt m i .chunk) .type < W
-  type-small i h = all-getD ChunkOk (m .chunks) (refAt m i .chunk) noChunk (s .chunks-ok) (there i h) .type-fits
+  type-small i h = all-getD ChunkOk (m .chunks) (refAt m i .chunk) noChunk (s .chunks-ok) (chunk-in m i s h) .type-fits
 
   removal-ok : (b : Bool) (u n i : ℕ) → u < W → n < W → i < length (m .refs) → RecOk (removal b m u n i)
   unfolding removal zeros

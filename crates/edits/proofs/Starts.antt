@@ -18,8 +18,9 @@ use Rattle.edits.specs.Starts.{moved, behind, fallen}
 use Rattle.blorb.specs.All.{All}
 use Rattle.blorb.specs.Sound.{RefOk, Sound}
 use Rattle.blorb.proofs.Places.{size-pos}
-use Rattle.edits.proofs.UndoLaws.{length-without, or-false}
+use Rattle.edits.proofs.UndoLaws.{length-without}
 use Rattle.blorb.proofs.ModelLaws.{entries}
+use Rattle.blorb.proofs.Checks.{neither}
 
 -- two ways to number the same entries give starts that differ by f, if the places do
 moved-all : (f : ℕ → ℕ) (g : Ref → Ref) (P : Ref → Type 0) (at at′ : ℕ) (cs cs′ : List Chunk) (rs : List Ref)
@@ -175,7 +176,7 @@ starts-removed m i h valid alone =
         ≡ map (moved (fallen (startOf (base (suc n)) (m .chunks) k) (size (chunkAt m k)))) (map (entryOf (base (suc n)) (m .chunks)) rs)
     all [] u = refl
     all (r ∷ rs) u =
-        let p = or-false (eqb (r .chunk) k) (uses k rs) u in
+        let p = neither (eqb (r .chunk) k) (uses k rs) u in
         λ j. record { usage = r .usage; number = r .number; start = fell n (m .chunks) k r valid (p .0) j } ∷ all rs (p .1) j
 
 -- "A shared chunk stays and every start falls by 12"

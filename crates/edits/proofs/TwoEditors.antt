@@ -10,26 +10,26 @@ use Rattle.blorb.specs.Bytes.{Byte}
 use Rattle.blorb.specs.All.{All}
 use Rattle.blorb.specs.Format.{Chunk, size, sized}
 use Rattle.blorb.specs.Verdict.{Rules, accept}
-use Rattle.blorb.specs.Model.{Model, base, model, file}
-use Rattle.blorb.specs.Queries.{find, refAt, noRef, chunkAt, shared}
-use Rattle.blorb.specs.Sound.{RefOk, Sound}
-use Rattle.blorb.proofs.AllLaws.{all-take, all-getD}
+use Rattle.blorb.specs.Model.{Model, model, file}
+use Rattle.blorb.specs.Queries.{find, refAt, chunkAt, shared}
+use Rattle.blorb.specs.Sound.{Sound}
+use Rattle.blorb.proofs.AllLaws.{all-take}
 use Rattle.blorb.proofs.Accept.{accept-back, accept-short}
 use Rattle.blorb.proofs.Checks.{then-accept}
-use Rattle.blorb.proofs.ModelLaws.{model-file, length-file}
+use Rattle.blorb.proofs.ModelLaws.{model-file, chunk-in}
 use Rattle.edits.specs.Edit.{Edit, add, replace, remove, link, givenChunk, removed, removedEntry, removedBoth, edited}
 use Rattle.edits.specs.Run.{State, fileIn, Call, edit, CallOk, ArgsOk, after, afterEdit, editFault, editedFile, fault, step, run, ledgerFile}
 use Rattle.edits.specs.Demand3.{Begins, listAfter}
 use Rattle.edits.specs.TwoEditors.{SameFile, Other, NamesOther, BothOrders, EitherOrder, LaterWins}
 use Rattle.edits.specs.TwoEditors.{padded, grows, falls, grown, shrunk, LengthAfter}
 use Rattle.edits.proofs.Applies.{Applies}
-use Rattle.edits.proofs.UndoLaws.{length-without}
 use Rattle.edits.proofs.FitLaws.{edit-sound}
 use Rattle.edits.proofs.RunLaws.{target-applies, take-written, hundred-accept}
 use Rattle.edits.proofs.LinkLaws.{linked-length}
 use Rattle.edits.proofs.Commute.{edited-comm, edited-twice}
 use Rattle.edits.proofs.Lengths.{length-added, length-replaced, length-removed}
 use Rattle.edits.proofs.Demand3.{Valid, holds, agree, first}
+use Rattle.edits.proofs.RemoveJudged.{unlisted-length}
 
 -- a successful edit leaves its file
 step-file : (R : Rules) (s : State) (e : Edit) → fault R s (edit e) ≡ accept → fileIn (step R s (edit e)) ≡ editedFile (fileIn s) e
@@ -118,7 +118,7 @@ unfolding edited removed grows falls
 own-change m (add u n t d) s a = omega (arith, length-added m u n (givenChunk t d), size-padded (givenChunk t d))
 own-change m (replace u n t d) s a =
     let k : ℕ = refAt m (find u n (m .refs)) .chunk in
-    let there : k < length (m .chunks) = all-getD (RefOk (length (m .chunks))) (m .refs) (find u n (m .refs)) noRef (s .refs-ok) (a .0) .chunk-there in
+    let there : k < length (m .chunks) = chunk-in m (find u n (m .refs)) s (a .0) in
     omega (arith, length-replaced m k (givenChunk t d) there, size-padded (givenChunk t d), size-padded (chunkAt m k))
 own-change m (link v o u n) s a = omega (arith, linked-length m (refAt m (find v o (m .refs)) .chunk) u n)
 own-change m (remove u n) s a = go (shared m (find u n (m .refs)))
@@ -129,15 +129,9 @@ own-change m (remove u n) s a = go (shared m (find u n (m .refs)))
     k : ℕ
     k = refAt m (find u n (m .refs)) .chunk
 
-    there : k < length (m .chunks)
-    there = all-getD (RefOk (length (m .chunks))) (m .refs) i noRef (s .refs-ok) a .chunk-there
-
-    alone : length (file (removedEntry m i)) + 12 ≡ length (file m)
-    alone = unfold removedEntry base in rw (length-file (removedEntry m i), length-file m) (omega (arith, length-without i (m .refs) a))
-
     go : (b : Bool) → length (file (cond b (removedEntry m i) (removedBoth m i k))) + (12 + cond b 0 (8 + padded (chunkAt m k))) ≡ length (file m) + 0
-    go true = omega (arith, alone)
-    go false = omega (arith, length-removed m i k a there, size-padded (chunkAt m k))
+    go true = omega (arith, unlisted-length m i a)
+    go false = omega (arith, length-removed m i k a (chunk-in m i s a), size-padded (chunkAt m k))
 
 -- of a whole list
 module _ (R : Rules) (f₀ : List ℕ) (N J : ℕ) (known : R .known ≡ true) where

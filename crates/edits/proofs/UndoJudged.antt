@@ -7,7 +7,7 @@ use native.Mathlib.Omega.{arith}
 use lib.ListN.{length, take, drop-of-length-le}
 use lib.Dec.{eqb, leb, ltb}
 use borrow.Author.Tests.{eqb-true, eq-eqb, le-ltb, ltb-true, not-true}
-use Rattle.blorb.specs.Format.{isStart, placeOf, Ref, Chunk, size}
+use Rattle.blorb.specs.Format.{isStart, Ref, size}
 use Rattle.blorb.specs.Tags.{RIdx, Rect}
 use Rattle.blorb.specs.Verdict.{accept, noChunk, verdict, accepted}
 use Rattle.blorb.specs.Rules.{allows, rulesOf}
@@ -19,13 +19,13 @@ use Rattle.blorb.specs.Sound.{W, RefOk, Sound}
 use Rattle.blorb.proofs.Places.{startOf-placeOf}
 use Rattle.blorb.specs.Bytes.{Byte}
 use Rattle.blorb.proofs.Accept.{accept-back}
-use Rattle.blorb.proofs.ModelLaws.{length-file, size-getD}
+use Rattle.blorb.proofs.ModelLaws.{length-file, size-getD, chunk-in}
 use Rattle.blorb.proofs.VerdictLaws.{modelFault, inOrder, file-judged, file-ordered}
+use Rattle.blorb.proofs.Checks.{and-both}
 use Rattle.edits.specs.Edit.{lower, replaced, removed, removedBoth}
 use Rattle.edits.specs.Journal.{Rec, hasPair, fits, fits1, fits2, fits3, fits4, fits5, undone, undo1, undo2, undo3, undo4, undo5, oldChunk, oldPlace}
 use Rattle.edits.proofs.Lengths.{length-replaced}
-use Rattle.edits.proofs.BoolLaws.{and-parts}
-use Rattle.edits.proofs.JudgedLaws.{model-parts, isFront, find-at, chunk-in}
+use Rattle.edits.proofs.JudgedLaws.{model-parts, isFront, find-at}
 use Rattle.edits.proofs.RemoveJudged.{removed-length, removed-accepted, unlisted-length, unlisted-accepted}
 use Rattle.edits.proofs.ReplaceJudged.{replaced-accepted}
 use Rattle.edits.proofs.InsertStarts.{place-inside}
@@ -45,10 +45,10 @@ fits1-facts r m h =
     let e : Ref = refAt m (r .place) in
     let a : Bool = eqb (length (m .refs)) (suc (r .place)) in
     let b : Bool = eqb (suc (e .chunk)) (length (m .chunks)) in
-    let p3 = and-parts (a && hasPair r e && b) (not (shared m (r .place))) h in
-    let p2 = and-parts (a && hasPair r e) b (p3 .0) in
-    let p1 = and-parts a (hasPair r e) (p2 .0) in
-    let p0 = and-parts (eqb (e .usage) (r .usage)) (eqb (e .number) (r .number)) (p1 .1) in
+    let p3 = and-both (a && hasPair r e && b) (not (shared m (r .place))) h in
+    let p2 = and-both (a && hasPair r e) b (p3 .0) in
+    let p1 = and-both a (hasPair r e) (p2 .0) in
+    let p0 = and-both (eqb (e .usage) (r .usage)) (eqb (e .number) (r .number)) (p1 .1) in
     record {
       count = eqb-true _ _ (p1 .0);
       usage-is = eqb-true _ _ (p0 .0);
@@ -121,10 +121,10 @@ fits-at q r m h =
     let e : Ref = refAt m (r .place) in
     let a : Bool = ltb (r .place) (length (m .refs)) in
     let b : Bool = eqb (start m (e .chunk)) (r .start) in
-    let p3 = and-parts (a && hasPair r e && b) (q (r .place)) h in
-    let p2 = and-parts (a && hasPair r e) b (p3 .0) in
-    let p1 = and-parts a (hasPair r e) (p2 .0) in
-    let p0 = and-parts (eqb (e .usage) (r .usage)) (eqb (e .number) (r .number)) (p1 .1) in
+    let p3 = and-both (a && hasPair r e && b) (q (r .place)) h in
+    let p2 = and-both (a && hasPair r e) b (p3 .0) in
+    let p1 = and-both a (hasPair r e) (p2 .0) in
+    let p0 = and-both (eqb (e .usage) (r .usage)) (eqb (e .number) (r .number)) (p1 .1) in
     record {
       inside = ltb-true _ _ (p1 .0);
       usage-is = eqb-true _ _ (p0 .0);
@@ -201,7 +201,7 @@ module _ (profile : ℕ) (r : Rec) (m : Model) (s : Sound m) (ok : modelFault (r
   module _ (hu : r .usage < W) (hn : r .number < W) (fit : fits4 r m ≡ true) where
     fits4-start : isStart (r .start - 12) (base (length (m .refs))) (m .chunks) ≡ true
     unfolding fits4
-    fits4-start = and-parts (leb (r .place) (length (m .refs))) (isStart (r .start - 12) (base (length (m .refs))) (m .chunks)) fit .1
+    fits4-start = and-both (leb (r .place) (length (m .refs))) (isStart (r .start - 12) (base (length (m .refs))) (m .chunks)) fit .1
 
     old-ok : RefOk (length (m .chunks)) (record { usage = r .usage; number = r .number; chunk = oldPlace r m })
     old-ok = record { usage-fits = hu; number-fits = hn; chunk-there = startOf-placeOf (r .start - 12) (base (length (m .refs))) (m .chunks) fits4-start .1 }

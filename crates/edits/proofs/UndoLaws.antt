@@ -2,7 +2,7 @@
 use mathlib.Core.Path.{_≡_, refl, sym, _∙_}
 use Prim.Native.Nat.{ℕ, suc, _-_, _<_}
 use mathlib.Core.List.{List, [], _∷_, _++_, map}
-use mathlib.Core.Bool.{Bool, true, false, cond, _||_}
+use mathlib.Core.Bool.{Bool, true, false, cond}
 use native.Mathlib.Omega.{arith}
 use lib.ListN.{length, getD, take, drop, length-append, length-take, length-drop, length-map}
 use lib.Seq.{set-set, set-getD, take-at, drop-at, split-at}
@@ -15,6 +15,7 @@ use Rattle.edits.specs.Edit.{with-at, raise, lower, added, replaced, rem
 use Rattle.blorb.specs.Queries.{uses, shared, refAt, noRef, chunkAt, without, start}
 use Rattle.edits.specs.Journal.{removal, undo1, undo3, undo4}
 use Rattle.blorb.proofs.Places.{placeOf-startOf}
+use Rattle.blorb.proofs.Checks.{neither}
 
 module _ {A : Type 0} where
   pub take-snoc : (l : List A) (x : A) → take (length (l ++ (x ∷ [])) - 1) (l ++ (x ∷ [])) ≡ l
@@ -58,15 +59,11 @@ raise-lower k r h = λ i. record { usage = r .usage; number = r .number; chunk =
     go true e = rw (le-leb k (r .chunk - 1) (omega (arith, ltb-true k (r .chunk) e))) (omega (arith, ltb-true k (r .chunk) e))
     go false e = rw (lt-leb k (r .chunk) (omega (arith, ltb-false k (r .chunk) e, eqb-false (r .chunk) k h)))
 
-pub or-false : (a b : Bool) → a || b ≡ false → (a ≡ false) × (b ≡ false)
-or-false true b h = let z : _≡_ {A = Bool} true false = h in (h, cc)
-or-false false b h = (refl, h)
-
 raise-lowers : (k : ℕ) (rs : List Ref) → uses k rs ≡ false → map (raise k) (map (lower k) rs) ≡ rs
 unfolding uses
 raise-lowers k [] h = refl
 raise-lowers k (r ∷ rs) h =
-    let p = or-false (eqb (r .chunk) k) (uses k rs) h in
+    let p = neither (eqb (r .chunk) k) (uses k rs) h in
     λ i. raise-lower k r (p .0) i ∷ raise-lowers k rs (p .1) i
 
 -- where a chunk was, its old start less 12 is where the next one now begins

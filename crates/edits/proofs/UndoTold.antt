@@ -17,10 +17,10 @@ use Rattle.blorb.specs.All.{All}
 use Rattle.blorb.proofs.AllLaws.{all-take, all-drop}
 use Rattle.blorb.specs.Sound.{W}
 use Rattle.blorb.proofs.Accept.{rd32-small}
+use Rattle.blorb.proofs.Checks.{and-where}
 use Rattle.edits.specs.Journal.{Rec, trailer, recIn, lastBody, lastRec, fits, fits1, fits2, fits3, fits4, fits5, undo2, oldChunk, oldPlace}
 use Rattle.edits.specs.Order.{between}
 use Rattle.edits.specs.Run.{undoneFile}
-use Rattle.edits.proofs.BoolLaws.{and-where}
 use Rattle.edits.proofs.JudgedLaws.{isFront}
 use Rattle.edits.proofs.InsertJudged.{entryTests}
 use Rattle.edits.proofs.UndoJudged.{

@@ -2,7 +2,7 @@
 use mathlib.Core.Path.{_≡_, refl, sym, ap, _∙_}
 use Prim.Native.Nat.{ℕ, zero, suc, _+_}
 use mathlib.Core.List.{List, [], _∷_, _++_}
-use mathlib.Core.Bool.{Bool, true, false, _&&_, _||_, not}
+use mathlib.Core.Bool.{Bool, true, false, _&&_, _||_, not, or-assoc}
 use lib.ListN.{getD, take, drop}
 use lib.Dec.{eqb}
 use borrow.Author.Tests.{eqb-true, eqb-false, eq-eqb, ne-eqb, not-true}
@@ -10,7 +10,7 @@ use Rattle.blorb.specs.Format.{Ref, Chunk}
 use Rattle.blorb.specs.Tags.{tag}
 use Rattle.blorb.specs.Verdict.{Rules, Verdict, accept, refuse, _then_, check, noChunk, refFault, pairIn, knownUsage, accepted}
 use Rattle.edits.specs.Edit.{with-at}
-use Rattle.blorb.proofs.Checks.{then-accept, check-accept, pass, accepts}
+use Rattle.blorb.proofs.Checks.{then-accept, check-accept, pass, accepts, or-swap}
 use Rattle.blorb.proofs.VerdictLaws.{refsFault}
 use Rattle.edits.proofs.ReadBack.{same}
 
@@ -28,11 +28,6 @@ accepted-check false k p = refl
 -- e′ has x more than e
 abbrev pub More : Ref → List Ref → List Ref → Type 0
 More x e e′ = (u n : ℕ) → pairIn u n e′ ≡ (same x u n || pairIn u n e)
-
-or-swap : (a b c : Bool) → a || (b || c) ≡ b || (a || c)
-or-swap true true c = refl
-or-swap true false c = refl
-or-swap false b c = refl
 
 pub pair-snoc : (u n : ℕ) (e : List Ref) (r : Ref) → pairIn u n (e ++ (r ∷ [])) ≡ (same r u n || pairIn u n e)
 unfolding pairIn
@@ -123,12 +118,16 @@ module _ (R : Rules) (cs : List Chunk) (x : Ref) where
       let b = then-accept _ _ (a .1) in
       ap accepted (pass _ _ _ _ (check-accept _ _ _ (a .0)) ∙ accepts _ _ (b .0)) ∙ ih (b .1)
       ∙ ap (λ (z : Bool). ownTests && not (z || pairIn (x .usage) (x .number) rs)) (pair-snoc (x .usage) (x .number) e r)
-      ∙ ap (λ (z : Bool). ownTests && not z) (turn (same r (x .usage) (x .number)) (pairIn (x .usage) (x .number) e) (pairIn (x .usage) (x .number) rs))
+      ∙ ap (λ (z : Bool). ownTests && not z) (or-assoc r-is before later ∙ or-swap r-is before later)
     where
-      turn : (a b c : Bool) → (a || b) || c ≡ b || (a || c)
-      turn true true c = refl
-      turn true false c = refl
-      turn false b c = refl
+      r-is : Bool
+      r-is = same r (x .usage) (x .number)
+
+      before : Bool
+      before = pairIn (x .usage) (x .number) e
+
+      later : Bool
+      later = pairIn (x .usage) (x .number) rs
 
   -- ONE MORE ENTRY, ANYWHERE: accepted just where it passes its own tests and its pair is new
   pub refs-with : (e : List Ref) (p i : ℕ) (rs : List Ref) → refsFault R cs e p rs ≡ accept

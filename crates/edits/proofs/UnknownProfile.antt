@@ -1,5 +1,5 @@
 -- Under an unknown profile every call, undo too, is refused with 52 at 0 and changes nothing: 52 stands in front of all else (02, P12).
-use mathlib.Core.Path.{_≡_, refl}
+use mathlib.Core.Path.{_≡_}
 use mathlib.Core.Bool.{false}
 use Rattle.blorb.specs.Verdict.{Rules, refuse}
 use Rattle.blorb.proofs.Checks.{stop}

@@ -47,7 +47,7 @@ named-nests k (inl e) = rw e
 named-nests k (inr (inl e)) = rw e
 named-nests k (inr (inr e)) = rw e
 
-plain-named : (k : Kind) → isPlain k ≡ true → k ≡ Plain
+pub plain-named : (k : Kind) → isPlain k ≡ true → k ≡ Plain
 plain-named Plain e = refl
 plain-named Form e = no e
 plain-named Lst e = no e

@@ -12,8 +12,7 @@ use lib.Dec.{eqb, leb, ltb}
 use borrow.Author.Tests.{leb-true, leb-false, eqb-true}
 use Rattle.blorb.specs.All.{All}
 use Rattle.blorb.specs.Bytes.{be32, rd32, Byte}
-use Rattle.blorb.specs.Format.{Chunk, chunkOf, sized, chunkBytes}
-use Rattle.blorb.specs.Sound.{W}
+use Rattle.blorb.specs.Format.{chunkOf, sized, chunkBytes}
 use Rattle.blorb.specs.Tags.{FORM}
 use Rattle.blorb.specs.Verdict.{Verdict, accept, refuse}
 use Rattle.blorb.proofs.AllLaws.{all-drop}
@@ -22,14 +21,14 @@ use Rattle.blorb.proofs.Checks.{then-accept, check-accept, and-both}
 use Rattle.members.specs.declared.Kind.{Kind}
 use Rattle.members.specs.declared.Kind.the-variants.{Form, List as Lst, Cat, Prop, Plain}
 use Rattle.members.specs.declared.Place.{Place}
-use Rattle.members.specs.Kinds.{LIST, CAT, PROP, kindOf, pickKind, nests, isPlain, mayHold, behind, within}
-use Rattle.members.specs.Faults.{kindAt, sizeAt, endAt, nextAt, fits, padded, memberFault}
+use Rattle.members.specs.Kinds.{LIST, CAT, PROP, kindOf, pickKind, isPlain, behind, within}
+use Rattle.members.specs.Faults.{kindAt, sizeAt, endAt, nextAt, padded, memberFault}
 use Rattle.members.proofs.FaultLaws.{good-facts}
 use Rattle.groups.specs.Events.{Event, form, fault, chunkBy, members, chunk}
 use Rattle.groups.specs.Files.{firstFault}
 use Rattle.groups.proofs.EventLaws.{members-on}
 use Rattle.grammar.specs.Tree.{Chunks, none, plain, holder, codeOf, bytes, Within}
-use Rattle.grammar.proofs.Sentences.{Placed, named-nests}
+use Rattle.grammar.proofs.Sentences.{Placed, named-nests, plain-named}
 
 -- no fault in two lists of events is no fault in either
 fine-append : (xs ys : List Event) → firstFault (xs ++ ys) ≡ accept → (firstFault xs ≡ accept) × (firstFault ys ≡ accept)
@@ -48,13 +47,6 @@ chunk-fine accept Lst f d at I e = (refl, λ h. e)
 chunk-fine accept Cat f d at I e = (refl, λ h. e)
 chunk-fine accept Prop f d at I e = (refl, λ h. e)
 chunk-fine accept Plain f d at I e = (refl, λ h. let z : _≡_ {A = ℕ} 0 1 = cc in absurd (omega arith))
-
-pub plain-is : (k : Kind) → isPlain k ≡ true → k ≡ Plain
-plain-is Plain e = refl
-plain-is Form e = let z : _≡_ {A = ℕ} 0 1 = cc in absurd (omega arith)
-plain-is Lst e = let z : _≡_ {A = ℕ} 0 1 = cc in absurd (omega arith)
-plain-is Cat e = let z : _≡_ {A = ℕ} 0 1 = cc in absurd (omega arith)
-plain-is Prop e = let z : _≡_ {A = ℕ} 0 1 = cc in absurd (omega arith)
 
 -- the type of a FORM, group or PROP is its kind's
 code-is : (t : ℕ) → isPlain (kindOf t) ≡ false → t ≡ codeOf (kindOf t)
@@ -170,7 +162,7 @@ module _ (f : List ℕ) (all : All Byte f) (p : Place) (d end at : ℕ) (inside 
   with-plain : isPlain (kindAt f at) ≡ true → Read f p d end at
   unfolding bytes Placed Within
   with-plain q =
-      let k : kindAt f at ≡ Plain = plain-is (kindAt f at) q in
+      let k : kindAt f at ≡ Plain = plain-named (kindAt f at) q in
       let holds = good-facts f p d end at ok .holds in
       let behind-it : Placed (behind p Plain) (rest .tree) = rw k at (rest .placed) in
       record {

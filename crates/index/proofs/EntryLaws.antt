@@ -1,15 +1,17 @@
--- Laws of the entries.
+-- Laws of the entries: one entry's refusals, in their order; the loop over the entries, whose turn is the verdict on one entry, its pair and its order; and
+-- why a pair above the greatest number so far of its usage is new.
 use mathlib.Core.Path.{_≡_, refl, sym, ap, _∙_}
-use Prim.Native.Nat.{ℕ, zero, suc, _+_, _*_, _-_, _≤_, _<_}
+use Prim.Native.Nat.{ℕ, zero, suc, _+_, _-_, _≤_, _<_}
 use mathlib.Core.List.{List, [], _∷_, _++_}
-use mathlib.Core.Bool.{Bool, true, false, _&&_, _||_, not}
+use mathlib.Core.Logic.{_⊎_, inl, inr}
+use mathlib.Core.Bool.{Bool, true, false, _&&_, _||_, not, or-true}
 use native.Mathlib.Omega.{arith}
 use native.Mathlib.Numerals.{add-one}
 use native.Mathlib.Nat.{not-suc-le-zero}
 use lib.ListN.{length, getD, take, drop, set}
 use lib.Seq.{getD-set-same, getD-set-other, drop-drop}
 use lib.Dec.{eqb, leb}
-use borrow.Author.Tests.{eqb-true, eqb-false, le-leb, lt-leb}
+use borrow.Author.Tests.{eqb-true, le-leb, lt-leb}
 use Rattle.blorb.proofs.UsageLaws.{or-false, or-assoc, known-is, known-not, allows-plain, allows-else, allows-also}
 use Rattle.blorb.specs.Bytes.{rd32}
 use Rattle.blorb.specs.Format.{Ref, refOf, chunkIn, entryIn, entriesIn, isStart, placeOf, chunkOf}
@@ -25,23 +27,9 @@ use Rattle.blorb.specs.declared.Usage.the-variants.{Exec}
 use Rattle.blorb.specs.declared.Known.the-variants.{Is, Unknown}
 use Rattle.index.specs.declared.entries.Judged.the-variants.{At, Fault}
 use Rattle.blorb.specs.Usages.{codeOf, usageOf}
-use Rattle.index.specs.Entries.{
-  usageAt,
-  numberAt,
-  startAt,
-  place,
-  typedAt,
-  entryFault,
-  unstartedFault,
-  judgedBy,
-  earlier,
-  Before,
-  samePair,
-  Topped,
-  slotOf,
-  Below,
-  entriesFrom,
-}
+use Rattle.blorb.proofs.NumberLaws.{same?}
+use Rattle.index.specs.Entries.{usageAt, numberAt, startAt, place, typedAt, entryFault, unstartedFault, judgedBy}
+use Rattle.index.specs.Entries.{earlier, Before, samePair, Topped, slotOf, Below, entriesFrom}
 
 -- rule 5 of the chunk at x, by its type and its data
 pub chunk-at : (f : List ℕ) (x from to t : ℕ) → from ≡ x + 8 → to ≡ from + rd32 (drop (x + 4) f) → t ≡ rd32 (drop x f)
@@ -77,11 +65,6 @@ unfolding entryIn
 start-at f p = ap rd32 (drop-drop 8 p f)
 
 -- one entry of the list
-under : (b : Bool) (k p : ℕ) (v w : Verdict) → (b ≡ true → v ≡ w) → check b k p then v ≡ check b k p then w
-unfolding check _then_
-under true k p v w h = h refl
-under false k p v w h = refl
-
 pub ref-at : (f : List ℕ) (base p : ℕ) → Ref
 ref-at f base p = record { usage = usageAt f p; number = numberAt f p; chunk = placeOf (startAt f p) base (chunksFrom f base) }
 
@@ -99,12 +82,15 @@ shape true true b14 false b15 b16 p v h = rw (h refl)
 shape true true b14 true false b16 p v h = rw (h refl)
 shape true true b14 true true b16 p v h = rw (h refl)
 
+-- the verdict on entry j, its pair and its order, and v behind them
+abbrev turnOf : (profile : ℕ) (f : List ℕ) (base j : ℕ) → Verdict → Verdict
+turnOf profile f base j v =
+    entryFault profile f base (place j)
+    then (check (not (pairIn (usageAt f (place j)) (numberAt f (place j)) (earlier f base j))) 16 (place j)
+    then (check (leb (lastPlace (earlier f base j)) (placeOf (startAt f (place j)) base (chunksFrom f base))) 27 (place j + 8) then v))
+
 module _ (profile : ℕ) (f : List ℕ) (base : ℕ) (w : walkFrom f base ≡ accept) where
-  pub entries-on : (j n : ℕ)
-      → entriesFrom profile f base j (suc n) ≡ entryFault profile f base (place j) then
-      (check (not (pairIn (usageAt f (place j)) (numberAt f (place j)) (earlier f base j))) 16 (place j)
-      then (check (leb (lastPlace (earlier f base j)) (placeOf (startAt f (place j)) base (chunksFrom f base))) 27 (place j + 8) then entriesFrom profile f
-      base (suc j) n))
+  entries-on : (j n : ℕ) → entriesFrom profile f base j (suc n) ≡ turnOf profile f base j (entriesFrom profile f base (suc j) n)
   unfolding entriesFrom entriesFault entriesIn refFault entryFault earlier ref-at entryIn
   entries-on j n =
       let q : place j + 12 ≡ place (suc j) = omega arith in
@@ -141,19 +127,15 @@ module _ (f : List ℕ) (base : ℕ) where
       → pairIn (usageAt f (place j)) (numberAt f (place j)) (earlier f base (i + 1)) ≡ false
   pair-more i j h e = rw add-one (pair-suc (usageAt f (place j)) (numberAt f (place j)) i ∙ rw (h, e))
 
-  or-true : (b : Bool) → b || true ≡ true
-  or-true true = refl
-  or-true false = refl
-
   pub pair-hit : (i j m : ℕ) → i < m → samePair f i j ≡ true → pairIn (usageAt f (place j)) (numberAt f (place j)) (earlier f base m) ≡ true
   pair-hit i j zero h e = absurd (not-suc-le-zero h)
-  pair-hit i j (suc m) h e = pair-suc (usageAt f (place j)) (numberAt f (place j)) m ∙ go (eqb i m) refl (pair-hit i j m)
+  pair-hit i j (suc m) h e = pair-suc (usageAt f (place j)) (numberAt f (place j)) m ∙ go (same? i m) (pair-hit i j m)
     where
-      go : (b : Bool) → eqb i m ≡ b → (i < m → samePair f i j ≡ true → pairIn (usageAt f (place j)) (numberAt f (place j)) (earlier f base m) ≡ true)
+      go : (i ≡ m) ⊎ (i ≡ m → ⊥) → (i < m → samePair f i j ≡ true → pairIn (usageAt f (place j)) (numberAt f (place j)) (earlier f base m) ≡ true)
           → pairIn (usageAt f (place j)) (numberAt f (place j)) (earlier f base m) || samePair f m j ≡ true
-      go true t ih = let s : samePair f m j ≡ true = ap (λ (k : ℕ). samePair f k j) (sym (eqb-true i m t)) ∙ e in
+      go (inl q) ih = let s : samePair f m j ≡ true = ap (λ (k : ℕ). samePair f k j) (sym q) ∙ e in
           rw s (or-true (pairIn (usageAt f (place j)) (numberAt f (place j)) (earlier f base m)))
-      go false t ih = let n : i ≡ m → ⊥ = eqb-false i m t in rw (ih (omega arith) e)
+      go (inr n) ih = rw (ih (omega arith) e)
 
 -- an entry's start, or its fault
 pub judged-at : (v : Verdict) (x y : ℕ) → judgedBy v x ≡ At y → (v ≡ accept) × (x ≡ y)
@@ -168,31 +150,35 @@ module _ (profile : ℕ) (f : List ℕ) (base p : ℕ) where
   judged : (v : Verdict) → entryFault profile f base p ≡ v → judgedBy v (startAt f p) ≡ judgedBy (entryFault profile f base p) (startAt f p)
   judged v e = ap (λ (u : Verdict). judgedBy u (startAt f p)) (sym e)
 
-  pub judge-12 : usageOf (usageAt f p) ≡ Unknown → Fault 12 p ≡ judgedBy (entryFault profile f base p) (startAt f p)
+-- the verdict on one entry, by the numbers that the code has read
+module _ (profile : ℕ) (f : List ℕ) (base p u x : ℕ) (eu : u ≡ usageAt f p) where
+  pub by-12 : usageOf u ≡ Unknown → Fault 12 p ≡ judgedBy (entryFault profile f base p) (startAt f p)
   unfolding entryFault
-  judge-12 e = judged (refuse 12 p) (stop _ _ _ _ (known-not _ e))
+  by-12 e = judged profile f base p (refuse 12 p) (stop _ _ _ _ (known-not _ (rw eu at e)))
 
-  module _ (k : Usage) (e : usageOf (usageAt f p) ≡ Is k) where
-    module _ (b : isStart (startAt f p) base (chunksFrom f base) ≡ true) where
-      pub judge-14 : typedAt profile f (codeOf k) (startAt f p) ≡ false → Fault 14 p ≡ judgedBy (entryFault profile f base p) (startAt f p)
+  module _ (k : Usage) (e : usageOf u ≡ Is k) (ex : x ≡ startAt f p) where
+    known : (knownUsage (usageAt f p) ≡ true) × (usageAt f p ≡ codeOf k)
+    known = known-is _ k (rw eu at e)
+
+    typed : (v : Bool) → typedAt profile f (codeOf k) x ≡ v → typedAt profile f (usageAt f p) (startAt f p) ≡ v
+    typed v h = (λ i. typedAt profile f (known .1 i) (sym ex i)) ∙ h
+
+    module _ (b : isStart x base (chunksFrom f base) ≡ true) where
+      pub by-14 : typedAt profile f (codeOf k) x ≡ false → Fault 14 p ≡ judgedBy (entryFault profile f base p) (startAt f p)
       unfolding entryFault
-      judge-14 h =
-          let q : typedAt profile f (usageAt f p) (startAt f p) ≡ false = ap (λ (u : ℕ). typedAt profile f u (startAt f p)) (known-is _ k e .1) ∙ h in
-          judged (refuse 14 p) (pass _ _ _ _ (known-is _ k e .0) ∙ pass _ _ _ _ b ∙ stop _ _ _ _ q)
+      by-14 h = judged profile f base p (refuse 14 p) (pass _ _ _ _ (known .0) ∙ pass _ _ _ _ (rw ex at b) ∙ stop _ _ _ _ (typed false h))
 
-      module _ (t : typedAt profile f (codeOf k) (startAt f p) ≡ true) where
-        q14 : typedAt profile f (usageAt f p) (startAt f p) ≡ true
-        q14 = ap (λ (u : ℕ). typedAt profile f u (startAt f p)) (known-is _ k e .1) ∙ t
-
-        pub judge-15 : not (eqb (usageAt f p) (codeOf Exec)) || eqb (numberAt f p) 0 ≡ false → Fault 15 (p + 4) ≡ judgedBy (entryFault profile f base p)
-            (startAt f p)
+      module _ (t : typedAt profile f (codeOf k) x ≡ true) (n : ℕ) (en : n ≡ numberAt f p) where
+        -- only 15 is left
+        last-is : entryFault profile f base p ≡ check (not (eqb u (codeOf Exec)) || eqb n 0) 15 (p + 4)
         unfolding entryFault
-        judge-15 h = judged (refuse 15 (p + 4)) (pass _ _ _ _ (known-is _ k e .0) ∙ pass _ _ _ _ b ∙ pass _ _ _ _ q14 ∙ fails-last _ _ _ h)
+        last-is = rw (eu, en) (pass _ _ _ _ (known .0) ∙ pass _ _ _ _ (rw ex at b) ∙ pass _ _ _ _ (typed true t))
 
-        pub judge-good : not (eqb (usageAt f p) (codeOf Exec)) || eqb (numberAt f p) 0 ≡ true → At (startAt f p) ≡ judgedBy (entryFault profile f base p)
-            (startAt f p)
-        unfolding entryFault
-        judge-good h = judged accept (pass _ _ _ _ (known-is _ k e .0) ∙ pass _ _ _ _ b ∙ pass _ _ _ _ q14 ∙ holds-last _ _ _ h)
+        pub by-15 : not (eqb u (codeOf Exec)) || eqb n 0 ≡ false → Fault 15 (p + 4) ≡ judgedBy (entryFault profile f base p) (startAt f p)
+        by-15 h = judged profile f base p (refuse 15 (p + 4)) (last-is ∙ fails-last _ _ _ h)
+
+        pub by-good : not (eqb u (codeOf Exec)) || eqb n 0 ≡ true → At x ≡ judgedBy (entryFault profile f base p) (startAt f p)
+        by-good h = ap At ex ∙ judged profile f base p accept (last-is ∙ holds-last _ _ _ h)
 
 -- an entry where no chunk begins at its start
 module _ (f : List ℕ) (p u : ℕ) (eu : u ≡ usageAt f p) where
@@ -223,10 +209,7 @@ module _ (profile : ℕ) (f : List ℕ) (base count j : ℕ) (w : walkFrom f bas
   left : count - j ≡ suc (count - (j + 1))
   left = omega arith
 
-  turn : entriesFrom profile f base j (count - j) ≡ entryFault profile f base (place j) then
-      (check (not (pairIn (usageAt f (place j)) (numberAt f (place j)) (earlier f base j))) 16 (place j)
-      then (check (leb (lastPlace (earlier f base j)) (placeOf (startAt f (place j)) base (chunksFrom f base))) 27 (place j + 8) then entriesFrom profile f
-      base (suc j) (count - (j + 1))))
+  turn : entriesFrom profile f base j (count - j) ≡ turnOf profile f base j (entriesFrom profile f base (suc j) (count - (j + 1)))
   turn = ap (λ (n : ℕ). entriesFrom profile f base j n) left ∙ entries-on profile f base w j (count - (j + 1))
 
   pub entry-stop : (k p : ℕ) → entryFault profile f base (place j) ≡ refuse k p → refuse k p ≡ entriesFrom profile f base j (count - j)
@@ -272,41 +255,6 @@ pub before-none : (f : List ℕ) (base : ℕ) → Before f base 0 base
 unfolding earlier lastPlace
 before-none f base = record { starts = startOf-zero base (chunksFrom f base); inside = omega arith }
 
--- the same by the numbers that the code has read
-module _ (profile : ℕ) (f : List ℕ) (base p u x : ℕ) (eu : u ≡ usageAt f p) where
-  pub by-12 : usageOf u ≡ Unknown → Fault 12 p ≡ judgedBy (entryFault profile f base p) (startAt f p)
-  by-12 e = judge-12 profile f base p (rw eu at e)
-
-  module _ (k : Usage) (e : usageOf u ≡ Is k) (ex : x ≡ startAt f p) where
-    module _ (b : isStart x base (chunksFrom f base) ≡ true) where
-      pub by-14 : typedAt profile f (codeOf k) x ≡ false → Fault 14 p ≡ judgedBy (entryFault profile f base p) (startAt f p)
-      by-14 h = judge-14 profile f base p k (rw eu at e) (rw ex at b) (rw ex at h)
-
-      module _ (t : typedAt profile f (codeOf k) x ≡ true) (n : ℕ) (en : n ≡ numberAt f p) where
-        pub by-15 : not (eqb u (codeOf Exec)) || eqb n 0 ≡ false → Fault 15 (p + 4) ≡ judgedBy (entryFault profile f base p) (startAt f p)
-        by-15 h = judge-15 profile f base p k (rw eu at e) (rw ex at b) (rw ex at t) (rw (eu, en) at h)
-
-        pub by-good : not (eqb u (codeOf Exec)) || eqb n 0 ≡ true → At x ≡ judgedBy (entryFault profile f base p) (startAt f p)
-        by-good h = ap At ex ∙ judge-good profile f base p k (rw eu at e) (rw ex at b) (rw ex at t) (rw (eu, en) at h)
-
--- a pair as one number
-key-go : (a b c : Bool) (u n v m : ℕ) → n < 4294967296 → m < 4294967296
-    → eqb (u * 4294967296 + n) (v * 4294967296 + m) ≡ a → eqb u v ≡ b → eqb n m ≡ c → a ≡ b && c
-key-go true true true u n v m hn hm x y z = refl
-key-go true true false u n v m hn hm x y z =
-    let p : u * 4294967296 + n ≡ v * 4294967296 + m = eqb-true _ _ x in let q : u ≡ v = eqb-true _ _ y in let r : n ≡ m → ⊥ = eqb-false _ _ z in
-    absurd (r (omega arith))
-key-go true false c u n v m hn hm x y z =
-    let p : u * 4294967296 + n ≡ v * 4294967296 + m = eqb-true _ _ x in let q : u ≡ v → ⊥ = eqb-false _ _ y in absurd (q (omega arith))
-key-go false true true u n v m hn hm x y z =
-    let p : u * 4294967296 + n ≡ v * 4294967296 + m → ⊥ = eqb-false _ _ x in let q : u ≡ v = eqb-true _ _ y in let r : n ≡ m = eqb-true _ _ z in
-    absurd (p (omega arith))
-key-go false true false u n v m hn hm x y z = refl
-key-go false false c u n v m hn hm x y z = refl
-
-pub key-same : (u n v m : ℕ) → n < 4294967296 → m < 4294967296 → eqb (u * 4294967296 + n) (v * 4294967296 + m) ≡ eqb u v && eqb n m
-key-same u n v m hn hm = key-go _ _ _ u n v m hn hm refl refl refl
-
 -- an entry that is not below the top of its usage repeats no pair
 differ : (a b : Bool) (u n v m : ℕ) → eqb u v ≡ a → eqb n m ≡ b → (u ≡ v → n < m) → a && b ≡ false
 differ true true u n v m x y h = let p : n < m = h (eqb-true _ _ x) in let q : n ≡ m = eqb-true _ _ y in absurd (omega arith)
@@ -329,26 +277,23 @@ topped f tops j k b q i h e = rw (q, ← e) (b i h)
 pub below-next : (f tops : List ℕ) (j k r : ℕ) → Below f tops j → k ≡ slotOf (usageAt f (place j)) → k < length tops → numberAt f (place j) < r
     → getD tops k 0 ≤ r
     → Below f (set tops k r) (j + 1)
-below-next f tops j k r b q l hn ht i h = go (eqb (slotOf (usageAt f (place i))) k) refl (eqb i j) refl
+below-next f tops j k r b q l hn ht i h = go (same? (slotOf (usageAt f (place i))) k) (same? i j)
   where
     x : ℕ
     x = slotOf (usageAt f (place i))
 
-    go : (c : Bool) → eqb x k ≡ c → (d : Bool) → eqb i j ≡ d → numberAt f (place i) < getD (set tops k r) x 0
-    go true e true g =
-        let p : i ≡ j = eqb-true _ _ g in
-        rw (eqb-true x k e, getD-set-same tops k r 0 l, p) hn
-    go true e false g =
-        let p : i ≡ j → ⊥ = eqb-false _ _ g in
-        let w : numberAt f (place i) < getD tops k 0 = rw (← (eqb-true x k e)) (b i (omega arith)) in
-        rw (eqb-true x k e, getD-set-same tops k r 0 l) (omega arith)
-    go false e true g = let p : i ≡ j = eqb-true _ _ g in absurd (eqb-false x k e (ap (λ (z : ℕ). slotOf (usageAt f (place z))) p ∙ sym q))
-    go false e false g = let p : i ≡ j → ⊥ = eqb-false _ _ g in rw (getD-set-other tops k x r 0 (eqb-false x k e)) (b i (omega arith))
+    go : (x ≡ k) ⊎ (x ≡ k → ⊥) → (i ≡ j) ⊎ (i ≡ j → ⊥) → numberAt f (place i) < getD (set tops k r) x 0
+    go (inl e) (inl p) = rw (e, getD-set-same tops k r 0 l, p) hn
+    go (inl e) (inr p) =
+        let w : numberAt f (place i) < getD tops k 0 = rw (← e) (b i (omega arith)) in
+        rw (e, getD-set-same tops k r 0 l) (omega arith)
+    go (inr e) (inl p) = absurd (e (ap (λ (z : ℕ). slotOf (usageAt f (place z))) p ∙ sym q))
+    go (inr e) (inr p) = rw (getD-set-other tops k x r 0 e) (b i (omega arith))
 
 -- tops that are above the number of entry j already
 pub below-same : (f tops : List ℕ) (j k : ℕ) → Below f tops j → k ≡ slotOf (usageAt f (place j)) → numberAt f (place j) < getD tops k 0 → Below f tops (j + 1)
-below-same f tops j k b q l i h = go (eqb i j) refl
+below-same f tops j k b q l i h = go (same? i j)
   where
-    go : (d : Bool) → eqb i j ≡ d → numberAt f (place i) < getD tops (slotOf (usageAt f (place i))) 0
-    go true g = rw (eqb-true i j g, ← q) l
-    go false g = let p : i ≡ j → ⊥ = eqb-false _ _ g in b i (omega arith)
+    go : (i ≡ j) ⊎ (i ≡ j → ⊥) → numberAt f (place i) < getD tops (slotOf (usageAt f (place i))) 0
+    go (inl p) = rw (p, ← q) l
+    go (inr p) = b i (omega arith)

@@ -2,7 +2,7 @@
 use mathlib.Core.Path.{_≡_, refl, sym, ap, _∙_}
 use Prim.Native.Nat.{ℕ, zero, suc, _+_, _*_, _-_, _≤_, _<_}
 use mathlib.Core.List.{List, [], _∷_, _++_, map}
-use mathlib.Core.Bool.{Bool, true, false, cond, _&&_, _||_, not}
+use mathlib.Core.Bool.{Bool, true, false, cond, _&&_, _||_, not, or-true, or-false}
 use native.Mathlib.Omega.{arith}
 use native.Mathlib.Numerals.{add-one}
 use native.Mathlib.Nat.{not-suc-le-zero, le-of-suc-le-suc}
@@ -20,11 +20,12 @@ use Rattle.chunks.proofs.ChunkLaws.{fine, walk-behind}
 use Rattle.chunks.proofs.StartLaws.{begun}
 use Rattle.blorb.proofs.Checks.{pass, stop, holds-last, fails-last, then-accept, check-accept, and-both}
 use Rattle.index.specs.Entries.{usageAt, numberAt, startAt, place, pairPlace}
-use Rattle.blorb.proofs.UsageLaws.{rd32-take, or-false}
+use Rattle.blorb.proofs.UsageLaws.{rd32-take}
 use Rattle.index.proofs.EntryLaws.{pair-snoc}
 use Rattle.index.specs.declared.entries.Hit.the-variants.{At, Nothing}
 use Rattle.index.specs.Hits.{hitIn, pickHit}
 use Rattle.index.specs.Optional.{pictureBy, EntriesPassed}
+pub use Rattle.blorb.proofs.Accept.{length-entriesIn}
 
 -- parts of parts
 pub drop-take : (n k m : ℕ) (s : List ℕ) → k ≡ n + m → drop n (take k s) ≡ take m (drop n s)
@@ -48,11 +49,6 @@ entries-take (suc n) k s h =
     let r : entriesIn n (drop 12 (take k s)) ≡ entriesIn n (drop 12 s)
     = ap (entriesIn n) (drop-take 12 k (k - 12) s (omega arith)) ∙ entries-take n (k - 12) (drop 12 s) (omega arith) in
     λ i. entry-take k s (omega arith) i ∷ r i
-
-pub length-entriesIn : (n : ℕ) (s : List ℕ) → length (entriesIn n s) ≡ n
-unfolding entriesIn
-length-entriesIn zero s = refl
-length-entriesIn (suc n) s = ap suc (length-entriesIn n (drop 12 s))
 
 pub body-word : (f : List ℕ) (x : ℕ) → 4 ≤ rd32 (drop (x + 4) f) → rd32 (chunkFrom f x .body) ≡ rd32 (drop (x + 8) f)
 unfolding chunkIn
@@ -205,10 +201,6 @@ module _ (f : List ℕ) (u n count i : ℕ) (e : i ≡ pairPlace u n (entriesIn 
 
   pub find-none : count ≤ i → Nothing ≡ hitIn u n (entriesIn count (drop 24 f))
   find-none h = sym (place-none u n (entriesIn count (drop 24 f)) (rw (length-entriesIn count (drop 24 f)) (omega arith)))
-
-or-true : (b : Bool) → b || true ≡ true
-or-true true = refl
-or-true false = refl
 
 -- what the acceptance of entries tells of the first of them
 module _ (R : Rules) (f : List ℕ) (base : ℕ) (w : walkFrom f base ≡ accept) where

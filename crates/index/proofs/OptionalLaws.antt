@@ -2,7 +2,7 @@
 use mathlib.Core.Path.{_≡_, refl, sym, ap, _∙_}
 use Prim.Native.Nat.{ℕ, _+_, _≤_, _<_}
 use mathlib.Core.List.{List, [], _∷_, _++_, map}
-use mathlib.Core.Bool.{Bool, true, false, cond, _||_}
+use mathlib.Core.Bool.{Bool, true, false, cond, _||_, or-assoc, or-false}
 use native.Mathlib.Omega.{arith}
 use lib.ListN.{length, drop}
 use lib.Dec.{eqb}
@@ -17,7 +17,6 @@ use Rattle.chunks.specs.Ordinary.{ordinaryType, allOrdinary}
 use Rattle.chunks.proofs.ChunkLaws.{ordinary-not, fine, chunks-end}
 use Rattle.blorb.proofs.Checks.{pass, stop, holds-last, fails-last, accepts, refuses, then-accept, check-accept, and-both}
 use Rattle.index.specs.Entries.{place}
-use Rattle.blorb.proofs.UsageLaws.{or-assoc, or-false}
 use Rattle.index.specs.declared.entries.Hit.the-variants.{At, Nothing}
 use Rattle.index.specs.Hits.{hitIn}
 use Rattle.index.specs.Optional.{pictured, singleBy, oneRule, rulesFrom, optionalFault}

@@ -18,9 +18,9 @@ use Rattle.blorb.specs.Queries.{find}
 use Rattle.blorb.specs.All.{All}
 use Rattle.blorb.specs.Sound.{W, Sound}
 use Rattle.blorb.specs.Bytes.{Byte}
-use Rattle.blorb.proofs.Checks.{then-accept}
+use Rattle.blorb.proofs.Checks.{then-accept, then-assoc}
 use Rattle.blorb.proofs.Accept.{accept-back}
-use Rattle.edits.proofs.AddVerdict.{then-assoc, added-verdict}
+use Rattle.edits.proofs.AddVerdict.{added-verdict}
 use Rattle.blorb.proofs.VerdictLaws.{modelFault, inOrder, verdict-file, file-judged, file-ordered}
 use Rattle.edits.proofs.EditsKeepOrder.{added-in-order}
 use Rattle.edits.proofs.FitLaws.{added-sound}
@@ -32,9 +32,10 @@ use Rattle.reader.specs.declared.Target.the-variants as target
 use Rattle.reader.specs.Inspecting.{targetOf}
 use Rattle.judging.specs.Told.{Counted}
 use Rattle.judging.proofs.OpenLaws.{target-at, target-nothing}
-use Rattle.edits.proofs.FaultLaws.{hundred-then, hundred-check, unlooked, pair-found}
+use Rattle.edits.proofs.FaultLaws.{hundred-then, hundred-check, unlooked}
 use Rattle.edits.proofs.RuleSeven.{allowed-plain, optional-added}
 use Rattle.blorb.proofs.Parts.{file-length, size-of}
+use Rattle.blorb.proofs.FindLaws.{pair-found}
 
 -- the judgement of the file after an add, as the code makes it: l and k are the old file's length and count, b says that the pair is there
 unfoldable addJudged : (profile : ℕ) → ℕ → ℕ → Bool → ℕ → ℕ → ℕ → List ℕ → Verdict

@@ -6,7 +6,7 @@ use mathlib.Core.Bool.{Bool, true, false, cond, _&&_, not}
 use native.Mathlib.Omega.{arith}
 use native.Mathlib.Nat.{le-of-suc-le-suc, not-suc-le-zero}
 use lib.ListN.{length, getD, take, drop, length-map}
-use lib.Dec.{eqb, leb, ltb}
+use lib.Dec.{eqb, ltb}
 use borrow.Author.Tests.{ne-eqb, eqb-false, le-leb, lt-ltb, le-ltb, ltb-true, ltb-false}
 use Rattle.blorb.specs.Format.{Ref, Chunk, size, total}
 use Rattle.blorb.specs.Verdict.{Verdict, accept, refuse, check, noChunk, secondIndex, verdict}
@@ -25,7 +25,7 @@ use Rattle.edits.proofs.UndoLaws.{length-without, length-remaining}
 use Rattle.blorb.proofs.VerdictLaws.{refsFault, modelFault, verdict-file, file-judged, file-ordered}
 use Rattle.edits.proofs.EditsKeepOrder.{edits-keep-order}
 use Rattle.edits.proofs.RemoveVerdict.{refs-removed, refs-without}
-use Rattle.edits.proofs.FitLaws.{edit-sound, find-pair}
+use Rattle.edits.proofs.FitLaws.{edit-sound}
 use Rattle.edits.specs.Starts.{fallen}
 use Rattle.edits.specs.GoneSize.{goneSize}
 use Rattle.edits.proofs.Starts.{fell}
@@ -36,12 +36,13 @@ use Rattle.reader.specs.declared.Front.the-variants as front
 use Rattle.reader.specs.Inspecting.{frontOf}
 use Rattle.judging.proofs.OpenLaws.{front-nothing, front-at}
 use Rattle.edits.proofs.Lengths.{length-removed}
-use Rattle.edits.proofs.RemoveJudged.{second-without, picture-lower, picture-without}
-use Rattle.edits.proofs.JudgedLaws.{chunk-plain, chunk-in, Parts, model-parts}
+use Rattle.edits.proofs.RemoveJudged.{second-without, picture-lower, picture-without, unlisted-length}
+use Rattle.edits.proofs.JudgedLaws.{chunk-plain, Parts, model-parts}
 use Rattle.edits.proofs.RuleSeven.{Plain}
 use Rattle.edits.proofs.FrontLaws.{like-self, like-without, optional-like, front-picture}
 use Rattle.edits.proofs.ReadBack.{same}
-use Rattle.blorb.proofs.Parts.{file-length}
+use Rattle.blorb.proofs.FindLaws.{find-pair}
+use Rattle.blorb.proofs.ModelLaws.{chunk-in}
 
 not-flip : (x y : Bool) → not x ≡ y → x ≡ not y
 not-flip true y e = ap not e
@@ -192,10 +193,7 @@ module _ (profile : ℕ) (m : Model) (i u n : ℕ) (s : Sound m) (ok : modelFaul
       go : (b : Bool) → shared m i ≡ b → length (file (cond b (removedEntry m i) (removedBoth m i (refAt m i .chunk)))) + (12 + cond b 0
           (size (chunkAt m (refAt m i .chunk)))) ≡ length (file m)
       go false e = omega (arith, length-removed m i (refAt m i .chunk) h there)
-      go true e = entry-length
-        where
-          entry-length : length (file (removedEntry m i)) + 12 ≡ length (file m)
-          entry-length = rw (file-length (removedEntry m i), file-length m) (unfold removedEntry in omega (arith, length-without i rs h))
+      go true e = unlisted-length m i h
 
 pub hundred-front : (b t : Bool) (p : ℕ) → hundred (cond b (check t 19 p) accept) ≡ cond b (check t 119 p) accept
 unfolding check

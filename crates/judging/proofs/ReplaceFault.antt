@@ -18,17 +18,18 @@ use Rattle.blorb.specs.Queries.{find, refAt, chunkAt, shared, start, frontPlace
 use Rattle.blorb.specs.All.{All}
 use Rattle.blorb.specs.Sound.{W, Sound}
 use Rattle.blorb.specs.Bytes.{Byte}
-use Rattle.blorb.proofs.Checks.{then-accept, check-accept, pass}
+use Rattle.blorb.proofs.Checks.{then-accept, check-accept, pass, then-end}
 use Rattle.blorb.proofs.Accept.{accept-back}
-use Rattle.edits.proofs.AddVerdict.{second-any, then-end}
+use Rattle.edits.proofs.AddVerdict.{second-any}
 use Rattle.blorb.proofs.VerdictLaws.{refsFault, modelFault, verdict-file, file-judged, file-ordered}
 use Rattle.edits.proofs.ReplaceVerdict.{refs-replaced}
-use Rattle.edits.proofs.FitLaws.{replaced-sound, find-pair}
+use Rattle.edits.proofs.FitLaws.{replaced-sound}
 use Rattle.edits.specs.Starts.{behind}
 use Rattle.edits.proofs.Starts.{shifted}
 use Rattle.edits.proofs.Lengths.{length-replaced}
-use Rattle.blorb.proofs.ModelLaws.{size-getD}
+use Rattle.blorb.proofs.ModelLaws.{size-getD, chunk-in}
 use Rattle.blorb.proofs.Parts.{file-length, size-of}
+use Rattle.blorb.proofs.FindLaws.{find-pair}
 use Rattle.edits.specs.Run.{hundred}
 use Rattle.reader.specs.declared.Piece.{Piece}
 use Rattle.reader.specs.declared.Front.{Front}
@@ -37,11 +38,11 @@ use Rattle.reader.specs.Inspecting.{frontOf}
 use Rattle.judging.proofs.OpenLaws.{shared-is, front-nothing, front-at}
 use Rattle.judging.specs.Told.{Own}
 use Rattle.edits.proofs.RuleSeven.{Plain, allowed-plain}
-use Rattle.edits.proofs.FrontLaws.{optional-replaced}
-use Rattle.edits.proofs.JudgedLaws.{chunk-plain, chunk-in, Parts, model-parts}
+use Rattle.edits.proofs.JudgedLaws.{chunk-plain, Parts, model-parts}
 use Rattle.judging.proofs.RemoveFault.{hundred-front}
 use Rattle.edits.proofs.FaultLaws.{hundred-then, hundred-check}
 use Rattle.edits.proofs.FitFacts.{size-is}
+use Rattle.edits.proofs.FrontPicture.{optional-replaced}
 
 -- a second index: only the new chunk can be one
 second-set : (at at′ : ℕ) (cs : List Chunk) (k : ℕ) (c : Chunk) → k < length cs → secondIndex at cs ≡ accept → secondIndex at′ (set cs k c) ≡ check

@@ -1,48 +1,31 @@
 -- An accepted file's index in its bytes: the pair and the start that stand in entry i are the model's. And the search for a pair, step by step.
 use mathlib.Core.Path.{_≡_, refl, sym, ap, _∙_}
-use Prim.Native.Nat.{ℕ, zero, suc, _+_, _*_, _≤_, _<_}
-use mathlib.Core.List.{List, [], _∷_, _++_, map}
+use Prim.Native.Nat.{ℕ, suc, _+_, _*_, _≤_, _<_}
+use mathlib.Core.List.{List}
 use mathlib.Core.Bool.{Bool, true, false, cond, _&&_}
 use native.Mathlib.Omega.{arith}
-use lib.ListN.{length, getD, drop, drop-of-length-le, length-map}
-use lib.Seq.{drop-at, drop-drop, drop-cons}
+use lib.ListN.{length, drop, drop-of-length-le}
+use lib.Seq.{drop-drop, drop-cons}
 use lib.Dec.{eqb}
 use Rattle.blorb.specs.Bytes.{rd32, Byte}
 use Rattle.blorb.specs.All.{All}
-use Rattle.blorb.specs.Format.{Ref, Chunk, Entry, entryIn, entriesBytes, chunksBytes, total}
-use Rattle.blorb.specs.Layout.{heading}
-use Rattle.blorb.specs.Model.{Model, base, entryOf, model, file}
+use Rattle.blorb.specs.Format.{Ref, Entry, entryIn}
+use Rattle.blorb.specs.Model.{Model, entryOf, model, file}
 use Rattle.blorb.specs.Queries.{find, noRef, refAt, start}
 use Rattle.blorb.specs.Sound.{W, Sound}
-use Rattle.blorb.proofs.Codec.{entry-in}
-use Rattle.blorb.proofs.ModelLaws.{entries, entries-ok}
-use Rattle.blorb.proofs.Parts.{file-parts, length-heading, start-in}
+use Rattle.blorb.proofs.ModelLaws.{entries}
+use Rattle.blorb.proofs.Parts.{start-in, index-entry}
 use Rattle.edits.proofs.UndoJudged.{AcceptedFile, accepted-facts}
 use Rattle.undoing.specs.UndoPlan.{startIn}
 use Rattle.linking.specs.Original.{Indexed}
-
-entry-of : (at : ℕ) (cs : List Chunk) (rs : List Ref) (i : ℕ) → getD (map (entryOf at cs) rs) i (entryOf at cs noRef) ≡ entryOf at cs (getD rs i noRef)
-entry-of at cs [] i = refl
-entry-of at cs (r ∷ rs) zero = refl
-entry-of at cs (r ∷ rs) (suc i) = entry-of at cs rs i
 
 -- usage and number in entry i
 pair-in : (m : Model) (i : ℕ) → Sound m → length (file m) < W → i < length (m .refs)
     → (rd32 (drop (24 + 12 * i) (file m)) ≡ refAt m i .usage) × (rd32 (drop (24 + 12 * i + 4) (file m)) ≡ refAt m i .number)
 unfolding entryIn entryOf
 pair-in m i s small h =
-    let F : List ℕ = heading (length (m .refs)) (total (m .chunks)) in
-    let X : List ℕ = entriesBytes (entries m) ++ chunksBytes (m .chunks) in
-    let at : ℕ = base (length (m .refs)) in
-    let d : drop (24 + 12 * i) (file m) ≡ drop (12 * i) X
-    = ap (drop (24 + 12 * i)) (file-parts m) ∙ sym (drop-drop (12 * i) 24 (F ++ X))
-    ∙ ap (drop (12 * i)) (drop-at F X 24 (length-heading (length (m .refs)) (total (m .chunks)))) in
-    let e : entryIn (drop (12 * i) X) ≡ entryOf at (m .chunks) (refAt m i)
-    = entry-in (entries m) i (entryOf at (m .chunks) noRef) (chunksBytes (m .chunks)) (entries-ok m s small) (simp length-map h) ∙ entry-of at (m .chunks)
-    (m .refs) i in (
-      ap rd32 d ∙ ap (λ (y : Entry). y .usage) e,
-      ap rd32 (sym (drop-drop 4 (24 + 12 * i) (file m)) ∙ ap (drop 4) d) ∙ ap (λ (y : Entry). y .number) e,
-    )
+    let e = index-entry m i s small h in
+    (ap (λ (y : Entry). y .usage) e, ap rd32 (sym (drop-drop 4 (24 + 12 * i) (file m))) ∙ ap (λ (y : Entry). y .number) e)
 
 module _ (f : List ℕ) (k : ℕ) (a : Indexed f k) (bytes : All Byte f) where
   pub facts : AcceptedFile (a .profile) f

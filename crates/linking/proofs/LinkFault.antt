@@ -17,9 +17,10 @@ use Rattle.blorb.specs.All.{All}
 use Rattle.blorb.specs.Sound.{W, Sound}
 use Rattle.blorb.specs.Bytes.{rd32, Byte}
 use Rattle.blorb.proofs.VerdictLaws.{modelFault, inOrder, verdict-file}
+use Rattle.blorb.proofs.FindLaws.{pair-found}
 use Rattle.edits.specs.Edit.{linkPlace, linked}
 use Rattle.edits.specs.Run.{hundred}
-use Rattle.edits.proofs.FaultLaws.{hundred-then, hundred-check, pair-found}
+use Rattle.edits.proofs.FaultLaws.{hundred-then, hundred-check}
 use Rattle.edits.proofs.FitLaws.{linked-sound}
 use Rattle.edits.proofs.EditsKeepOrder.{linked-in-order}
 use Rattle.edits.proofs.LinkLaws.{linked-length}

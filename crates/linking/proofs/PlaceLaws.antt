@@ -8,8 +8,8 @@ use Rattle.blorb.specs.Bytes.{Byte}
 use Rattle.blorb.specs.All.{All}
 use Rattle.blorb.specs.Model.{model}
 use Rattle.blorb.specs.Queries.{refAt, start}
+use Rattle.blorb.proofs.ModelLaws.{chunk-in}
 use Rattle.edits.specs.Edit.{linkPlace}
-use Rattle.edits.proofs.JudgedLaws.{chunk-in}
 use Rattle.edits.proofs.LinkLaws.{link-here}
 use Rattle.reader.specs.declared.Piece.{Piece}
 use Rattle.undoing.specs.UndoPlan.{startIn}

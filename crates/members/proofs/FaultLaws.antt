@@ -8,19 +8,15 @@ use lib.ListN.{getD}
 use lib.Dec.{eqb, leb, ltb}
 use borrow.Author.Tests.{le-leb, lt-leb, leb-true, eq-eqb, ne-eqb, eqb-true, lt-ltb, le-ltb, ltb-true, ltb-false, not-true, not-false}
 use Rattle.blorb.specs.Verdict.{accept, refuse, _then_}
-use Rattle.blorb.proofs.Checks.{then-accept, check-accept, pass, stop, holds-last, fails-last, and-both}
+use Rattle.blorb.proofs.Checks.{then-accept, check-accept, pass, stop, holds-last, fails-last, and-both, neither}
 use Rattle.members.specs.declared.Kind.the-variants.{Form, Plain}
 use Rattle.members.specs.declared.Place.{Place}
 use Rattle.members.specs.Kinds.{nests, isPlain, mayHold}
 use Rattle.members.specs.Faults.{kindAt, sizeAt, endAt, nextAt, fits, padded, memberFault}
 
-or-false : (a b : Bool) → a || b ≡ true → a ≡ false → b ≡ true
-or-false true b e z = let y : _≡_ {A = ℕ} 0 1 = cc in absurd (omega arith)
-or-false false b e z = e
-
-neither : (a b : Bool) → a || b ≡ false → (a ≡ false) × (b ≡ false)
-neither true b e = let y : _≡_ {A = ℕ} 0 1 = cc in absurd (omega arith)
-neither false b e = (refl, e)
+or-other : (a b : Bool) → a || b ≡ true → a ≡ false → b ≡ true
+or-other true b e z = let y : _≡_ {A = ℕ} 0 1 = cc in absurd (omega arith)
+or-other false b e z = e
 
 -- 41, by facts on the numbers
 module _ (f : List ℕ) (end at m : ℕ) (e : m ≡ sizeAt f at) where
@@ -65,7 +61,7 @@ unfolding fits
 fits-facts f end at e =
     let a = and-both (leb (at + 8) end) _ e in
     let b = and-both (leb (endAt f at) end) _ (a .1) in
-    (leb-true _ _ (a .0), leb-true _ _ (b .0), λ z. leb-true 4 (sizeAt f at) (or-false (isPlain (kindAt f at)) _ (b .1) z))
+    (leb-true _ _ (a .0), leb-true _ _ (b .0), λ z. leb-true 4 (sizeAt f at) (or-other (isPlain (kindAt f at)) _ (b .1) z))
 
 -- the faults of one chunk, in their order
 module _ (f : List ℕ) (p : Place) (depth end at : ℕ) where
@@ -132,7 +128,7 @@ pad-next m e end x l h = go (eqb (m % 2) 0) refl
   where
     go : (b : Bool) → eqb (m % 2) 0 ≡ b → e + m % 2 ≤ end
     go true q = let z : m % 2 ≡ 0 = eqb-true _ _ q in omega arith
-    go false q = let k : e < end = ltb-true _ _ (and-both (ltb e end) x (or-false _ _ h q) .0) in omega arith
+    go false q = let k : e < end = ltb-true _ _ (and-both (ltb e end) x (or-other _ _ h q) .0) in omega arith
 
 pub good-facts : (f : List ℕ) (p : Place) (depth end at : ℕ) → memberFault f p depth end at ≡ accept → Good f p depth end at
 unfolding memberFault padded

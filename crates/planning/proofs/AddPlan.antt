@@ -5,9 +5,7 @@ use mathlib.Core.List.{List}
 use mathlib.Core.Bool.{true, false, _&&_, _||_, not}
 use native.Mathlib.Omega.{arith}
 use lib.ListN.{length, take}
-use lib.Seq.{length-take-le}
 use lib.Dec.{eqb, leb}
-use borrow.Author.Tests.{leb-true}
 use Rattle.blorb.specs.Verdict.{Verdict, accept, refuse, _then_, check, verdict}
 use Rattle.blorb.specs.Tags.{FORM}
 use Rattle.blorb.specs.Rules.{rulesOf}
@@ -18,10 +16,9 @@ use Rattle.edits.specs.Journal.{recOf}
 use Rattle.edits.proofs.JournalLaws.{length-recBytes}
 use Rattle.blorb.specs.All.{All}
 use Rattle.blorb.specs.Bytes.{Byte}
-use Rattle.blorb.proofs.Checks.{then-accept, check-accept, accepts, holds-last}
-use Rattle.blorb.proofs.Accept.{accept-short}
+use Rattle.blorb.proofs.Checks.{holds-last}
 use Rattle.edits.proofs.Lengths.{length-added, size-given}
-use Rattle.edits.specs.Run.{hundred, wholeFault, targetFault, editFault, editedFile, editRecord}
+use Rattle.edits.specs.Run.{hundred, wholeFault, targetFault, editedFile, editRecord}
 use Rattle.judging.specs.declared.Outcome.{Outcome}
 use Rattle.judging.specs.declared.Outcome.the-variants as outcome
 use Rattle.planning.specs.declared.Plan.the-variants.{Go, No}
@@ -31,10 +28,10 @@ use Rattle.reader.specs.Inspecting.{targetOf}
 use Rattle.judging.specs.Outcomes.{verdictOf}
 use Rattle.judging.specs.Told.{Counted}
 use Rattle.rewrite.specs.Rewriting.{Stands}
+use Rattle.rewrite.proofs.Writes.{stands-length}
 use Rattle.planning.specs.Plans.{editRefusal, planOf}
 use Rattle.judging.proofs.OpenLaws.{asked, asked-refused, asked-whole}
-use Rattle.edits.proofs.RunLaws.{hundred-accept}
-use Rattle.planning.proofs.PlanLaws.{plan-go, open-stands, opened-fine, stands-counted, edit-unopened, edit-off-target, edit-told}
+use Rattle.planning.proofs.PlanLaws.{plan-go, open-stands, opened-fine, stands-counted, edit-unopened, edit-off-target, edit-told, unrefused}
 
 module _ (profile : ℕ) (b : List ℕ) (l J U u n t : ℕ) (d : List ℕ) (bytes : All Byte (take l b)) where
   abbrev pub f : List ℕ
@@ -64,7 +61,7 @@ module _ (profile : ℕ) (b : List ℕ) (l J U u n t : ℕ) (d : List ℕ) (byte
   unfolding editedFile edited
   add-length h =
       let st = open-stands profile b l U J K bytes h refl in
-      let lf : length (file (model f)) ≡ l = ap length (st .0 .whole) ∙ length-take-le l b (st .0 .inside) in
+      let lf : length (file (model f)) ≡ l = stands-length b l K (st .0) in
       length-added (model f) u n (givenChunk t d) ∙ omega (arith, size-given t d)
 
   pub plan-unopened : (x k p : ℕ) → asked profile b l J U u n x ≡ Refused k p → No k p ≡ planOf Vd K
@@ -128,28 +125,16 @@ module _ (profile : ℕ) (b : List ℕ) (l J U u n t : ℕ) (d : List ℕ) (byte
     pub new-record : 29 ≡ length (editRecord f E)
 
   pub ready : (k : ℕ) → planOf Vd K ≡ Go k → Ready k
-  unfolding editFault
   ready k e =
       let q = plan-go Vd K k e in
-      let h0 = then-accept _ _ (q .0) in
-      let h1 = then-accept _ _ (h0 .1) in
-      let h2 = then-accept _ _ (h1 .1) in
-      let h3 = then-accept _ _ (h2 .1) in
-      let h4 = then-accept _ _ (h3 .1) in
-      let h5 = then-accept _ _ (h4 .1) in
-      let o : O ≡ accept = accepts _ _ (h0 .0) ∙ accepts _ _ (h1 .0) ∙ h2 .0 in
-      let room : length (editedFile f E) ≤ length b = leb-true _ _ (check-accept _ _ _ (h5 .0)) in
-      let jr : U + length (editRecord f E) ≤ J = leb-true _ _ (check-accept _ _ _ (h5 .1)) in
-      let sh = accept-short (rulesOf profile) (editedFile f E) (hundred-accept _ (h4 .0)) in
-      let len = add-length o in
-      let r29 = record-29 in
+      let told = unrefused profile (length b) J f l U E (q .0) in
+      let len = add-length (told .opened) in
       record {
-        stands = open-stands profile b l U J k bytes o (q .1) .0;
-        room = omega arith;
-        short = omega arith;
-        journal-room = omega arith;
-        fine =
-            q .0;
+        stands = open-stands profile b l U J k bytes (told .opened) (q .1) .0;
+        room = omega (arith, told .room);
+        short = omega (arith, told .short);
+        journal-room = omega (arith, told .journal-room, record-29);
+        fine = q .0;
         new-length = sym len;
-        new-record = sym r29;
+        new-record = sym record-29;
       }

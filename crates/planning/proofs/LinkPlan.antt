@@ -6,18 +6,17 @@ use mathlib.Core.Bool.{_&&_}
 use native.Mathlib.Omega.{arith}
 use lib.ListN.{length, take}
 use lib.Dec.{leb}
-use borrow.Author.Tests.{leb-true, lt-ltb, ltb-true}
+use borrow.Author.Tests.{lt-ltb, ltb-true}
 use Rattle.blorb.specs.Verdict.{Verdict, accept, refuse, _then_, check, verdict}
 use Rattle.blorb.specs.Rules.{rulesOf}
 use Rattle.blorb.specs.Model.{Model, model, file}
 use Rattle.blorb.specs.Queries.{find, refAt, start}
 use Rattle.blorb.specs.All.{All}
 use Rattle.blorb.specs.Bytes.{Byte}
-use Rattle.blorb.proofs.Checks.{then-accept, check-accept, accepts, holds-last}
-use Rattle.blorb.proofs.Accept.{accept-short}
+use Rattle.blorb.proofs.Checks.{check-accept, holds-last}
 use Rattle.edits.specs.Edit.{Edit, link, linkPlace, linked, edited}
 use Rattle.edits.specs.Journal.{recOf}
-use Rattle.edits.specs.Run.{hundred, targetFault, editFault, editedFile, editRecord}
+use Rattle.edits.specs.Run.{hundred, targetFault, editedFile, editRecord}
 use Rattle.edits.proofs.JournalLaws.{length-recBytes}
 use Rattle.edits.proofs.LinkLaws.{linked-length}
 use Rattle.reader.specs.declared.Piece.{Piece}
@@ -32,8 +31,7 @@ use Rattle.judging.proofs.OpenLaws.{asked, asked-refused, place-is, start-is}
 use Rattle.linking.specs.Original.{Original}
 use Rattle.planning.specs.declared.Linking.the-variants.{Join, Stay}
 use Rattle.planning.specs.Plans.{editRefusal, linkingOf}
-use Rattle.edits.proofs.RunLaws.{hundred-accept}
-use Rattle.planning.proofs.PlanLaws.{opened-fine, stands-as, stands-counted, edit-unopened, edit-off-target, edit-told}
+use Rattle.planning.proofs.PlanLaws.{opened-fine, stands-as, stands-counted, edit-unopened, edit-off-target, edit-told, unrefused}
 use Rattle.planning.proofs.RemovePlan.{Found, Told}
 use Rattle.planning.proofs.RemovePlan as original
 
@@ -153,24 +151,23 @@ module _ (profile : ℕ) (b : List ℕ) (l J U v o u n : ℕ) (bytes : All Byte 
     pub journal-room : U + 29 ≤ J
 
   pub ready : (k y x : ℕ) → linkingOf Vd m v o ≡ Join k y x → Ready k y x
-  unfolding editFault targetFault
+  unfolding targetFault
   ready k y x e =
       let w : Vd ≡ accept = go Vd e in
-      let h0 = then-accept _ _ w in
-      let h1 = then-accept _ _ (h0 .1) in
-      let h2 = then-accept _ _ (h1 .1) in
-      let h3 = then-accept _ _ (h2 .1) in
-      let h4 = then-accept _ _ (h3 .1) in
-      let h5 = then-accept _ _ (h4 .1) in
-      let opened : O ≡ accept = accepts _ _ (h0 .0) ∙ accepts _ _ (h1 .0) ∙ h2 .0 in
-      let there : There = original.found profile b l J U v o bytes opened (ltb-true _ _ (check-accept _ _ _ (h3 .0))) in
-      let room : length (editedFile f E) ≤ length b = leb-true _ _ (check-accept _ _ _ (h5 .0)) in
-      let jr : U + length (editRecord f E) ≤ J = leb-true _ _ (check-accept _ _ _ (h5 .1)) in
-      let sh = accept-short (rulesOf profile) (editedFile f E) (hundred-accept _ (h4 .0)) in
+      let told = unrefused profile (length b) J f l U E w in
+      let there : There = original.found profile b l J U v o bytes (told .opened) (ltb-true _ _ (check-accept _ _ _ (told .on-target))) in
       let len = link-length there in
-      let r29 = record-29 in
       let q : Join K (linkPlace kc (m .refs)) (start m kc) ≡ Join k y x = ap (λ (z : Verdict). linkingOf z m v o) (sym w) ∙ e in
-      record { fine = w; found = there; count-is = cc; place-is = cc; start-is = cc; room = omega arith; short = omega arith; journal-room = omega arith }
+      record {
+        fine = w;
+        found = there;
+        count-is = cc;
+        place-is = cc;
+        start-is = cc;
+        room = omega (arith, told .room);
+        short = omega (arith, told .short);
+        journal-room = omega (arith, told .journal-room, record-29);
+      }
     where
       go : (w : Verdict) → linkingOf w (model (take l b)) v o ≡ Join k y x → w ≡ accept
       go accept e = refl

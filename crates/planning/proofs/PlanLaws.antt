@@ -13,13 +13,12 @@ use Rattle.blorb.specs.Rules.{rulesOf}
 use Rattle.blorb.specs.Model.{model, file}
 use Rattle.blorb.specs.All.{All}
 use Rattle.blorb.specs.Bytes.{Byte}
-use Rattle.blorb.proofs.Checks.{then-accept, check-accept, pass, accepts, stop}
-use Rattle.blorb.proofs.Accept.{accept-back}
+use Rattle.blorb.proofs.Checks.{then-accept, check-accept, pass, accepts, stop, then-assoc, and-both}
+use Rattle.blorb.proofs.Accept.{accept-back, accept-short}
 use Rattle.blorb.proofs.Parts.{file-length}
 use Rattle.edits.specs.Edit.{Edit}
 use Rattle.edits.specs.Run.{hundred, targetFault, editFault, editedFile, editRecord}
-use Rattle.edits.proofs.AddVerdict.{then-assoc}
-use Rattle.edits.proofs.BoolLaws.{and-parts}
+use Rattle.edits.proofs.RunLaws.{hundred-accept}
 use Rattle.judging.specs.declared.Outcome.{Outcome}
 use Rattle.judging.specs.declared.Outcome.the-variants.{Done, Refused}
 use Rattle.judging.specs.Outcomes.{verdictOf}
@@ -42,7 +41,7 @@ pub open-stands : (profile : ℕ) (b : List ℕ) (l u J k : ℕ) → All Byte (t
     → k ≡ length (model (take l b) .refs) → Stands b l k × (u ≤ J)
 open-stands profile b l u J k bytes h e =
     let a = then-accept _ _ (then-accept _ _ h .1) in
-    let p = and-parts _ _ (check-accept _ _ _ (a .0)) in
+    let p = and-both _ _ (check-accept _ _ _ (a .0)) in
     let inside : l ≤ length b = leb-true _ _ (p .0) in
     let g = accept-back (rulesOf profile) (take l b) bytes (a .1) in
     let len : length (take l b) ≡ l = length-take-le l b inside in
@@ -99,6 +98,28 @@ module _ (profile N J : ℕ) (f : List ℕ) (L U : ℕ) (e : Edit) where
       let lengths : Verdict = check (leb L N && leb U J) 20 0 in
       let v : Verdict = verdict (rulesOf profile) f in
       sym (then-assoc known (lengths then v) behind ∙ ap (λ (z : Verdict). known then z) (then-assoc lengths v behind))
+
+  -- what an edit that is not refused tells
+  pub record Unrefused : Type 0 where
+    pub opened : opening ≡ accept
+    pub on-target : targetFault (model f) e ≡ accept
+    pub short : length (editedFile f e) ≤ 16777216
+    pub room : length (editedFile f e) ≤ N
+    pub journal-room : U + length (editRecord f e) ≤ J
+
+  pub unrefused : editRefusal profile N J f L U e ≡ accept → Unrefused
+  unrefused h =
+      let a = then-accept _ _ (sym edit-split ∙ h) in
+      let b = then-accept _ _ (a .1) in
+      let c = then-accept _ _ (b .1) in
+      let d = then-accept _ _ (c .1) in
+      record {
+        opened = a .0;
+        on-target = b .0;
+        short = accept-short (rulesOf profile) (editedFile f e) (hundred-accept _ (c .0));
+        room = leb-true _ _ (check-accept _ _ _ (d .0));
+        journal-room = leb-true _ _ (check-accept _ _ _ (d .1));
+      }
 
   pub edit-unopened : (n p : ℕ) → opening ≡ refuse n p → editRefusal profile N J f L U e ≡ refuse n p
   edit-unopened n p h = edit-split ∙ ap (λ (v : Verdict). v then behind) h ∙ (unfold _then_ in refl)

@@ -6,9 +6,8 @@ use mathlib.Core.Bool.{Bool, true, false, cond, _&&_}
 use native.Mathlib.Omega.{arith}
 use native.Mathlib.Nat.{le-of-suc-le-suc, not-suc-le-zero}
 use lib.ListN.{length, take, getD}
-use lib.Seq.{length-take-le}
 use lib.Dec.{leb, ltb}
-use borrow.Author.Tests.{leb-true, lt-ltb, ltb-true}
+use borrow.Author.Tests.{lt-ltb, ltb-true}
 use Rattle.blorb.specs.Format.{Chunk, size, sized, total}
 use Rattle.blorb.specs.Verdict.{Verdict, accept, refuse, _then_, check, verdict, noChunk}
 use Rattle.blorb.specs.Rules.{rulesOf}
@@ -16,16 +15,16 @@ use Rattle.blorb.specs.Model.{Model, model, file, startOf, base}
 use Rattle.blorb.specs.Queries.{find, refAt, chunkAt, shared, start}
 use Rattle.blorb.specs.All.{All}
 use Rattle.blorb.specs.Bytes.{Byte}
-use Rattle.edits.proofs.JudgedLaws.{chunk-in}
 use Rattle.blorb.proofs.VerdictLaws.{modelFault, file-judged}
-use Rattle.blorb.proofs.Checks.{then-accept, check-accept, accepts, holds-last}
+use Rattle.blorb.proofs.Checks.{check-accept, holds-last}
 use Rattle.blorb.proofs.Parts.{file-length}
+use Rattle.blorb.proofs.ModelLaws.{chunk-in}
+use Rattle.blorb.proofs.FindLaws.{find-pair}
 use Rattle.edits.specs.Edit.{Edit, remove, removed, edited}
 use Rattle.edits.specs.GoneSize.{goneSize}
 use Rattle.edits.specs.Journal.{recOf, removal}
-use Rattle.edits.specs.Run.{hundred, targetFault, editFault, editedFile, editRecord}
+use Rattle.edits.specs.Run.{hundred, targetFault, editedFile, editRecord}
 use Rattle.edits.proofs.JournalLaws.{length-recBytes}
-use Rattle.edits.proofs.FitLaws.{find-pair}
 use Rattle.reader.specs.declared.Piece.{Piece}
 use Rattle.reader.specs.declared.Target.the-variants as target
 use Rattle.reader.specs.declared.Facts.{Facts}
@@ -38,9 +37,10 @@ use Rattle.judging.specs.Told.{Listed}
 use Rattle.judging.proofs.OpenLaws.{asked, asked-refused, asked-whole, target-at, target-nothing, start-is, length-is}
 use Rattle.judging.proofs.RemoveFault.{removed-length}
 use Rattle.rewrite.specs.Rewriting.{Stands}
+use Rattle.rewrite.proofs.Writes.{stands-length}
 use Rattle.planning.specs.declared.Removal.the-variants.{Take, Not}
 use Rattle.planning.specs.Plans.{editRefusal, removalOf}
-use Rattle.planning.proofs.PlanLaws.{open-stands, opened-fine, edit-unopened, edit-off-target, edit-told}
+use Rattle.planning.proofs.PlanLaws.{open-stands, opened-fine, edit-unopened, edit-off-target, edit-told, unrefused}
 
 -- the size that goes, by what the reader tells
 gone-is : (m : Model) (i : ℕ) (p : Piece) → p ≡ pieceOf m i → cond (p .shared) 0 (8 + (p .length + p .length % 2)) ≡ goneSize m i
@@ -111,7 +111,7 @@ module _ (profile : ℕ) (b : List ℕ) (l J U u n : ℕ) (bytes : All Byte (tak
   pub found : O ≡ accept → i < K → Found K
   found h lt =
       let st = open-stands profile b l U J K bytes h refl in
-      let lm : length (file m) ≡ l = ap length (st .0 .whole) ∙ length-take-le l b (st .0 .inside) in
+      let lm : length (file m) ≡ l = stands-length b l K (st .0) in
       let th : kc < length (m .chunks) = chunk-in m i (st .0 .sound) lt in
       let sb = start-before m kc th in
       record {
@@ -247,19 +247,13 @@ module _ (profile : ℕ) (b : List ℕ) (l J U u n : ℕ) (bytes : All Byte (tak
     pub journal-room : U + length (editRecord f E) ≤ J
 
   pub ready : (k : ℕ) (p : Piece) → removalOf Vd m u n ≡ Take k p → Ready k p
-  unfolding editFault targetFault
+  unfolding targetFault
   ready k p e =
       let v : Vd ≡ accept = go Vd e in
-      let h0 = then-accept _ _ v in
-      let h1 = then-accept _ _ (h0 .1) in
-      let h2 = then-accept _ _ (h1 .1) in
-      let h3 = then-accept _ _ (h2 .1) in
-      let h4 = then-accept _ _ (h3 .1) in
-      let h5 = then-accept _ _ (h4 .1) in
-      let o : O ≡ accept = accepts _ _ (h0 .0) ∙ accepts _ _ (h1 .0) ∙ h2 .0 in
-      let lt : i < K = ltb-true _ _ (check-accept _ _ _ (h3 .0)) in
+      let told = unrefused profile (length b) J f l U E v in
+      let lt : i < K = ltb-true _ _ (check-accept _ _ _ (told .on-target)) in
       let q : Take K (pieceOf m i) ≡ Take k p = ap (λ (z : Verdict). removalOf z m u n) (sym v) ∙ e in
-      record { fine = v; found = found o lt; count-is = cc; piece-is = cc; journal-room = leb-true _ _ (check-accept _ _ _ (h5 .1)) }
+      record { fine = v; found = found (told .opened) lt; count-is = cc; piece-is = cc; journal-room = told .journal-room }
     where
       go : (v : Verdict) → removalOf v (model (take l b)) u n ≡ Take k p → v ≡ accept
       go accept e = refl

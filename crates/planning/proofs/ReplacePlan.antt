@@ -7,7 +7,7 @@ use native.Mathlib.Omega.{arith}
 use lib.ListN.{length, take}
 use lib.Seq.{length-take-le}
 use lib.Dec.{eqb, leb}
-use borrow.Author.Tests.{leb-true, lt-ltb, ltb-true}
+use borrow.Author.Tests.{lt-ltb, ltb-true}
 use Rattle.blorb.specs.Format.{chunkOf, size}
 use Rattle.blorb.specs.Tags.{FORM}
 use Rattle.blorb.specs.Verdict.{Verdict, accept, refuse, _then_, check, verdict}
@@ -16,11 +16,10 @@ use Rattle.blorb.specs.Model.{Model, model, file}
 use Rattle.blorb.specs.Queries.{find, refAt, chunkAt}
 use Rattle.blorb.specs.All.{All}
 use Rattle.blorb.specs.Bytes.{Byte}
-use Rattle.blorb.proofs.Checks.{then-accept, check-accept, accepts, holds-last, pass}
-use Rattle.blorb.proofs.Accept.{accept-short}
+use Rattle.blorb.proofs.Checks.{then-accept, check-accept, holds-last, pass}
 use Rattle.edits.specs.Edit.{Edit, replace, replaced, held, givenChunk, isWhole, edited}
 use Rattle.edits.specs.Journal.{recOf}
-use Rattle.edits.specs.Run.{hundred, wholeFault, targetFault, editFault, editedFile, editRecord}
+use Rattle.edits.specs.Run.{hundred, wholeFault, targetFault, editedFile, editRecord}
 use Rattle.edits.proofs.JournalLaws.{length-recBytes}
 use Rattle.edits.proofs.Lengths.{length-replaced, size-given}
 use Rattle.reader.specs.declared.Piece.{Piece}
@@ -33,11 +32,10 @@ use Rattle.judging.specs.declared.Outcome.the-variants as outcome
 use Rattle.judging.specs.Outcomes.{verdictOf}
 use Rattle.judging.specs.Told.{Own}
 use Rattle.judging.proofs.OpenLaws.{asked, asked-refused, place-is, shared-is}
-use Rattle.edits.proofs.RunLaws.{hundred-accept}
 use Rattle.edits.proofs.FitFacts.{size-is}
 use Rattle.planning.specs.declared.Change.the-variants.{Put, Keep}
 use Rattle.planning.specs.Plans.{editRefusal, changeOf}
-use Rattle.planning.proofs.PlanLaws.{opened-fine, edit-unopened, edit-off-target, edit-told}
+use Rattle.planning.proofs.PlanLaws.{opened-fine, edit-unopened, edit-off-target, edit-told, unrefused}
 use Rattle.planning.proofs.RemovePlan.{Found, found, Told, told-missing}
 
 pub change-no : (v : Verdict) (m : Model) (u n k p : ℕ) → changeOf v m u n ≡ Keep k p → v ≡ refuse k p
@@ -179,26 +177,20 @@ module _ (profile : ℕ) (b : List ℕ) (l J U u n t : ℕ) (d : List ℕ) (byte
     pub journal-room : U + length (editRecord f E) ≤ J
 
   pub ready : (k : ℕ) (p : Piece) → changeOf Vd m u n ≡ Put k p → Ready k p
-  unfolding editFault targetFault
+  unfolding targetFault
   ready k p e =
       let v : Vd ≡ accept = go Vd e in
-      let h0 = then-accept _ _ v in
-      let h1 = then-accept _ _ (h0 .1) in
-      let h2 = then-accept _ _ (h1 .1) in
-      let h3 = then-accept _ _ (h2 .1) in
-      let h4 = then-accept _ _ (h3 .1) in
-      let h5 = then-accept _ _ (h4 .1) in
-      let o : O ≡ accept = accepts _ _ (h0 .0) ∙ accepts _ _ (h1 .0) ∙ h2 .0 in
-      let lt : i < K = ltb-true _ _ (check-accept _ _ _ (then-accept _ _ (h3 .0) .0)) in
+      let told = unrefused profile (length b) J f l U E v in
+      let lt : i < K = ltb-true _ _ (check-accept _ _ _ (then-accept _ _ (told .on-target) .0)) in
       let q : Put K (pieceOf m i) ≡ Put k p = ap (λ (z : Verdict). changeOf z m u n) (sym v) ∙ e in
       record {
         fine = v;
-        found = found profile b l J U u n bytes o lt;
+        found = found profile b l J U u n bytes (told .opened) lt;
         count-is = cc;
         piece-is = cc;
-        room = leb-true _ _ (check-accept _ _ _ (h5 .0));
-        short = accept-short (rulesOf profile) (editedFile f E) (hundred-accept _ (h4 .0));
-        journal-room = leb-true _ _ (check-accept _ _ _ (h5 .1));
+        room = told .room;
+        short = told .short;
+        journal-room = told .journal-room;
       }
     where
       go : (v : Verdict) → changeOf v (model (take l b)) u n ≡ Put k p → v ≡ accept

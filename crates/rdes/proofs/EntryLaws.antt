@@ -1,8 +1,8 @@
 -- The entries of data that they fill: where each stands, that it lies in the data, and what it holds.
 use mathlib.Core.Path.{_≡_, refl, sym, ap, subst, _∙_}
 use Prim.Native.Nat.{ℕ, zero, suc, _+_, _-_, _≤_, _<_}
-use mathlib.Core.List.{List}
-use mathlib.Core.Bool.{Bool, true, false, _&&_}
+use mathlib.Core.List.{List, [], _∷_, _++_}
+use mathlib.Core.Bool.{Bool, true, false, _&&_, _||_}
 use native.Mathlib.Omega.{arith}
 use native.Mathlib.Nat.{not-suc-le-zero}
 use lib.ListN.{length, getD, drop, length-drop}
@@ -10,8 +10,8 @@ use lib.Seq.{length-take-le}
 use lib.Dec.{eqb, leb}
 use borrow.Author.Tests.{le-leb, lt-leb, leb-true}
 use Rattle.blorb.specs.Bytes.{rd32}
-use Rattle.blorb.proofs.Checks.{and-both}
-use Rattle.rdes.specs.Rdes.{Desc, desc, usageAt, numberAt, sizeAt, textAt, nextAt, offsetOf, fillsFrom, fills, descsFrom}
+use Rattle.blorb.proofs.Checks.{and-both, or-swap}
+use Rattle.rdes.specs.Rdes.{Desc, desc, usageAt, numberAt, sizeAt, textAt, nextAt, offsetOf, fillsFrom, fills, descsFrom, pairAmong}
 
 -- an entry's header and its text lie in the data
 pub record Room (d : List ℕ) (at : ℕ) : Type 0 where
@@ -102,3 +102,10 @@ fills-some d count b h e q = q ∙ rw (le-leb 4 (length d) h, e)
 pub fills-all : (d : List ℕ) → fills d ≡ true → (4 ≤ length d) × (fillsFrom d (rd32 d) 4 ≡ true)
 unfolding fills
 fills-all d e = let p = and-both (leb 4 (length d)) (fillsFrom d (rd32 d) 4) e in (leb-true _ _ (p .0), p .1)
+
+-- the pairs of a list and of one entry more
+pub pair-snoc : (u k : ℕ) (xs : List Desc) (e : Desc) → pairAmong u k (xs ++ (e ∷ [])) ≡ (eqb (e .usage) u && eqb (e .number) k) || pairAmong u k xs
+unfolding pairAmong
+pair-snoc u k [] e = refl
+pair-snoc u k (x ∷ xs) e =
+    rw (pair-snoc u k xs e) (or-swap (eqb (x .usage) u && eqb (x .number) k) (eqb (e .usage) u && eqb (e .number) k) (pairAmong u k xs))

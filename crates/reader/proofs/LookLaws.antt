@@ -2,7 +2,7 @@
 use mathlib.Core.Path.{_≡_, refl, sym, ap, _∙_}
 use Prim.Native.Nat.{ℕ, zero, suc, _+_, _-_, _≤_, _<_}
 use mathlib.Core.List.{List, [], _∷_, _++_}
-use mathlib.Core.Bool.{Bool, true, false, cond, _&&_, _||_}
+use mathlib.Core.Bool.{Bool, true, false, _&&_}
 use native.Mathlib.Omega.{arith}
 use native.Mathlib.Nat.{not-suc-le-zero, le-of-suc-le-suc}
 use lib.ListN.{length, getD, drop, length-drop}
@@ -12,14 +12,16 @@ use borrow.Author.Tests.{eq-eqb, lt-ltb, le-ltb, ltb-true, ltb-false}
 use Rattle.blorb.specs.All.{All}
 use Rattle.blorb.specs.Bytes.{rd32, Byte}
 use Rattle.blorb.specs.Format.{Entry, Ref, refOf, Chunk, chunkIn, entriesIn, placeOf}
-use Rattle.blorb.specs.Verdict.{Rules, accept, noChunk, entriesFault, pairIn}
+use Rattle.blorb.specs.Verdict.{Rules, accept, entriesFault, pairIn}
 use Rattle.blorb.specs.Rules.{profileVerdict}
 use Rattle.blorb.specs.Model.{Model, base, model}
-use Rattle.blorb.specs.Queries.{find, noRef, refAt, start}
-use Rattle.blorb.specs.Lookup.{missing, here, lookIn, lookup, leftOut, shown}
+use Rattle.blorb.specs.Queries.{find, refAt, start}
+use Rattle.blorb.specs.Lookup.{missing, here, lookup, leftOut, shown}
 use Rattle.blorb.proofs.AllLaws.{all-drop}
 use Rattle.blorb.proofs.Places.{startOf-placeOf}
 use Rattle.blorb.proofs.ShownLaws.{left-most, shown-in}
+use Rattle.blorb.proofs.Checks.{neither}
+use Rattle.blorb.proofs.FindLaws.{look-find, look-missing, pair-found}
 use Rattle.chunks.specs.Walk.{chunkFrom, chunksFrom, walkFrom}
 use Rattle.index.specs.Entries.{startAt, place, pairPlace}
 use Rattle.reader.specs.Reading.{foundAt, foundBy, lookupOf, partOf}
@@ -27,49 +29,11 @@ use Rattle.index.specs.Hits.{hitIn}
 use Rattle.index.specs.declared.entries.Hit.the-variants.{At}
 use Rattle.reader.specs.declared.Looked.{Looked}
 use Rattle.reader.specs.declared.Looked.the-variants.{Refused as Missing}
-use Rattle.chunks.proofs.ChunkLaws.{fine, neither}
+use Rattle.chunks.proofs.ChunkLaws.{fine}
 use Rattle.index.proofs.EntryLaws.{pair-snoc}
 use Rattle.index.proofs.IndexLaws.{drop-take, find-at, find-none, first-entry}
 use Rattle.reader.proofs.AskLaws.{good, look-on}
 use Rattle.reader.proofs.PartLaws.{refs-count, entry-begun, begins-there, chunk-of, find-pair}
-
--- the entry found in the model, or none
-look-at : (cs : List Chunk) (u n : ℕ) (rs : List Ref) → find u n rs < length rs → lookIn cs u n rs ≡ here (getD cs (getD rs (find u n rs) noRef .chunk) noChunk)
-unfolding find lookIn
-look-at cs u n [] h = absurd (not-suc-le-zero h)
-look-at cs u n (r ∷ rs) h = go (eqb (r .usage) u && eqb (r .number) n) h (look-at cs u n rs)
-  where
-    go : (b : Bool) → cond b 0 (suc (find u n rs)) < suc (length rs)
-        → (find u n rs < length rs → lookIn cs u n rs ≡ here (getD cs (getD rs (find u n rs) noRef .chunk) noChunk))
-        → cond b (here (getD cs (r .chunk) noChunk)) (lookIn cs u n rs) ≡ here (getD cs (getD (r ∷ rs) (cond b 0 (suc (find u n rs))) noRef .chunk) noChunk)
-    go true h ih = refl
-    go false h ih = ih (le-of-suc-le-suc h)
-
-look-none : (cs : List Chunk) (u n : ℕ) (rs : List Ref) → length rs ≤ find u n rs → lookIn cs u n rs ≡ missing
-unfolding find lookIn
-look-none cs u n [] h = refl
-look-none cs u n (r ∷ rs) h = go (eqb (r .usage) u && eqb (r .number) n) h (look-none cs u n rs)
-  where
-    go : (b : Bool) → suc (length rs) ≤ cond b 0 (suc (find u n rs)) → (length rs ≤ find u n rs → lookIn cs u n rs ≡ missing)
-        → cond b (here (getD cs (r .chunk) noChunk)) (lookIn cs u n rs) ≡ missing
-    go true h ih = absurd (not-suc-le-zero h)
-    go false h ih = ih (le-of-suc-le-suc h)
-
-ltb-suc : (a b : ℕ) → ltb (suc a) (suc b) ≡ ltb a b
-ltb-suc a b = go (ltb a b) refl
-  where
-    go : (t : Bool) → ltb a b ≡ t → ltb (suc a) (suc b) ≡ t
-    go true e = let h : a < b = ltb-true a b e in lt-ltb (suc a) (suc b) (omega arith)
-    go false e = let h : b ≤ a = ltb-false a b e in le-ltb (suc a) (suc b) (omega arith)
-
-pair-found : (u n : ℕ) (rs : List Ref) → pairIn u n rs ≡ ltb (find u n rs) (length rs)
-unfolding find pairIn
-pair-found u n [] = sym (le-ltb 0 0 (omega arith))
-pair-found u n (r ∷ rs) = go (eqb (r .usage) u && eqb (r .number) n) (pair-found u n rs)
-  where
-    go : (b : Bool) → pairIn u n rs ≡ ltb (find u n rs) (length rs) → b || pairIn u n rs ≡ ltb (cond b 0 (suc (find u n rs))) (suc (length rs))
-    go true ih = sym (lt-ltb 0 (suc (length rs)) (omega arith))
-    go false ih = ih ∙ sym (ltb-suc (find u n rs) (length rs))
 
 -- the part that a lookup names of the chunk at x, as what is shown of the chunk
 pub part-at : (f : List ℕ) (x : ℕ) → x < length f → walkFrom f x ≡ accept → All Byte f → partOf (foundAt (chunkFrom f x) x) f ≡ shown (chunkFrom f x)
@@ -123,7 +87,7 @@ module _ (profile : ℕ) (f : List ℕ) (u n : ℕ) (h : profileVerdict profile 
       record {
         found = found;
         part = λ bytes. ap (λ (a : Looked). partOf a f) found ∙ part-at f x (b .below) (b .walks) bytes;
-        looked = look-at (model f .chunks) u n (model f .refs) r ∙ rw (k, cs) (ap here (b .chunk));
+        looked = look-find (model f .chunks) u n (model f .refs) r ∙ rw (k, cs) (ap here (b .chunk));
         begins = rw (k, cs, many-is) (startOf-placeOf x (place count) (chunksFrom f (place count)) (begins-there f count at-place (g .passed) l) .0);
         pair = pair-found u n (model f .refs) ∙ lt-ltb _ _ r;
       }
@@ -136,7 +100,7 @@ module _ (profile : ℕ) (f : List ℕ) (u n : ℕ) (h : profileVerdict profile 
       let r : length (model f .refs) ≤ find u n (model f .refs) = rw (find-is, many-is) l in
       record {
         found = look-on profile f u n count g ∙ ap (foundBy f) (sym (find-none f u n count at-place refl l));
-        looked = look-none (model f .chunks) u n (model f .refs) r;
+        looked = look-missing (model f .chunks) u n (model f .refs) (pair-found u n (model f .refs) ∙ le-ltb _ _ r);
         pair = pair-found u n (model f .refs) ∙ le-ltb _ _ r;
       }
 

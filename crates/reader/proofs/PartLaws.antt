@@ -11,24 +11,23 @@ use lib.Seq.{drop-drop}
 use lib.Dec.{eqb, ltb}
 use borrow.Author.Tests.{eq-eqb, ne-eqb, eqb-true, eqb-false, lt-ltb, le-ltb, le-leb, lt-leb}
 use Rattle.blorb.specs.Bytes.{rd32}
-use Rattle.blorb.specs.Format.{Chunk, Entry, Ref, refOf, size, chunkIn, entryIn, entriesIn, isStart, placeOf}
-use Rattle.blorb.specs.Verdict.{Verdict, accept, refuse, noChunk, verdict, reading}
-use Rattle.blorb.specs.Rules.{rulesOf, profileVerdict, typeIn}
-use Rattle.blorb.specs.Tags.{RelN, Fspc}
+use Rattle.blorb.specs.Format.{Chunk, Entry, Ref, refOf, chunkIn, entryIn, entriesIn, isStart, placeOf}
+use Rattle.blorb.specs.Verdict.{Verdict, refuse, noChunk, verdict, reading}
+use Rattle.blorb.specs.Rules.{rulesOf, profileVerdict}
 use Rattle.blorb.specs.Model.{base, model, startOf}
-use Rattle.blorb.specs.Queries.{find, uses, without, noRef, refAt, shared, start, frontPlace}
+use Rattle.blorb.specs.Queries.{find, uses, without, noRef, refAt, shared, start}
 use Rattle.blorb.specs.All.{All}
 use Rattle.blorb.proofs.AllLaws.{all-getD}
-use Rattle.blorb.proofs.Places.{startOf-zero, startOf-suc, startOf-placeOf}
-use Rattle.blorb.proofs.Accept.{starts-ok}
+use Rattle.blorb.proofs.Places.{startOf-placeOf}
+use Rattle.blorb.proofs.Accept.{starts-ok, length-entriesIn}
 use Rattle.blorb.proofs.Profiles.{profile-known}
-use Rattle.blorb.proofs.Checks.{then-accept, check-accept, and-both, stop}
-use Rattle.chunks.specs.Walk.{chunkFrom, skipAt, chunksFrom, walkFrom}
-use Rattle.chunks.specs.Ordinary.{ordinaryType, allOrdinary}
+use Rattle.blorb.proofs.Checks.{stop}
+use Rattle.chunks.specs.Walk.{chunkFrom, chunksFrom}
+use Rattle.chunks.specs.Ordinary.{allOrdinary}
 use Rattle.index.specs.Entries.{startAt, place, pairPlace, startAgain}
-use Rattle.index.specs.Optional.{oneRule, rulesFrom, optionalFault}
-use Rattle.reader.specs.Passed.{readKnown, Judges, JudgesEntries, Passed, modelAt, Fronts, pickFront, frontFrom}
-use Rattle.reader.specs.Inspecting.{pieceOf, targetBy, targetOf, frontBy, frontOf, factsOf, inspectionOf}
+use Rattle.index.specs.Optional.{optionalFault}
+use Rattle.reader.specs.Passed.{readKnown, Judges, JudgesEntries, Passed, modelAt}
+use Rattle.reader.specs.Inspecting.{pieceOf, targetBy, targetOf, frontOf, factsOf, inspectionOf}
 use Rattle.reader.specs.declared.Piece.{Piece}
 use Rattle.reader.specs.declared.Target.{Target}
 use Rattle.reader.specs.declared.Target.the-variants as target
@@ -41,9 +40,9 @@ use Rattle.reader.specs.declared.Judgement.the-variants as judgement
 use Rattle.reader.specs.declared.Reading.the-variants.{Accepted, Refused}
 use Rattle.reader.specs.Reading.{readBy, readOf}
 use Rattle.reader.proofs.AskLaws.{Good}
-use Rattle.chunks.proofs.ChunkLaws.{fine, chunks-end, ordinary-not}
+use Rattle.chunks.proofs.ChunkLaws.{fine}
 use Rattle.chunks.proofs.StartLaws.{begun, Begun}
-use Rattle.index.proofs.IndexLaws.{length-entriesIn, entry-getD, body-word}
+use Rattle.index.proofs.IndexLaws.{entry-getD}
 
 -- an element of a list and of its image
 getD-map-in : {A B : Type 0} (g : A → B) (l : List A) (i : ℕ) (d : A) (z : B) → i < length l → getD (map g l) i z ≡ g (getD l i d)
@@ -187,92 +186,6 @@ module _ (f : List ℕ) (count u n i : ℕ) (e : i ≡ pairPlace u n (entriesIn 
 
   pub target-none : count ≤ i → target.Nothing ≡ targetOf (modelAt f count) u n
   target-none h = sym (target-on ∙ rw (le-ltb i count h))
-
--- the frontispiece: the loop
-module _ (f : List ℕ) (at : ℕ) where
-  pub front-end : length f ≤ at → front.Nothing ≡ frontFrom at (chunksFrom f at)
-  unfolding frontFrom
-  front-end h = rw (chunks-end f at h)
-
-  module _ (h : at < length f) (w : walkFrom f at ≡ accept) (r : Fronts (chunksFrom f at)) where
-    fronts-on : (rd32 (drop at f) ≡ Fspc → length (chunkFrom f at .body) ≡ 4) × Fronts (chunksFrom f (skipAt f at))
-    unfolding chunkIn
-    fronts-on = let i = fine f at h w in rw (i .next) (rw (i .chunks) at r)
-
-    module _ (t : ℕ) (et : t ≡ rd32 (drop at f)) where
-      pub front-room : t ≡ Fspc → at + 12 ≤ length f
-      front-room e =
-          let i = fine f at h w in
-          let l : length (chunkFrom f at .body) ≡ 4 = fronts-on .0 (sym et ∙ e) in
-          omega (arith, i .inside, i .next, i .bodied)
-
-      pub front-hit : t ≡ Fspc → (n : ℕ) → n ≡ rd32 (drop (at + 8) f) → front.At at n ≡ frontFrom at (chunksFrom f at)
-      unfolding frontFrom chunkIn
-      front-hit e n en =
-          let i = fine f at h w in
-          let l : length (chunkFrom f at .body) ≡ 4 = fronts-on .0 (sym et ∙ e) in
-          let q : rd32 (chunkFrom f at .body) ≡ n = body-word f at (omega (arith, i .bodied)) ∙ sym en in
-          rw (i .chunks, ← et, eq-eqb t Fspc e) (ap (front.At at) (sym q))
-
-      pub front-next : (t ≡ Fspc → ⊥) → (Fronts (chunksFrom f (skipAt f at))) × (frontFrom (skipAt f at) (chunksFrom f (skipAt f at)) ≡ frontFrom at
-          (chunksFrom f at))
-      unfolding frontFrom chunkIn
-      front-next e = let i = fine f at h w in (fronts-on .1, rw (i .chunks, i .next, ← et, ne-eqb t Fspc e))
-
--- rule 7 has judged the frontispiece's length
-rule-front : (pic : ℕ → Bool) (a b : Bool) (at : ℕ) (c : Chunk) → oneRule pic a b at c ≡ accept → c .type ≡ Fspc → length (c .body) ≡ 4
-unfolding oneRule
-rule-front pic a b at c h e =
-    let q = then-accept _ _ (then-accept _ _ (rw e at h) .0) in
-    eqb-true _ _ (check-accept _ _ _ (q .1))
-
-rules-fronts : (pic : ℕ → Bool) (a b : Bool) (at : ℕ) (cs : List Chunk) → rulesFrom pic a b at cs ≡ accept → Fronts cs
-unfolding rulesFrom
-rules-fronts pic a b at [] h = tt
-rules-fronts pic a b at (c ∷ cs) h =
-    let q = then-accept _ _ h in
-    (rule-front pic a b at c (q .0), rules-fronts pic (a || eqb (c .type) RelN) (b || eqb (c .type) Fspc) (at + size c) cs (q .1))
-
-pub passed-fronts : (f : List ℕ) (count : ℕ) → Passed f count → Fronts (chunksFrom f (place count))
-unfolding optionalFault
-passed-fronts f count g = rules-fronts _ false false (place count) (chunksFrom f (place count)) (g .optional)
-
--- the first frontispiece is the model's
-abbrev frontIn : Bool → ℕ → List Chunk → ℕ → Front
-frontIn true at cs k = front.At (startOf at cs k) (rd32 (getD cs k noChunk .body))
-frontIn false at cs k = front.Nothing
-
-front-first : (at : ℕ) (cs : List Chunk) → frontFrom at cs ≡ frontIn (typeIn Fspc cs) at cs (frontPlace cs)
-unfolding frontFrom typeIn frontPlace
-front-first at [] = refl
-front-first at (c ∷ cs) = go (eqb (c .type) Fspc) (typeIn Fspc cs) (front-first (at + size c) cs)
-  where
-    go : (b t : Bool) → frontFrom (at + size c) cs ≡ frontIn t (at + size c) cs (frontPlace cs)
-        → pickFront b at (rd32 (c .body)) (frontFrom (at + size c) cs) ≡ frontIn (b || t) at (c ∷ cs) (cond b 0 (suc (frontPlace cs)))
-    go true t ih = ap (λ (x : ℕ). front.At x (rd32 (c .body))) (sym (startOf-zero at (c ∷ cs)))
-    go false true ih = ih ∙ ap (λ (x : ℕ). front.At x (rd32 (getD cs (frontPlace cs) noChunk .body))) (sym (startOf-suc at c cs (frontPlace cs)))
-    go false false ih = ih
-
-front-model : (b : Bool) (f : List ℕ) (count : ℕ) → frontIn b (place count) (chunksFrom f (place count)) (frontPlace (chunksFrom f (place count))) ≡ frontBy
-    b (modelAt f count)
-unfolding start base
-front-model true f count = rw (refs-count f count)
-front-model false f count = refl
-
-pub front-is : (f : List ℕ) (count : ℕ) → frontFrom (place count) (chunksFrom f (place count)) ≡ frontOf (modelAt f count)
-unfolding frontOf
-front-is f count = front-first (place count) (chunksFrom f (place count)) ∙ front-model (typeIn Fspc (chunksFrom f (place count))) f count
-
-ordinary-fronts : (cs : List Chunk) → allOrdinary cs ≡ true → typeIn Fspc cs ≡ false
-unfolding allOrdinary typeIn
-ordinary-fronts [] e = refl
-ordinary-fronts (c ∷ cs) e =
-    let q = and-both (ordinaryType (c .type)) (allOrdinary cs) e in
-    rw (ordinary-not (c .type) (q .0) .2) (ordinary-fronts cs (q .1))
-
-pub front-ordinary : (f : List ℕ) (count : ℕ) → allOrdinary (chunksFrom f (place count)) ≡ true → front.Nothing ≡ frontOf (modelAt f count)
-unfolding frontOf
-front-ordinary f count e = rw (ordinary-fronts (chunksFrom f (place count)) e)
 
 -- all together
 pub facts-are : (f : List ℕ) (count u n x : ℕ) (t : Target) (r : Front) (b : Bool)

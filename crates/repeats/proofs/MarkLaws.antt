@@ -2,7 +2,7 @@
 use Prim.Native.Nat.{ℕ, _+_, _*_, _%_, _^_, _≤_, _<_}
 use mathlib.Core.Path.{_≡_, ap, sym, _∙_, subst}
 use mathlib.Core.List.{List}
-use mathlib.Core.Logic.{_⊎_, ⊎-elim, inl, inr}
+use mathlib.Core.Logic.{_⊎_, ⊎-elim}
 use native.Mathlib.Omega.{arith}
 use native.Mathlib.Numerals.{add-one}
 use native.Mathlib.Nat.{eq-or-lt-of-le, le-of-suc-le-suc, mod-eq-of-lt, mul-le-mul}
@@ -12,14 +12,7 @@ use lib.Pow.{pow-lt}
 use lib.Bits.{bitAnd, bitOr}
 use Rattle.repeats.specs.Marks.{wordOf, bitsOf, Covers, Marked}
 use Rattle.repeats.proofs.Bits.{cover-more, cover-own}
-use Rattle.repeats.proofs.SearchLaws.{side}
-
-pub same : (x y : ℕ) → (x ≡ y) ⊎ (x ≡ y → ⊥)
-same x y =
-    ⊎-elim
-    (λ (l : x < y). inr (λ q. absurd (omega arith)))
-    (λ (h : y ≤ x). ⊎-elim (λ (q : y ≡ x). inl (sym q)) (λ (l : y < x). inr (λ q. absurd (omega arith))) (eq-or-lt-of-le h))
-    (side x y)
+use Rattle.blorb.proofs.NumberLaws.{same?}
 
 -- a mark that is set stays set
 kept : (ms : List ℕ) (w u new old : ℕ) → w < length ms → Covers (getD ms u 0) old → Covers (getD (set ms w (bitOr (getD ms w 0) new)) u 0) old
@@ -28,7 +21,7 @@ kept ms w u new old h c =
     (λ (q : u ≡ w). subst (λ (z : ℕ). Covers (getD (set ms w (bitOr (getD ms w 0) new)) z 0) old) (sym q)
     (ap (λ (z : ℕ). bitAnd z old) (getD-set-same ms w _ 0 h) ∙ cover-more old (getD ms w 0) new (subst (λ (z : ℕ). Covers (getD ms z 0) old) q c)))
     (λ (n : u ≡ w → ⊥). ap (λ (z : ℕ). bitAnd z old) (getD-set-other ms w u _ 0 n) ∙ c)
-    (same u w)
+    (same? u w)
 
 module _ (k : ℕ → ℕ) where
   pub marked-none : (f : ℕ) (ms : List ℕ) (b : ℕ) → Marked ms f k b b

@@ -1,17 +1,13 @@
 -- What each turn of the loops needs: one entry more is apart from, across or without the others. k gives the key of an entry by its number.
-use Prim.Native.Nat.{ℕ, zero, suc, _+_, _≤_, _<_}
+use Prim.Native.Nat.{ℕ, _+_, _≤_, _<_}
 use mathlib.Core.Path.{_≡_, ap, sym, _∙_, subst}
 use mathlib.Core.Bool.{true}
-use mathlib.Core.Logic.{_⊎_, ⊎-elim, inl, inr}
+use mathlib.Core.Logic.{_⊎_, ⊎-elim}
 use native.Mathlib.Omega.{arith}
 use native.Mathlib.Numerals.{add-one}
 use native.Mathlib.Nat.{eq-or-lt-of-le, le-of-suc-le-suc}
 use Rattle.repeats.specs.Repeats.{among, Apart, Across, Without, Below}
-
-pub side : (x y : ℕ) → (x < y) ⊎ (y ≤ x)
-side x zero = inr (omega arith)
-side zero (suc y) = inl (omega arith)
-side (suc x) (suc y) = ⊎-elim (λ p. inl (omega arith)) (λ q. inr (omega arith)) (side x y)
+use Rattle.blorb.proofs.NumberLaws.{below?}
 
 module _ (k : ℕ → ℕ) where
   -- one entry more
@@ -48,8 +44,8 @@ module _ (k : ℕ → ℕ) where
   apart-join b best end d a w h i j l m n e =
       ⊎-elim
       (λ (x : j < b). d i j l m x e)
-      (λ (x : b ≤ j). ⊎-elim (λ (y : i < b). a i j y x n e) (λ (y : b ≤ i). w i j y m (omega arith) e) (side i b))
-      (side j b)
+      (λ (x : b ≤ j). ⊎-elim (λ (y : i < b). a i j y x n e) (λ (y : b ≤ i). w i j y m (omega arith) e) (below? i b))
+      (below? j b)
 
   pub apart-to : (b e : ℕ) → e ≤ b → Apart k 0 b → Apart k 0 e
   unfolding Apart

@@ -13,8 +13,7 @@ use lib.Seq.{getD-set-same, getD-set-other}
 use Rattle.repeats.specs.Repeats.{among, Without}
 use Rattle.repeats.specs.Suspects.{held, Once, SeenSome, SeenAll}
 use Rattle.repeats.proofs.Answers.{among-hit, among-earlier}
-use Rattle.repeats.proofs.MarkLaws.{same}
-use Rattle.repeats.proofs.SearchLaws.{side}
+use Rattle.blorb.proofs.NumberLaws.{same?, below?}
 
 pub not-held : (xs : List ℕ) (n v : ℕ) → held xs n v ≡ false → Without (λ c. getD xs c 0) v 0 n
 unfolding held Without
@@ -28,7 +27,7 @@ one-place xs n v c x h g w e u q =
     ⊎-elim
     (λ (l : x < c). absurd (w x (omega arith) l q))
     (λ (l : c ≤ x). ⊎-elim (λ (p : c ≡ x). sym p) (λ (p : c < x). absurd (u c (omega arith) p (e (omega arith)))) (eq-or-lt-of-le l))
-    (side x c)
+    (below? x c)
 
 zeros : (m c : ℕ) → _≡_ {A = ℕ} (getD (replicate m 0) c 0) 0
 zeros zero c = refl
@@ -54,7 +53,7 @@ module _ (k : ℕ → ℕ) where
       ⊎-elim
       (λ (x : c < n). s (a i c l (omega arith) x (λ d f r d'. w d f r (d' ∙ q ∙ sym u)) (t x ∙ u ∙ sym q)))
       (λ (x : n ≤ c). let f = among-earlier (λ d. getD xs d 0) (k y) n p in let r = f .1 .0 in w (f .0) (omega arith) (omega (arith, r)) (f .1 .1 ∙ sym u))
-      (side c n))
+      (below? c n))
       (λ (z : y < j). o i y l m z q p)
       (eq-or-lt-of-le (le-of-suc-le-suc (subst (λ (x : ℕ). y < x) (add-one j) g)))
 
@@ -74,7 +73,7 @@ module _ (k : ℕ → ℕ) where
       let p : c < n = t (sym (getD-set-same seen c u 0 h) ∙ subst (λ (y : ℕ). getD (set seen c u) y 0 ≡ 1) z q) in
       (omega arith, among-hit k (getD xs x 0) (j + 1) j (omega arith) (sym e ∙ sym (f p) ∙ ap (λ (y : ℕ). getD xs y 0) (sym z))))
       (λ (z : x ≡ c → ⊥). let p = d x (sym (getD-set-other seen c x u 0 z) ∙ q) in (p .0, among-more (getD xs x 0) j (p .1)))
-      (same x c)
+      (same? x c)
 
   pub all-none : (seen xs : List ℕ) (n b : ℕ) → SeenAll seen xs n k b b
   unfolding SeenAll
@@ -90,7 +89,7 @@ module _ (k : ℕ → ℕ) where
       (λ (z : i ≡ j).
       let p : k i ≡ v = ap k z ∙ sym e in
       own (one-place xs n v c x h y w t (subst (λ (d : ℕ). Without (λ (r : ℕ). getD xs r 0) d 0 x) p o) (q ∙ p)))
-      (λ (z : i < j). ⊎-elim own (λ (d : x ≡ c → ⊥). getD-set-other seen c x u 0 d ∙ a i x l z y o q) (same x c))
+      (λ (z : i < j). ⊎-elim own (λ (d : x ≡ c → ⊥). getD-set-other seen c x u 0 d ∙ a i x l z y o q) (same? x c))
       (eq-or-lt-of-le (le-of-suc-le-suc (subst (λ (d : ℕ). i < d) (add-one j) m)))
 
   pub seen-again : (seen xs : List ℕ) (n j c v : ℕ) → v ≡ k j → (c < n → getD xs c 0 ≡ v) → getD seen c 0 ≡ 1 → SeenSome seen xs n k j

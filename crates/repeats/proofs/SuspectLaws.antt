@@ -15,7 +15,7 @@ use Rattle.repeats.specs.Marks.{wordOf, bitsOf, Covers, Marked}
 use Rattle.repeats.specs.Repeats.{among, Apart, Across}
 use Rattle.repeats.specs.Suspects.{held, Caught, Earlier, Free, RepeatsHeld, Once}
 use Rattle.repeats.proofs.Answers.{among-hit, among-earlier}
-use Rattle.repeats.proofs.SearchLaws.{side}
+use Rattle.blorb.proofs.NumberLaws.{below?}
 
 -- one suspect more is looked at
 pub held-none : (xs : List ℕ) (v : ℕ) → false ≡ held xs 0 v
@@ -100,7 +100,7 @@ module _ (k : ℕ → ℕ) where
       let s : Covers (getD ms (wordOf f (k i)) 0) (bitsOf f (k i))
       = subst (λ (z : ℕ). Covers (getD ms (wordOf f z) 0) (bitsOf f z)) (sym q) (w j o (omega arith)) in
       false≢true (sym (g j o u) ∙ subst (λ (z : ℕ). held xs n z ≡ true) q (c i x l s)))
-      (side i a)
+      (below? i a)
 
   pub held-among : (xs : List ℕ) (n b r : ℕ) → Earlier xs n k b → b ≤ r → held xs n (k r) ≡ true → among k (k r) r ≡ true
   unfolding Earlier held
@@ -129,4 +129,4 @@ module _ (k : ℕ → ℕ) where
   pub apart-round : (xs : List ℕ) (n b a m r : ℕ) → Apart k b a → RepeatsHeld xs n k b a m → Once xs n k b r → r ≤ m → Apart k b r
   unfolding Apart RepeatsHeld Once
   apart-round xs n b a m r d h o g i j l u z q =
-      ⊎-elim (λ (x : j < a). d i j l u x q) (λ (x : a ≤ j). o i j l u z q (h i j l u x (omega arith) q)) (side j a)
+      ⊎-elim (λ (x : j < a). d i j l u x q) (λ (x : a ≤ j). o i j l u z q (h i j l u x (omega arith) q)) (below? j a)

@@ -1,10 +1,10 @@
 -- The bytes of an add: an entry put in at the index's end, and its chunk at the file's end, the last place of all.
 use mathlib.Core.Path.{_≡_, sym, ap, _∙_}
-use Prim.Native.Nat.{ℕ, _+_, _≤_}
+use Prim.Native.Nat.{ℕ}
 use mathlib.Core.List.{List}
 use native.Mathlib.Omega.{arith}
 use lib.ListN.{length, take}
-use lib.Seq.{length-take-le, take-length}
+use lib.Seq.{take-length}
 use Rattle.blorb.specs.Format.{Chunk}
 use Rattle.blorb.specs.Model.{Model, base, startOf, file, model}
 use Rattle.blorb.specs.Queries.{start, placeAt}
@@ -13,6 +13,7 @@ use Rattle.blorb.proofs.Places.{placeOf-startOf}
 use Rattle.edits.specs.Edit.{added, inserted}
 use Rattle.edits.proofs.AddInserts.{added-inserted}
 use Rattle.rewrite.specs.Rewriting.{Stands, Insertable}
+use Rattle.rewrite.proofs.Writes.{stands-length}
 
 end-start : (m : Model) → length (file m) ≡ start m (length (m .chunks))
 unfolding start startOf base
@@ -27,7 +28,7 @@ module _ (b : List ℕ) (l k : ℕ) (stands : Stands b l k) where
   m = model (take l b)
 
   lm : l ≡ length (file m)
-  lm = sym (ap length (stands .whole) ∙ length-take-le l b (stands .inside))
+  lm = sym (stands-length b l k stands)
 
   pub insertable-end : Insertable b l k k l
   insertable-end = record {

@@ -29,6 +29,7 @@ use Rattle.moves.specs.Moves.{startsMoved, relocated}
 use Rattle.moves.specs.declared.Move.{Move}
 use Rattle.rewrite.specs.Rewriting.{Stands, Insertable}
 use Rattle.rewrite.proofs.Writes.{entries-append, entries-cons, length-entry, entry-bytes, slid-right, starts-moved, written-longer, last-apart}
+use Rattle.rewrite.proofs.Writes.{stands-length}
 
 -- starts at or behind s: behind s - 1
 pub relocated-risen : (m : Move) (s a : ℕ) → 1 ≤ s → m .limit ≡ s - 1 → m .grow ≡ 12 + a → m .fall ≡ 0 → m .plus ≡ 12 → m .minus ≡ 0 → relocated m ≡ risen s a
@@ -169,7 +170,7 @@ module _ (b : List ℕ) (l k i at u n : ℕ) (stands : Stands b l k) (ins : Inse
   place = place-inside at (base (length (m .refs))) (m .chunks)
 
   lm : length (file m) ≡ l
-  lm = ap length (stands .whole) ∙ length-take-le l b (stands .inside)
+  lm = stands-length b l k stands
 
   whole : b ≡ heading (length (m .refs)) (total (m .chunks)) ++ (entriesBytes (entries m) ++ (chunksBytes (m .chunks) ++ drop l b))
   whole = sym (take-append-drop l b) ∙ ap (λ (z : List ℕ). z ++ drop l b) (sym (stands .whole) ∙ file-parts m) ∙ simp append-assoc
@@ -273,7 +274,7 @@ module _ (b : List ℕ) (l k : ℕ) (stands : Stands b l k) (r : Rec) where
       → Insertable b l k (r .place) (r .start - 12)
   insertable h =
       let m : Model = model (take l b) in
-      let lf : length (file m) ≡ l = ap length (stands .whole) ∙ length-take-le l b (stands .inside) in
+      let lf : length (file m) ≡ l = stands-length b l k stands in
       let tt : length (chunksBytes (take (oldPlace r m) (m .chunks))) ≤ total (m .chunks) =
       omega (arith, length-chunksBytes (take (oldPlace r m) (m .chunks)), total-take (oldPlace r m) (m .chunks)) in
       let e : r .start - 12 ≡ start m (oldPlace r m) = omega (arith, h .1) in

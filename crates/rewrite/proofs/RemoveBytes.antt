@@ -8,16 +8,15 @@ use native.Mathlib.Nat.{add-zero}
 use lib.ListN.{length, getD, take, drop, replicate, length-append, length-map, length-drop, length-replicate, take-append-drop}
 use lib.Seq.{length-take-le, split-at}
 use lib.Dec.{ltb}
-use Rattle.blorb.specs.Format.{Chunk, Entry, size, entryBytes, entriesBytes, chunkBytes, chunksBytes, total}
+use Rattle.blorb.specs.Format.{Entry, size, entryBytes, entriesBytes, chunkBytes, chunksBytes, total}
 use Rattle.blorb.specs.Layout.{heading}
-use Rattle.blorb.specs.Verdict.{noChunk}
 use Rattle.blorb.specs.Model.{Model, base, startOf, file, model}
 use Rattle.blorb.specs.Queries.{refAt, chunkAt, shared, without, start}
 use Rattle.edits.specs.Edit.{removed, removedBoth, removedEntry}
 use Rattle.blorb.specs.All.{All}
 use Rattle.blorb.specs.Sound.{W, Sound}
 use Rattle.blorb.proofs.Codec.{EntryOk, length-entriesBytes, length-chunksBytes, length-chunkBytes}
-use Rattle.blorb.proofs.ModelLaws.{entries, entries-ok}
+use Rattle.blorb.proofs.ModelLaws.{entries, entries-ok, chunk-in}
 use Rattle.edits.proofs.UndoLaws.{length-without, length-remaining}
 use Rattle.edits.specs.Starts.{moved, fallen}
 use Rattle.edits.specs.GoneSize.{goneSize}
@@ -26,12 +25,11 @@ use Rattle.blorb.proofs.Parts.{file-parts, file-length, length-heading, chunks-
 use Rattle.edits.proofs.Lengths.{total-less}
 use Rattle.edits.specs.Run.{noted, written}
 use Rattle.edits.proofs.Noted.{noted-over}
-use Rattle.edits.proofs.JudgedLaws.{chunk-in}
 use Rattle.moves.specs.Moves.{startsMoved, relocated}
 use Rattle.moves.specs.declared.Move.{Move}
 use Rattle.moves.specs.Shift.{slid}
 use Rattle.rewrite.specs.Rewriting.{Stands}
-use Rattle.rewrite.proofs.Writes.{entries-append, entries-cons, length-entry, left-behind, slid-left, starts-moved, written-shorter}
+use Rattle.rewrite.proofs.Writes.{entries-append, entries-cons, length-entry, left-behind, slid-left, starts-moved, written-shorter, stands-length}
 
 pub relocated-fallen : (m : Move) (s a : ℕ) → m .limit ≡ s → m .grow ≡ 0 → m .fall ≡ 12 + a → m .plus ≡ 0 → m .minus ≡ 12 → relocated m ≡ fallen s a
 unfolding relocated
@@ -211,9 +209,6 @@ remove-written b l k i st sz stands hi est esz = go (shared (model (take l b)) i
     kc : ℕ
     kc = refAt (model (take l b)) i .chunk
 
-    lm : length (file (model (take l b))) ≡ l
-    lm = ap length (stands .whole) ∙ length-take-le l b (stands .inside)
-
     hi′ : i < length (model (take l b) .refs)
     hi′ = omega (arith, stands .entries)
 
@@ -230,8 +225,8 @@ remove-written b l k i st sz stands hi est esz = go (shared (model (take l b)) i
         (heading (k - 1) (l - sz - (24 + 12 * k))) ≡ written b l (file m′)
     fin sz′ c1 cx c2 m′ es split lcx ec1 X =
         let ek : k ≡ length (m .refs) = stands .entries in
-        let small : length (file m) < W = omega (arith, lm, stands .short) in
-        let tt : l - sz - (24 + 12 * k) ≡ total (m .chunks) - sz′ = omega (arith, file-length m, lm) in
+        let small : length (file m) < W = omega (arith, stands-length b l k stands, stands .short) in
+        let tt : l - sz - (24 + 12 * k) ≡ total (m .chunks) - sz′ = omega (arith, file-length m, stands-length b l k stands) in
         let est′ : start m kc ≡ 24 + 12 * length (m .refs) + length c1 = start-is m i (stands .sound) hi′
         ∙ ap (λ (z : List ℕ). 24 + 12 * length (m .refs) + length z) (sym ec1) in
         (λ z. noted (noted (slid (slid (startsMoved (fallen (est z) (es z)) (ek z) 24 b) (36 + 12 * i - 12) (36 + 12 * i) (est z - (36 + 12 * i)))

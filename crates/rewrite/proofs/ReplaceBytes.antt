@@ -19,7 +19,7 @@ use Rattle.blorb.specs.All.{All}
 use Rattle.blorb.specs.Sound.{W}
 use Rattle.blorb.specs.Bytes.{Byte}
 use Rattle.blorb.proofs.Codec.{length-entriesBytes, length-chunksBytes, length-chunkBytes}
-use Rattle.blorb.proofs.ModelLaws.{entries, entries-ok, size-getD}
+use Rattle.blorb.proofs.ModelLaws.{entries, entries-ok, size-getD, chunk-in}
 use Rattle.edits.specs.Starts.{moved, behind}
 use Rattle.edits.proofs.Starts.{starts-replaced}
 use Rattle.blorb.proofs.Parts.{file-parts, file-length, length-heading, chunks-around, chunks-set}
@@ -29,7 +29,6 @@ use Rattle.moves.specs.Moves.{startsMoved, relocated}
 use Rattle.moves.specs.declared.Move.{Move}
 use Rattle.rewrite.specs.Rewriting.{Stands, closed, resized, Replaceable}
 use Rattle.edits.proofs.Noted.{noted-none}
-use Rattle.edits.proofs.JudgedLaws.{chunk-in}
 use Rattle.moves.proofs.ShiftLaws.{slid-onto}
 use Rattle.moves.proofs.MoveLaws.{starts-stay}
 use Rattle.rewrite.proofs.Content.{written-first, put-written, starts-written, Resized, resized-written}

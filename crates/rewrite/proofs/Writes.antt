@@ -1,6 +1,6 @@
 -- The parts of a buffer that holds a model's file, and what the leaves do to them.
 use mathlib.Core.Path.{_≡_, refl, sym, ap, _∙_}
-use Prim.Native.Nat.{ℕ, _+_, _*_, _-_, _≤_, _%_, max}
+use Prim.Native.Nat.{ℕ, _+_, _-_, _≤_, max}
 use mathlib.Core.List.{List, [], _∷_, _++_, map, append-assoc}
 use mathlib.Core.Bool.{Bool, true, false, cond}
 use native.Mathlib.Omega.{arith}
@@ -10,9 +10,8 @@ use lib.Seq.{take-at, drop-at, drop-drop, drop-append-add, drop-append-le, lengt
 use lib.Dec.{ltb}
 use Rattle.blorb.specs.Bytes.{be32, rd32}
 use Rattle.blorb.proofs.ByteLaws.{length-be32, rd32-be32}
-use Rattle.blorb.specs.Format.{Chunk, chunkOf, Entry, size, sized, entryBytes, entriesBytes, chunkBytes, chunksBytes, total}
-use Rattle.blorb.specs.Model.{Model, base, file}
-use Rattle.blorb.proofs.ModelLaws.{length-file}
+use Rattle.blorb.specs.Format.{Entry, entryBytes, entriesBytes}
+use Rattle.blorb.specs.Model.{file, model}
 use Rattle.blorb.specs.All.{All}
 use Rattle.blorb.proofs.Codec.{EntryOk}
 use Rattle.edits.specs.Starts.{moved}
@@ -21,6 +20,7 @@ use Rattle.edits.proofs.Noted.{noted-after, noted-over}
 use Rattle.moves.specs.Shift.{slid}
 use Rattle.moves.specs.Moves.{startsMoved, relocated}
 use Rattle.moves.specs.declared.Move.{Move}
+use Rattle.rewrite.specs.Rewriting.{Stands}
 
 -- lengths and parts
 pub entries-append : (a b : List Entry) → entriesBytes (a ++ b) ≡ entriesBytes a ++ entriesBytes b
@@ -145,3 +145,7 @@ written-shorter b L z f h =
 -- the last of four parts apart from the others
 pub last-apart : (a b c d : List ℕ) → a ++ (b ++ (c ++ d)) ≡ (a ++ (b ++ c)) ++ d
 last-apart a b c d = simp append-assoc
+
+-- the file of the model is as long as the file
+pub stands-length : (b : List ℕ) (l k : ℕ) → Stands b l k → length (file (model (take l b))) ≡ l
+stands-length b l k st = ap length (st .whole) ∙ length-take-le l b (st .inside)

@@ -11,6 +11,8 @@ use lib.Dec.{eqb, ltb}
 use borrow.Author.Tests.{lt-ltb, le-ltb, ltb-true, ltb-false, eq-eqb, ne-eqb, eqb-true, eqb-false}
 use Rattle.blorb.specs.Format.{Entry}
 use Rattle.blorb.proofs.AllLaws.{all-getD}
+use Rattle.blorb.proofs.NumberLaws.{same?, key-eqb}
+use Rattle.blorb.proofs.Checks.{and-both}
 use Rattle.rows.specs.Order.{before, isPair, Below, Rising}
 
 -- the pair (a, b) is less than (u, n)
@@ -30,19 +32,20 @@ before-go a b u n false false r hp hq hr e = let z : _≡_ {A = ℕ} 0 1 = cc in
 pub before-less : (a b u n : ℕ) → before a b u n ≡ true → Less a b u n
 before-less a b u n e = before-go a b u n (ltb a u) (eqb a u) (ltb b n) refl refl refl e
 
+-- of two pairs the one that is not less is greater, or the same
+after : (a b u n : ℕ) → u ≤ a → (a ≡ u → n ≤ b) → Less u n a b ⊎ ((a ≡ u) × (b ≡ n))
+after a b u n h g = go (same? a u) (same? b n)
+  where
+    go : (a ≡ u) ⊎ (a ≡ u → ⊥) → (b ≡ n) ⊎ (b ≡ n → ⊥) → Less u n a b ⊎ ((a ≡ u) × (b ≡ n))
+    go (inr e) y = inl (inl (omega arith))
+    go (inl e) (inr y) = let l : n ≤ b = g e in inl (inr (sym e, omega arith))
+    go (inl e) (inl y) = inr (e, y)
+
 after-go : (a b u n : ℕ) (p q r : Bool) → ltb a u ≡ p → eqb a u ≡ q → ltb b n ≡ r → p || (q && r) ≡ false → Less u n a b ⊎ ((a ≡ u) × (b ≡ n))
 after-go a b u n true q r hp hq hr e = let z : _≡_ {A = ℕ} 0 1 = cc in absurd (omega arith)
 after-go a b u n false true true hp hq hr e = let z : _≡_ {A = ℕ} 0 1 = cc in absurd (omega arith)
-after-go a b u n false true false hp hq hr e = third (ltb n b) refl
-  where
-    third : (s : Bool) → ltb n b ≡ s → Less u n a b ⊎ ((a ≡ u) × (b ≡ n))
-    third true w = inl (inr (sym (eqb-true a u hq), ltb-true n b w))
-    third false w = inr (eqb-true a u hq, omega (arith, ltb-false n b w, ltb-false b n hr))
-after-go a b u n false false r hp hq hr e = third (ltb u a) refl
-  where
-    third : (s : Bool) → ltb u a ≡ s → Less u n a b ⊎ ((a ≡ u) × (b ≡ n))
-    third true w = inl (inl (ltb-true u a w))
-    third false w = absurd (eqb-false a u hq (omega (arith, ltb-false u a w, ltb-false a u hp)))
+after-go a b u n false true false hp hq hr e = after a b u n (ltb-false a u hp) (λ w. ltb-false b n hr)
+after-go a b u n false false r hp hq hr e = after a b u n (ltb-false a u hp) (λ w. absurd (eqb-false a u hq w))
 
 -- a pair that is not before another is after it, or the same
 pub before-not : (a b u n : ℕ) → before a b u n ≡ false → Less u n a b ⊎ ((a ≡ u) × (b ≡ n))
@@ -68,12 +71,7 @@ before-trans a b c d u n p q = less-before a b u n (less-trans a b c d u n (befo
 
 -- the same pair
 pub pair-true : (u n : ℕ) (e : Entry) → isPair u n e ≡ true → (e .usage ≡ u) × (e .number ≡ n)
-pair-true u n e h = go (eqb (e .usage) u) (eqb (e .number) n) refl refl h
-  where
-    go : (p q : Bool) → eqb (e .usage) u ≡ p → eqb (e .number) n ≡ q → p && q ≡ true → (e .usage ≡ u) × (e .number ≡ n)
-    go true true x y z = (eqb-true _ _ x, eqb-true _ _ y)
-    go true false x y z = let w : _≡_ {A = ℕ} 0 1 = cc in absurd (omega arith)
-    go false q x y z = let w : _≡_ {A = ℕ} 0 1 = cc in absurd (omega arith)
+pair-true u n e h = let p = and-both _ _ h in (eqb-true _ _ (p .0), eqb-true _ _ (p .1))
 
 pub pair-is : (u n : ℕ) (e : Entry) → e .usage ≡ u → e .number ≡ n → isPair u n e ≡ true
 pair-is u n e p q = rw (eq-eqb (e .usage) u p, eq-eqb (e .number) n q)
@@ -105,18 +103,7 @@ module _ (a b u n : ℕ) (hb : b < 4294967296) (hn : n < 4294967296) where
 
 module _ (a b u n : ℕ) (hb : b < 4294967296) (hn : n < 4294967296) where
   pub key-not : u * 4294967296 + n ≤ a * 4294967296 + b → before a b u n ≡ false
-  key-not l = less-not a b u n (go (ltb u a) refl)
-    where
-      go : (t : Bool) → ltb u a ≡ t → Less u n a b ⊎ ((a ≡ u) × (b ≡ n))
-      go true e = inl (inl (ltb-true u a e))
-      go false e = second (ltb n b) refl
-        where
-          same : a ≡ u
-          same = omega (arith, ltb-false u a e)
-
-          second : (s : Bool) → ltb n b ≡ s → Less u n a b ⊎ ((a ≡ u) × (b ≡ n))
-          second true w = inl (inr (sym same, ltb-true n b w))
-          second false w = inr (same, omega (arith, ltb-false n b w, same))
+  key-not l = less-not a b u n (after a b u n (omega arith) (λ e. omega arith))
 
 pub rising-at : (es : List Entry) (d : Entry) (i k : ℕ) → Rising es → i < k → k < length es → Below (getD es i d) (getD es k d)
 unfolding Rising
@@ -144,8 +131,4 @@ ltb-key a b u n hb hn = go (ltb (a * 4294967296 + b) (u * 4294967296 + n)) refl
     go false e = sym (key-not a b u n hb hn (ltb-false _ _ e))
 
 pub eqb-key : (u n : ℕ) (e : Entry) → e .number < 4294967296 → n < 4294967296 → eqb (e .usage * 4294967296 + e .number) (u * 4294967296 + n) ≡ isPair u n e
-eqb-key u n e hb hn = go (eqb (e .usage * 4294967296 + e .number) (u * 4294967296 + n)) refl
-  where
-    go : (c : Bool) → eqb (e .usage * 4294967296 + e .number) (u * 4294967296 + n) ≡ c → c ≡ isPair u n e
-    go true w = let s = key-same (e .usage) (e .number) u n hb hn (eqb-true _ _ w) in sym (pair-is u n e (s .0) (s .1))
-    go false w = sym (pair-not u n e (key-differ (e .usage) (e .number) u n hb hn (eqb-false _ _ w)))
+eqb-key u n e hb hn = key-eqb (e .usage) (e .number) u n hb hn

@@ -1,24 +1,23 @@
 -- A stale table is caught: after a successful edit or undo the old table is accepted exactly where the call leaves it good (specs/Leaves), and refused with
 -- 35 in every other case. An entry more or less changes the count; a replacement changes just the starts behind it.
-use mathlib.Core.Path.{_≡_, refl, ap, sym, _∙_}
+use mathlib.Core.Path.{_≡_, ap, sym, _∙_}
 use Prim.Native.Nat.{ℕ, suc, _-_, _<_}
 use mathlib.Core.List.{List, [], _∷_, _++_, map}
 use mathlib.Core.Bool.{Bool, true, false, cond, _&&_}
 use native.Mathlib.Omega.{arith}
 use lib.ListN.{length, take, length-append, length-map, length-take}
 use lib.Dec.{eqb}
-use borrow.Author.Tests.{eqb-true}
 use Rattle.blorb.specs.Bytes.{Byte}
 use Rattle.blorb.specs.All.{All}
-use Rattle.blorb.specs.Format.{Entry, Ref, Chunk, size}
-use Rattle.blorb.specs.Verdict.{Verdict, accept, refuse, verdict, accepted}
+use Rattle.blorb.specs.Format.{Ref, Chunk, size}
+use Rattle.blorb.specs.Verdict.{accept, refuse, verdict, accepted}
 use Rattle.blorb.specs.Rules.{rulesOf, profileVerdict}
 use Rattle.blorb.specs.Model.{Model, file, model}
 use Rattle.blorb.specs.Queries.{find, refAt, chunkAt, shared, start}
 use Rattle.blorb.specs.Sound.{W, Sound}
 use Rattle.blorb.proofs.AllLaws.{all-take}
-use Rattle.blorb.proofs.Checks.{then-accept, check-accept, and-both}
-use Rattle.blorb.proofs.ModelLaws.{entries, model-file}
+use Rattle.blorb.proofs.Checks.{then-accept, check-accept, and-both, is-accept}
+use Rattle.blorb.proofs.ModelLaws.{entries, model-file, chunk-in}
 use Rattle.blorb.proofs.Accept.{accept-short}
 use Rattle.blorb.proofs.Profiles.{profile-accept, profile-known}
 use Rattle.reader.specs.Reading.{indexOf}
@@ -77,7 +76,6 @@ use Rattle.edits.proofs.RunLaws.{Good, made, take-written, target-applies}
 use Rattle.edits.proofs.Applies.{Applies}
 use Rattle.edits.proofs.UndoJudged.{AcceptedFile, accepted-facts, fits1-facts, fits2-facts, fits5-facts}
 use Rattle.edits.proofs.UndoTold.{last-small}
-use Rattle.edits.proofs.JudgedLaws.{chunk-in}
 use Rattle.stale.specs.Leaves.{MovesNone, EditLeaves, UndoLeaves, Leaves, Caught}
 use Rattle.stale.proofs.Entries.{same-count, unmoved-same, same-unmoved}
 use Rattle.stale.proofs.Sound.{sound1, sound2, sound3, sound4, sound5}
@@ -211,10 +209,6 @@ caught profile P f g t fine good x =
       else-35 = λ no. stale-refused profile f g t fine good (λ same. no (x .only-if same));
     }
 
-accepted-is : (v : Verdict) → accepted v ≡ true → v ≡ accept
-accepted-is accept h = refl
-accepted-is (refuse k p) h = cc
-
 -- a successful call under a profile: an add, a replacement, a removal, a link or an undo, in any state of the buffers
 pub call-caught : (profile : ℕ) (s : State) (c : Call) (t : List ℕ) → All Byte (s .buffer) → All Byte (s .journal) → CallOk c
     → fault (rulesOf profile) s c ≡ accept
@@ -245,7 +239,7 @@ call-caught profile s undo t bytes bytesj args h good =
     let h4 = then-accept _ _ (then-accept _ _ (h2 .1) .1) in
     let p = and-both (wellFormed j && fits (lastRec j) (model f)) (accepted (verdict (rulesOf profile) (undoneFile f j))) (check-accept _ _ _ (h4 .0)) in
     let fit = and-both (wellFormed j) (fits (lastRec j) (model f)) (p .0) .1 in
-    let fine2 : verdict (rulesOf profile) (undoneFile f j) ≡ accept = accepted-is _ (p .1) in
+    let fine2 : verdict (rulesOf profile) (undoneFile f j) ≡ accept = is-accept _ (p .1) in
     let w = last-small j (all-take Byte (s .U) (s .journal) bytesj) in
     let q : fileIn (step (rulesOf profile) s undo) ≡ undoneFile f j = rw h (take-written (s .buffer) (s .L) (undoneFile f j)) in
     rw q (caught profile (UndoLeaves f (lastRec j)) f (undoneFile f j) t (read _ fine2) good

@@ -22,7 +22,6 @@ use Rattle.blorb.proofs.Places.{size-pos, startOf-placeOf}
 use Rattle.blorb.proofs.Codec.{length-chunkBytes}
 use Rattle.edits.specs.Journal.{Rec, lastRec, fits, fits1, fits2, fits5, oldChunk, oldPlace}
 use Rattle.edits.specs.Run.{undoneFile}
-use Rattle.edits.proofs.BoolLaws.{and-parts, and-where}
 use Rattle.edits.proofs.JudgedLaws.{isFront}
 use Rattle.edits.proofs.InsertJudged.{entryTests, entry-new, entry-twice}
 use Rattle.edits.proofs.UndoJudged.{AcceptedFile, fits1-facts, fits2-facts, fits5-facts, found-at, kind-1, kind-2, kind-4, kind-5}
@@ -30,6 +29,7 @@ use Rattle.edits.proofs.FitFacts.{size-is, told3, told4}
 use Rattle.edits.specs.Order.{between}
 use Rattle.edits.proofs.OrderTold.{between-alike}
 use Rattle.blorb.proofs.Parts.{start-in}
+use Rattle.blorb.proofs.Checks.{and-both, and-where}
 use Rattle.edits.proofs.UndoTold.{entryStart, accepted2, accepted4, test-1, test-2, test-3, test-4, test-5, after-1, after-2, after-3, after-4, after-5}
 use Rattle.reader.specs.declared.Piece.{Piece}
 use Rattle.reader.specs.declared.Facts.{Facts}
@@ -146,7 +146,7 @@ module _ (profile : ℕ) (f j : List ℕ) (st : AcceptedFile profile f) (bytes :
   same-plan a x e h = ap (λ (z : Bool). fitting z x) e ∙ fitting-where test x (goOf f j) h
 
   the-fit : test ≡ true → fits (lastRec j) (model f) ≡ true
-  the-fit h = and-parts (fits r m) (accepted (verdict (rulesOf profile) (undoneFile f j))) h .0
+  the-fit h = and-both (fits r m) (accepted (verdict (rulesOf profile) (undoneFile f j))) h .0
 
   go-is : (x y z : ℕ) → x ≡ chunkStart (lastRec j) (model f) → y ≡ chunkSize (lastRec j) (model f) → z ≡ length (undoneFile f j)
       → Go (length (model f .refs)) x y z (numbersOf (lastRec j)) ≡ goOf f j
@@ -282,7 +282,7 @@ module _ (profile : ℕ) (f j : List ℕ) (st : AcceptedFile profile f) (bytes :
           (allows profile (lastRec j .usage) (chunkIn (drop (lastRec j .start - 12) f))) (targetOf (model f) (lastRec j .usage) (lastRec j .number)))))
           ≡ accepted4 profile (lastRec j) (model f) (length f)
       part fit =
-          let s = and-parts (leb (r .place) (length (m .refs))) (isStart (r .start - 12) (base (length (m .refs))) (m .chunks)) fit .1 in
+          let s = and-both (leb (r .place) (length (m .refs))) (isStart (r .start - 12) (base (length (m .refs))) (m .chunks)) fit .1 in
           λ i. order-read (r .start - 12 + 1) (r .start - 12) i && (leb (length f + 12) 16777216 && (below (length (m .refs)) 4096 i
           && (ap (λ (z : Chunk). entryFine (r .usage) (r .number) (allows profile (r .usage) z) (targetOf m (r .usage) (r .number))) (read-there s)
           ∙ entry-told profile m (r .usage) (r .number) (c s)) i))

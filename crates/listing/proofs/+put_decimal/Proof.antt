@@ -1,3 +1,4 @@
+-- A number's digits are those of its tenth part and then its last one; the tenth part is smaller, so the calls end.
 use native.Mathlib.Omega.{arith}
 use borrow.Author.Needs.{needs}
 use Rattle.listing.proofs.TextLaws.{room-one, room-on}

@@ -1,3 +1,4 @@
+-- The reader's answer decides which of the two listings is written, and both promise the bytes of its lines.
 use mathlib.Core.Path.{sym, _∙_}
 use denote.Ref.{now}
 use Rattle.listing.proofs.ListLaws.{list-by}
@@ -10,31 +11,13 @@ use Rattle.listing.proofs.list_accepted.Reads as list-accepted-reads
 use Rattle.listing.proofs.list_refused.Reads as list-refused-reads
 use Rattle.reader.proofs.read.Reads as read-reads
 
-read-requires : tie.Need-read-requires
-read-requires c κs = search needs
-
-enum-known-length : tie.Need-enum-known-length
-enum-known-length c = search needs
-
 list-accepted-requires : tie.Need-list-accepted-requires
 list-accepted-requires c κs = sym (c .before .before .before .before .read .ensures) ∙ c .before .before .length .given .1
-
-enum-known-number : tie.Need-enum-known-number
-enum-known-number c = search needs
-
-list-refused-requires : tie.Need-list-refused-requires
-list-refused-requires c κs = search needs
-
-same-length : tie.Need-same-length
-same-length c = search needs
 
 returns : tie.Need-returns
 returns c = let a = c .before .before .before .before .before .before .before .before .before .before .args in list-by (now (a .file)) (now (a .out)) _ _ _
     (sym (c .before .before .before .before .before .before .before .read .ensures) ∙ c .before .before .before .before .before .length .given .1)
     (c .before .before .list-accepted .ensures)
-
-same-length-2 : tie.Need-same-length-2
-same-length-2 c = search needs
 
 returns-2 : tie.Need-returns-2
 returns-2 c = let a = c .before .before .before .before .before .before .before .before .before .before .args in list-by (now (a .file)) (now (a .out)) _ _ _
@@ -45,12 +28,12 @@ pub list-spec : {M : Type 1} → statement M
 list-spec =
     tie.close
     (tie.spec
-    read-requires
-    enum-known-length
+    (λ c κs. search needs)
+    (λ c. search needs)
     list-accepted-requires
-    enum-known-number
-    list-refused-requires
-    same-length
+    (λ c. search needs)
+    (λ c κs. search needs)
+    (λ c. search needs)
     returns
-    same-length-2
+    (λ c. search needs)
     returns-2)

@@ -1,3 +1,4 @@
+-- Each line is at most 48 bytes and the head at most 64, so where there is room for that the lines are written one behind the other.
 use native.Mathlib.Omega.{arith}
 use Prim.Native.Nat.{_+_, _*_}
 use mathlib.Core.List.{_++_}
@@ -25,18 +26,12 @@ returns : tie.Need-returns
 returns c = let a = c .before .before .before .args in no-room (now (a .out)) (64 + 48 * a .count) (headLine (a .size) (a .count) ++ linesOf (now (a .file))
     (indexOf (now (a .file)))) (c .if1 .taken)
 
-put-head-requires : tie.Need-put-head-requires
-put-head-requires c κs = search needs
-
 put-entries-requires : tie.Need-put-entries-requires
 put-entries-requires c κs = let a = c .before .before .before .before .before .before .before .before .args in (
   size-known (now (a .file)) (a .size) (a .count) (c .before .before .before .before .before .before .before .before .pre),
   omega
       (arith, c .before .before .before .before .before .if1 .left, c .before .before .before .put-head .ensures .1),
 )
-
-same-length : tie.Need-same-length
-same-length c = search needs
 
 returns-2 : tie.Need-returns-2
 returns-2 c = let a = c .before .before .before .before .before .before .before .before .before .before .before .args in
@@ -50,4 +45,4 @@ returns-2 c = let a = c .before .before .before .before .before .before .before 
 pub list-accepted-spec : {M : Type 1} → statement M
 list-accepted-spec =
     tie.close
-    (tie.spec mul-if1 add-if1 returns put-head-requires put-entries-requires same-length returns-2)
+    (tie.spec mul-if1 add-if1 returns (λ c κs. search needs) put-entries-requires (λ c. search needs) returns-2)

@@ -1,3 +1,4 @@
+-- A refusal's line is at most 64 bytes: two numbers of at most 20 digits and the words around them.
 use native.Mathlib.Omega.{arith}
 use denote.Ref.{now}
 use Rattle.listing.specs.Listing.{refusedLine}
@@ -15,14 +16,8 @@ use Rattle.listing.proofs.put_text.Reads as put-text-reads
 returns : tie.Need-returns
 returns c = let a = c .before .before .args in no-room (now (a .out)) 64 (refusedLine (a .number) (a .place)) (c .if1 .taken)
 
-slice-aggregate-put-number : tie.Need-slice-aggregate-put-number
-slice-aggregate-put-number c = search needs
-
 put-number-requires : tie.Need-put-number-requires
 put-number-requires c κs = omega (arith, decimal-20 (c .before .before .before .before .args .number), c .before .before .if1 .left)
-
-slice-aggregate-put-number-2 : tie.Need-slice-aggregate-put-number-2
-slice-aggregate-put-number-2 c = search needs
 
 put-number-requires-2 : tie.Need-put-number-requires-2
 put-number-requires-2 c κs = let a = c .before .before .before .before .before .before .before .before .before .args in
@@ -34,9 +29,6 @@ put-number-requires-2 c κs = let a = c .before .before .before .before .before 
       c .before .before .before .before .before .before .before .if1 .left,
     )
 
-slice-aggregate-put-text : tie.Need-slice-aggregate-put-text
-slice-aggregate-put-text c = search needs
-
 put-text-requires : tie.Need-put-text-requires
 put-text-requires c κs = let a = c .before .before .before .before .before .before .before .before .before .before .before .before .before .before .args in
     omega (
@@ -47,9 +39,6 @@ put-text-requires c κs = let a = c .before .before .before .before .before .bef
       c .before .before .before .before .put-number2 .ensures .0,
       c .before .before .before .before .before .before .before .before .before .before .before .before .if1 .left,
     )
-
-same-length : tie.Need-same-length
-same-length c = search needs
 
 returns-2 : tie.Need-returns-2
 returns-2 c = let a = c .before .before .before .before .before .before .before .before .before .before .before .before .before .before .before .before
@@ -65,11 +54,11 @@ list-refused-spec =
     tie.close
     (tie.spec
     returns
-    slice-aggregate-put-number
+    (λ c. search needs)
     put-number-requires
-    slice-aggregate-put-number-2
+    (λ c. search needs)
     put-number-requires-2
-    slice-aggregate-put-text
+    (λ c. search needs)
     put-text-requires
-    same-length
+    (λ c. search needs)
     returns-2)

@@ -1,3 +1,4 @@
+-- After i turns the lines of the first i entries stand in the buffer, and take at most 48 bytes each.
 use borrow.Author.Needs.{needs}
 use native.Mathlib.Omega.{arith}
 use Prim.Native.Nat.{_+_, _*_, _-_, _≤_}

@@ -1,3 +1,4 @@
+-- Usage, number and start stand in the entry's twelve bytes; numbers of 32 bits have at most ten digits.
 use native.Mathlib.Omega.{arith}
 use denote.Ref.{now}
 use Rattle.listing.proofs.TextLaws.{decimal-10}
@@ -11,24 +12,6 @@ use Rattle.blorb.proofs.be32_at.Reads as be32-at-reads
 use Rattle.listing.proofs.put_number.Reads as put-number-reads
 use Rattle.listing.proofs.put_tag.Reads as put-tag-reads
 
-add-be32-at : tie.Need-add-be32-at
-add-be32-at c = search needs
-
-be32-at-requires : tie.Need-be32-at-requires
-be32-at-requires c κs = search needs
-
-add-be32-at-2 : tie.Need-add-be32-at-2
-add-be32-at-2 c = search needs
-
-be32-at-requires-2 : tie.Need-be32-at-requires-2
-be32-at-requires-2 c κs = search needs
-
-put-tag-requires : tie.Need-put-tag-requires
-put-tag-requires c κs = search needs
-
-slice-aggregate-put-number : tie.Need-slice-aggregate-put-number
-slice-aggregate-put-number c = search needs
-
 put-number-requires : tie.Need-put-number-requires
 put-number-requires c κs = omega (
   arith,
@@ -36,9 +19,6 @@ put-number-requires c κs = omega (
   c .before .before .before .before .put-tag .ensures .1,
   c .before .before .before .before .before .before .before .before .before .before .pre .1,
 )
-
-slice-aggregate-put-number-2 : tie.Need-slice-aggregate-put-number-2
-slice-aggregate-put-number-2 c = search needs
 
 put-number-requires-2 : tie.Need-put-number-requires-2
 put-number-requires-2 c κs = omega (
@@ -50,9 +30,6 @@ put-number-requires-2 c κs = omega (
   c .before .before .before .before .put-number .ensures .0,
   c .before .before .before .before .before .before .before .before .before .before .before .before .before .before .before .pre .1,
 )
-
-same-length : tie.Need-same-length
-same-length c = search needs
 
 returns : tie.Need-returns
 returns c = let a = c .before .before .before .before .before .before .before .before .before .before .before .before .before .before .before .before .before
@@ -68,14 +45,14 @@ pub put-fields-spec : {M : Type 1} → statement M
 put-fields-spec =
     tie.close
     (tie.spec
-    add-be32-at
-    be32-at-requires
-    add-be32-at-2
-    be32-at-requires-2
-    put-tag-requires
-    slice-aggregate-put-number
+    (λ c. search needs)
+    (λ c κs. search needs)
+    (λ c. search needs)
+    (λ c κs. search needs)
+    (λ c κs. search needs)
+    (λ c. search needs)
     put-number-requires
-    slice-aggregate-put-number-2
+    (λ c. search needs)
     put-number-requires-2
-    same-length
+    (λ c. search needs)
     returns)

@@ -1,3 +1,4 @@
+-- What was written first and the digits behind it are written as one text.
 use borrow.Author.Needs.{needs}
 use denote.Ref.{now}
 use Rattle.listing.specs.Text.{decimal}
@@ -9,15 +10,6 @@ use Rattle.listing.proofs.put_number.Lts as lts
 use Rattle.listing.proofs.put_decimal.Reads as put-decimal-reads
 use Rattle.listing.proofs.put_text.Reads as put-text-reads
 
-put-text-requires : tie.Need-put-text-requires
-put-text-requires c κs = search needs
-
-put-decimal-requires : tie.Need-put-decimal-requires
-put-decimal-requires c κs = search needs
-
-same-length : tie.Need-same-length
-same-length c = search needs
-
 returns : tie.Need-returns
 returns c =
     let a = c .before .before .before .before .before .before .before .before .before .before .args in
@@ -25,4 +17,4 @@ returns c =
     (c .before .before .put-decimal .ensures)
 
 pub put-number-spec : {M : Type 1} → statement M
-put-number-spec = tie.close (tie.spec put-text-requires put-decimal-requires same-length returns)
+put-number-spec = tie.close (tie.spec (λ c κs. search needs) (λ c κs. search needs) (λ c. search needs) returns)

@@ -1,3 +1,4 @@
+-- Four bytes of the file are the bytes of the number that they make, so they are copied as they stand.
 use mathlib.Core.Path.{refl}
 use Prim.Native.Nat.{_+_}
 use native.Mathlib.Omega.{arith}
@@ -15,24 +16,6 @@ use Rattle.listing.proofs.put_tag.Reads as reads
 use Rattle.listing.proofs.put_tag.Lts as lts
 use Rattle.listing.proofs.put_text.Reads as put-text-reads
 
-add-to : tie.Need-add-to
-add-to c = search needs
-
-sub-put-text : tie.Need-sub-put-text
-sub-put-text c = search needs
-
-part-put-text-start : tie.Need-part-put-text-start
-part-put-text-start c = search needs
-
-part-put-text-end : tie.Need-part-put-text-end
-part-put-text-end c = search needs
-
-put-text-requires : tie.Need-put-text-requires
-put-text-requires c κs = search needs
-
-same-length : tie.Need-same-length
-same-length c = search needs
-
 returns : tie.Need-returns
 returns c =
     let a = c .before .before .before .before .before .before .before .args in
@@ -46,10 +29,10 @@ pub put-tag-spec : {M : Type 1} → statement M
 put-tag-spec =
     tie.close
     (tie.spec
-    add-to
-    sub-put-text
-    part-put-text-start
-    part-put-text-end
-    put-text-requires
-    same-length
+    (λ c. search needs)
+    (λ c. search needs)
+    (λ c. search needs)
+    (λ c. search needs)
+    (λ c κs. search needs)
+    (λ c. search needs)
     returns)

@@ -1,3 +1,4 @@
+-- After i turns the first i bytes of the text stand in the buffer, and nothing else has changed.
 use borrow.Author.Needs.{needs}
 use native.Mathlib.Omega.{arith}
 use Prim.Native.Nat.{_-_, _≤_}

@@ -1,3 +1,4 @@
+-- The program's buffer has room for the longest listing, so the listing is written whole.
 use denote.Ref.{now}
 use Rattle.listing_io.proofs.Laws.{room-enough, whole}
 use borrow.Author.Needs.{needs}
@@ -7,25 +8,10 @@ use Rattle.listing_io.proofs.list_whole.Reads as reads
 use Rattle.listing_io.proofs.list_whole.Lts as lts
 use Rattle.listing.proofs.list_input.Reads as list-input-reads
 
-list-input-requires : tie.Need-list-input-requires
-list-input-requires c κs = search needs
-
-enum-known-n : tie.Need-enum-known-n
-enum-known-n c = search needs
-
-enum-told : tie.Need-enum-told
-enum-told c = search needs
-
-same-length : tie.Need-same-length
-same-length c = search needs
-
 returns : tie.Need-returns
 returns c = let a = c .before .before .before .before .before .before .before .before .args in room-enough (now (a .file)) (a .longer) (now (a .out)) _
     (c .before .before .before .before .before .before .before .before .pre) (c .before .before .before .before .list-input .ensures .0)
     (c .enum-told .given .1)
-
-same-length-2 : tie.Need-same-length-2
-same-length-2 c = search needs
 
 returns-2 : tie.Need-returns-2
 returns-2 c = let a = c .before .before .before .before .before .before .before .before .before .args in
@@ -37,10 +23,10 @@ pub list-whole-spec : {M : Type 1} → statement M
 list-whole-spec =
     tie.close
     (tie.spec
-    list-input-requires
-    enum-known-n
-    enum-told
-    same-length
+    (λ c κs. search needs)
+    (λ c. search needs)
+    (λ c. search needs)
+    (λ c. search needs)
     returns
-    same-length-2
+    (λ c. search needs)
     returns-2)

@@ -1,3 +1,5 @@
+-- Entry by entry: what is left of the verdict is what was left before, as the entry is good, its pair new and its start no lower. A pair is new at once where
+-- its number is no less than the top of its usage; else all earlier entries are looked at.
 use borrow.Author.Needs.{needs}
 use native.Mathlib.Omega.{arith}
 use Prim.Native.Nat.{ℕ, _+_, _-_, _≤_, _<_}
@@ -53,12 +55,6 @@ Inv-entries s profile count base answer₀ tops₀ found₀ j₀ answer tops fou
 abbrev μ-entries : tie.MeasureT-entries
 μ-entries s profile count base answer₀ tops₀ found₀ j₀ answer tops found j = count - j
 
-mul-base : tie.Need-mul-base Inv-loop μ-loop Inv-entries μ-entries
-mul-base c = search needs
-
-add-base : tie.Need-add-base Inv-loop μ-loop Inv-entries μ-entries
-add-base c = search needs
-
 entries-holds : tie.Need-entries-holds Inv-loop μ-loop Inv-entries μ-entries
 entries-holds c =
     let a = c .before .args in
@@ -73,112 +69,75 @@ entries-holds c =
       before-none (now (a .s)) (place (a .count)),
     )
 
-mul-p : tie.Need-mul-p Inv-loop μ-loop Inv-entries μ-entries
-mul-p c = search needs
+-- entry j once its number is read: it is good by itself, its chunk begins at `start`, and its usage has a place among the tops
+judged : (c : tie.After-be32-at2 Inv-loop μ-loop Inv-entries μ-entries)
+    → let a = c .before .before .before .before .before .before .before .before .before .before .args in
+    let p : ℕ = place (c .before .before .before .before .before .before .before .before .entries .j) in
+    (entryFault (a .profile) (now (a .s)) (place (a .count)) p ≡ accept) × (startAt (now (a .s)) p ≡ c .before .before .before .before .start .given .0 .0)
+judged c = judged-at _ _ _ (sym (c .before .before .before .before .before .before .judge .ensures) ∙ c .before .before .before .before .start .given .1)
 
-add-p : tie.Need-add-p Inv-loop μ-loop Inv-entries μ-entries
-add-p c = search needs
+slot-is : (c : tie.After-be32-at2 Inv-loop μ-loop Inv-entries μ-entries)
+    → let a = c .before .before .before .before .before .before .before .before .before .before .args in
+    c .before .slot .result ≡ slotOf (usageAt (now (a .s)) (place (c .before .before .before .before .before .before .before .before .entries .j)))
+slot-is c = c .before .slot .ensures .0 ∙ ap slotOf (c .before .before .be32-at .ensures .0)
 
-judge-requires : tie.Need-judge-requires Inv-loop μ-loop Inv-entries μ-entries
-judge-requires c κs = search needs
-
-enum-known-number : tie.Need-enum-known-number Inv-loop μ-loop Inv-entries μ-entries
-enum-known-number c = search needs
+-- its pair is new where its number is no less than the top of its usage
+new-pair : (c : tie.After-be32-at2 Inv-loop μ-loop Inv-entries μ-entries)
+    → let a = c .before .before .before .before .before .before .before .before .before .before .args in
+    let o = c .before .before .before .before .before .before .before .before .entries in
+    getD (o .tops) (c .before .slot .result) 0 ≤ c .be32-at2 .result
+    → pairIn (usageAt (now (a .s)) (place (o .j))) (numberAt (now (a .s)) (place (o .j))) (earlier (now (a .s)) (place (a .count)) (o .j)) ≡ false
+new-pair c h =
+    let s = now (c .before .before .before .before .before .before .before .before .before .before .args .s) in
+    let o = c .before .before .before .before .before .before .before .before .entries in
+    let m : c .be32-at2 .result ≡ numberAt s (place (o .j)) = c .be32-at2 .ensures .0 in
+    fresh s _ (o .j) (getD (o .tops) (c .before .slot .result) 0) (topped s (o .tops) (o .j) (c .before .slot .result) (o .inv .6) (slot-is c)) (omega arith)
+    (o .j) (omega arith)
 
 returns : tie.Need-returns Inv-loop μ-loop Inv-entries μ-entries
 returns c = entry-stop _ _ _ _ _ (c .before .before .before .before .before .before .before .pre .2) (c .before .before .before .before .entries-test .taken)
     _ _ (judged-fault _ _ _ _ (sym (c .before .before .before .judge .ensures) ∙ c .before .number .given .1))
     ∙ c .before .before .before .before .before .entries .inv .5
 
-enum-known-start : tie.Need-enum-known-start Inv-loop μ-loop Inv-entries μ-entries
-enum-known-start c = search needs
-
-be32-at-requires : tie.Need-be32-at-requires Inv-loop μ-loop Inv-entries μ-entries
-be32-at-requires c κs = search needs
-
-slot-requires : tie.Need-slot-requires Inv-loop μ-loop Inv-entries μ-entries
-slot-requires c κs = search needs
-
-add-be32-at : tie.Need-add-be32-at Inv-loop μ-loop Inv-entries μ-entries
-add-be32-at c = search needs
-
-be32-at-requires-2 : tie.Need-be32-at-requires-2 Inv-loop μ-loop Inv-entries μ-entries
-be32-at-requires-2 c κs = search needs
-
-mul-if1 : tie.Need-mul-if1 Inv-loop μ-loop Inv-entries μ-entries
-mul-if1 c = search needs
-
-array-read-if1 : tie.Need-array-read-if1 Inv-loop μ-loop Inv-entries μ-entries
-array-read-if1 c = search needs
-
-unordered-requires : tie.Need-unordered-requires Inv-loop μ-loop Inv-entries μ-entries
-unordered-requires c κs = search needs
-
 returns-2 : tie.Need-returns-2 Inv-loop μ-loop Inv-entries μ-entries
 returns-2 c =
-    let a = c .before .before .before .before .before .before .before .before .before .before .before .before .before .args in
+    let d = c .before .before .before in
+    let a = d .before .before .before .before .before .before .before .before .before .before .args in
     let s = now (a .s) in
-    let o = c .before .before .before .before .before .before .before .before .before .before .before .entries in
+    let o = d .before .before .before .before .before .before .before .before .entries in
     let p : ℕ = place (o .j) in
     let base : ℕ = place (a .count) in
-    let w = c .before .before .before .before .before .before .before .before .before .before .before .before .before .pre .2 in
-    let g = judged-at (entryFault (a .profile) s base p) (startAt s p) _
-    (sym (c .before .before .before .before .before .before .before .before .before .judge .ensures)
-    ∙ c .before .before .before .before .before .before .before .start .given .1) in
-    let b = entry-start _ s base p (g .0) in
-    let k = c .before .before .before .before .slot .result in
-    let q : k ≡ slotOf (usageAt s p) = c .before .before .before .before .slot .ensures .0
-    ∙ ap slotOf (c .before .before .before .before .before .be32-at .ensures .0) in
-    let m : c .before .before .before .be32-at2 .result ≡ numberAt s p = c .before .before .before .be32-at2 .ensures .0 in
-    let top : ℕ = getD (o .tops) k 0 in
+    let w = d .before .before .before .before .before .before .before .before .before .before .pre .2 in
+    let g = judged d in
+    let top : ℕ = getD (o .tops) (d .before .slot .result) 0 in
     let h : top ≤ c .before .before .before .be32-at2 .result = c .before .before .if1 .taken in
-    let x : pairIn (usageAt s p) (numberAt s p) (earlier s base (o .j)) ≡ false = fresh s base (o .j) top (topped s (o .tops) (o .j) k (o .inv .6) q)
-    (omega arith) (o .j) (omega arith) in
-    c .unordered .ensures ∙ order-stop _ s base (a .count) (o .j) w (omega arith) (g .0) x (o .found) _ (o .inv .7) (g .1) (c .before .if2 .taken) ∙ o .inv .5
-
-add-tops : tie.Need-add-tops Inv-loop μ-loop Inv-entries μ-entries
-add-tops c = search needs
-
-mul-tops : tie.Need-mul-tops Inv-loop μ-loop Inv-entries μ-entries
-mul-tops c = search needs
-
-array-write-tops : tie.Need-array-write-tops Inv-loop μ-loop Inv-entries μ-entries
-array-write-tops c = search needs
-
-add-j : tie.Need-add-j Inv-loop μ-loop Inv-entries μ-entries
-add-j c = search needs
-
-entries-less : tie.Need-entries-less Inv-loop μ-loop Inv-entries μ-entries
-entries-less c = search needs
+    c .unordered .ensures
+    ∙ order-stop _ s base (a .count) (o .j) w (omega arith) (g .0) (new-pair d h) (o .found) _ (o .inv .7) (g .1) (c .before .if2 .taken) ∙ o .inv .5
 
 entries-again : tie.Need-entries-again Inv-loop μ-loop Inv-entries μ-entries
 entries-again c =
-    let a = c .before .before .before .before .before .before .before .before .before .before .before .before .args in
+    let d = c .before .before in
+    let a = d .before .before .before .before .before .before .before .before .before .before .args in
     let s = now (a .s) in
-    let o = c .before .before .before .before .before .before .before .before .before .before .entries in
+    let o = d .before .before .before .before .before .before .before .before .entries in
     let p : ℕ = place (o .j) in
     let base : ℕ = place (a .count) in
-    let w = c .before .before .before .before .before .before .before .before .before .before .before .before .pre .2 in
-    let g = judged-at (entryFault (a .profile) s base p) (startAt s p) _
-    (sym (c .before .before .before .before .before .before .before .before .judge .ensures)
-    ∙ c .before .before .before .before .before .before .start .given .1) in
+    let w = d .before .before .before .before .before .before .before .before .before .before .pre .2 in
+    let g = judged d in
     let b = entry-start _ s base p (g .0) in
-    let k = c .before .before .before .slot .result in
-    let q : k ≡ slotOf (usageAt s p) = c .before .before .before .slot .ensures .0 ∙ ap slotOf (c .before .before .before .before .be32-at .ensures .0) in
-    let m : c .before .before .be32-at2 .result ≡ numberAt s p = c .before .before .be32-at2 .ensures .0 in
+    let k = d .before .slot .result in
+    let m : c .before .before .be32-at2 .result ≡ numberAt s p = d .be32-at2 .ensures .0 in
     let top : ℕ = getD (o .tops) k 0 in
     let h : top ≤ c .before .before .be32-at2 .result = c .before .if1 .taken in
-    let x : pairIn (usageAt s p) (numberAt s p) (earlier s base (o .j)) ≡ false = fresh s base (o .j) top (topped s (o .tops) (o .j) k (o .inv .6) q)
-    (omega arith) (o .j) (omega arith) in
-    let z : k < 8 = c .before .before .before .slot .ensures .1 in
+    let z : k < 8 = d .before .slot .ensures .1 in
     let t : length (o .tops) ≡ 8 = o .inv .2 in (
       omega arith,
       o .inv .1,
       simp length-set t,
       rw (← (g .1)) (begun s (startAt s p) base w b .walks),
       rw (← (g .1)) (resume s (startAt s p) base w b),
-      entries-next _ s base (a .count) (o .j) w (omega arith) (g .0) x (o .found) _ (o .inv .7) (g .1) (c .if2 .left) ∙ o .inv .5,
-      below-next s (o .tops) (o .j) k (c .before .before .be32-at2 .result + 1) (o .inv .6) q (omega arith) (omega arith) (omega arith),
+      entries-next _ s base (a .count) (o .j) w (omega arith) (g .0) (new-pair d h) (o .found) _ (o .inv .7) (g .1) (c .if2 .left) ∙ o .inv .5,
+      below-next s (o .tops) (o .j) k (c .before .before .be32-at2 .result + 1) (o .inv .6) (slot-is d) (omega arith) (omega arith) (omega arith),
       before-next _ s base (a .count) (o .j) w (omega arith) (g .0) _ (g .1),
     )
 
@@ -192,15 +151,6 @@ loop-holds c = (
       (c .before .before .before .before .before .before .before .before .before .entries .j),
 )
 
-same-pair-requires : tie.Need-same-pair-requires Inv-loop μ-loop Inv-entries μ-entries
-same-pair-requires c κs = search needs
-
-add-i : tie.Need-add-i Inv-loop μ-loop Inv-entries μ-entries
-add-i c = search needs
-
-loop-less : tie.Need-loop-less Inv-loop μ-loop Inv-entries μ-entries
-loop-less c = search needs
-
 loop-again : tie.Need-loop-again Inv-loop μ-loop Inv-entries μ-entries
 loop-again c =
     let l = c .before .before .before .loop in (
@@ -212,65 +162,47 @@ loop-again c =
           (sym (c .before .same-pair .ensures) ∙ c .if3 .left),
     )
 
-unordered-requires-2 : tie.Need-unordered-requires-2 Inv-loop μ-loop Inv-entries μ-entries
-unordered-requires-2 c κs = search needs
-
 returns-3 : tie.Need-returns-3 Inv-loop μ-loop Inv-entries μ-entries
 returns-3 c =
-    let a = c .before .before .before .before .before .before .before .before .before .before .before .before .before .before .before .args in
+    let d = c .before .before .before .before .before in
+    let a = d .before .before .before .before .before .before .before .before .before .before .args in
     let s = now (a .s) in
-    let o = c .before .before .before .before .before .before .before .before .before .before .before .before .before .entries in
+    let o = d .before .before .before .before .before .before .before .before .entries in
     let p : ℕ = place (o .j) in
     let base : ℕ = place (a .count) in
-    let w = c .before .before .before .before .before .before .before .before .before .before .before .before .before .before .before .pre .2 in
-    let g = judged-at (entryFault (a .profile) s base p) (startAt s p) _
-    (sym (c .before .before .before .before .before .before .before .before .before .before .before .judge .ensures)
-    ∙ c .before .before .before .before .before .before .before .before .before .start .given .1) in
-    let b = entry-start _ s base p (g .0) in
-    let k = c .before .before .before .before .before .before .slot .result in
-    let q : k ≡ slotOf (usageAt s p) = c .before .before .before .before .before .before .slot .ensures .0
-    ∙ ap slotOf (c .before .before .before .before .before .before .before .be32-at .ensures .0) in
-    let m : c .before .before .before .before .before .be32-at2 .result ≡ numberAt s p = c .before .before .before .before .before .be32-at2 .ensures .0 in
+    let w = d .before .before .before .before .before .before .before .before .before .before .pre .2 in
+    let g = judged d in
     let l = c .before .before .before .loop in
     let i : l .i ≡ o .j = omega (arith, l .inv .0, c .before .before .loop-test .left) in
     let x : pairIn (usageAt s p) (numberAt s p) (earlier s base (o .j)) ≡ false = ap (λ (z : ℕ). pairIn (usageAt s p) (numberAt s p) (earlier s base z))
     (sym i) ∙ l .inv .2 in
     c .unordered2 .ensures ∙ order-stop _ s base (a .count) (o .j) w (omega arith) (g .0) x (o .found) _ (o .inv .7) (g .1) (c .before .if4 .taken) ∙ o .inv .5
 
-add-j-2 : tie.Need-add-j-2 Inv-loop μ-loop Inv-entries μ-entries
-add-j-2 c = search needs
-
-entries-less-2 : tie.Need-entries-less-2 Inv-loop μ-loop Inv-entries μ-entries
-entries-less-2 c = search needs
-
 entries-again-2 : tie.Need-entries-again-2 Inv-loop μ-loop Inv-entries μ-entries
 entries-again-2 c =
-    let a = c .before .before .before .before .before .before .before .before .before .before .before .before .before .before .args in
+    let d = c .before .before .before .before in
+    let a = d .before .before .before .before .before .before .before .before .before .before .args in
     let s = now (a .s) in
-    let o = c .before .before .before .before .before .before .before .before .before .before .before .before .entries in
+    let o = d .before .before .before .before .before .before .before .before .entries in
     let p : ℕ = place (o .j) in
     let base : ℕ = place (a .count) in
-    let w = c .before .before .before .before .before .before .before .before .before .before .before .before .before .before .pre .2 in
-    let g = judged-at (entryFault (a .profile) s base p) (startAt s p) _
-    (sym (c .before .before .before .before .before .before .before .before .before .before .judge .ensures)
-    ∙ c .before .before .before .before .before .before .before .before .start .given .1) in
+    let w = d .before .before .before .before .before .before .before .before .before .before .pre .2 in
+    let g = judged d in
     let b = entry-start _ s base p (g .0) in
-    let k = c .before .before .before .before .before .slot .result in
-    let q : k ≡ slotOf (usageAt s p) = c .before .before .before .before .before .slot .ensures .0
-    ∙ ap slotOf (c .before .before .before .before .before .before .be32-at .ensures .0) in
-    let m : c .before .before .before .before .be32-at2 .result ≡ numberAt s p = c .before .before .before .before .be32-at2 .ensures .0 in
+    let k = d .before .slot .result in
+    let m : d .be32-at2 .result ≡ numberAt s p = d .be32-at2 .ensures .0 in
     let l = c .before .before .loop in
     let i : l .i ≡ o .j = omega (arith, l .inv .0, c .before .loop-test .left) in
     let x : pairIn (usageAt s p) (numberAt s p) (earlier s base (o .j)) ≡ false = ap (λ (z : ℕ). pairIn (usageAt s p) (numberAt s p) (earlier s base z))
     (sym i) ∙ l .inv .2 in
-    let h : c .before .before .before .before .be32-at2 .result < getD (o .tops) k 0 = c .before .before .before .if1 .left in (
+    let h : d .be32-at2 .result < getD (o .tops) k 0 = c .before .before .before .if1 .left in (
       omega arith,
       l .inv .1,
       o .inv .2,
       rw (← (g .1)) (begun s (startAt s p) base w b .walks),
       rw (← (g .1)) (resume s (startAt s p) base w b),
       entries-next _ s base (a .count) (o .j) w (omega arith) (g .0) x (o .found) _ (o .inv .7) (g .1) (c .if4 .left) ∙ o .inv .5,
-      below-same s (o .tops) (o .j) k (o .inv .6) q (omega arith),
+      below-same s (o .tops) (o .j) k (o .inv .6) (slot-is d) (omega arith),
       before-next _ s base (a .count) (o .j) w (omega arith) (g .0) _ (g .1),
     )
 
@@ -284,18 +216,13 @@ returns-4 c =
 
 returns-5 : tie.Need-returns-5 Inv-loop μ-loop Inv-entries μ-entries
 returns-5 c =
-    let a = c .before .before .before .before .before .before .before .before .before .before .before .before .before .before .before .args in
-    let s = now (a .s) in
-    let o = c .before .before .before .before .before .before .before .before .before .before .before .before .before .entries in
+    let d = c .before .before .before .before .before in
+    let a = d .before .before .before .before .before .before .before .before .before .before .args in
+    let o = d .before .before .before .before .before .before .before .before .entries in
     let l = c .before .before .before .loop in
-    let p : ℕ = place (o .j) in
-    let base : ℕ = place (a .count) in
-    let g = judged-at (entryFault (a .profile) s base p) (startAt s p) _
-    (sym (c .before .before .before .before .before .before .before .before .before .before .before .judge .ensures)
-    ∙ c .before .before .before .before .before .before .before .before .before .start .given .1) in
-    pair-stop _ s base (a .count) (o .j)
-    (c .before .before .before .before .before .before .before .before .before .before .before .before .before .before .before .pre .2) (omega arith)
-    (g .0) (pair-hit s base (l .i) (o .j) (o .j) (c .before .before .loop-test .taken) (sym (c .before .same-pair .ensures) ∙ c .if3 .taken)) ∙ o .inv .5
+    let w = d .before .before .before .before .before .before .before .before .before .before .pre .2 in
+    pair-stop _ (now (a .s)) (place (a .count)) (a .count) (o .j) w (omega arith) (judged d .0)
+    (pair-hit (now (a .s)) _ (l .i) (o .j) (o .j) (c .before .before .loop-test .taken) (sym (c .before .same-pair .ensures) ∙ c .if3 .taken)) ∙ o .inv .5
 
 pub entries-spec : {M : Type 1} → statement M
 entries-spec =
@@ -305,38 +232,38 @@ entries-spec =
     μ-loop
     Inv-entries
     μ-entries
-    mul-base
-    add-base
+    (λ c. search needs)
+    (λ c. search needs)
     entries-holds
-    mul-p
-    add-p
-    judge-requires
-    enum-known-number
+    (λ c. search needs)
+    (λ c. search needs)
+    (λ c κs. search needs)
+    (λ c. search needs)
     returns
-    enum-known-start
-    be32-at-requires
-    slot-requires
-    add-be32-at
-    be32-at-requires-2
-    mul-if1
-    array-read-if1
-    unordered-requires
+    (λ c. search needs)
+    (λ c κs. search needs)
+    (λ c κs. search needs)
+    (λ c. search needs)
+    (λ c κs. search needs)
+    (λ c. search needs)
+    (λ c. search needs)
+    (λ c κs. search needs)
     returns-2
-    add-tops
-    mul-tops
-    array-write-tops
-    add-j
-    entries-less
+    (λ c. search needs)
+    (λ c. search needs)
+    (λ c. search needs)
+    (λ c. search needs)
+    (λ c. search needs)
     entries-again
     loop-holds
-    same-pair-requires
-    add-i
-    loop-less
+    (λ c κs. search needs)
+    (λ c. search needs)
+    (λ c. search needs)
     loop-again
-    unordered-requires-2
+    (λ c κs. search needs)
     returns-3
-    add-j-2
-    entries-less-2
+    (λ c. search needs)
+    (λ c. search needs)
     entries-again-2
     returns-4
     returns-5)

@@ -1,3 +1,4 @@
+-- Chunk by chunk from `at`: what is left holds the first 'Fspc' as long as none was met; its number can be read, as rule 7 has judged its length.
 use borrow.Author.Needs.{needs}
 use native.Mathlib.Omega.{arith}
 use Prim.Native.Nat.{_-_}
@@ -7,7 +8,7 @@ use Rattle.blorb.specs.Verdict.{accept}
 use Rattle.chunks.specs.Walk.{walkFrom, chunksFrom}
 use Rattle.reader.specs.Passed.{Fronts, frontFrom}
 use Rattle.chunks.proofs.ChunkLaws.{fine, walked}
-use Rattle.reader.proofs.PartLaws.{front-end, front-room, front-hit, front-next}
+use Rattle.reader.proofs.FrontLaws.{front-end, front-room, front-hit, front-next}
 use Rattle.reader.proofs.parts.front_from.Statement.{statement}
 use Rattle.reader.proofs.parts.front_from.Tie as tie
 use Rattle.reader.proofs.parts.front_from.Reads as reads

@@ -1,5 +1,6 @@
+-- Ordinary chunks have no 'Fspc' among them; of any others the loop gives the first.
 use mathlib.Core.Path.{_∙_}
-use Rattle.reader.proofs.PartLaws.{front-is, front-ordinary, passed-fronts}
+use Rattle.reader.proofs.FrontLaws.{front-is, front-ordinary, passed-fronts}
 use borrow.Author.Needs.{needs}
 use Rattle.reader.proofs.parts.front_if.Statement.{statement}
 use Rattle.reader.proofs.parts.front_if.Tie as tie
