@@ -92,7 +92,7 @@ enum {
     BLORB_STACK_READING = 768,  /* at most, for every call but those below; 697 as compiled */
     BLORB_STACK_EDITING = 1024, /* at most, for editing; 745 as compiled */
     BLORB_STACK_GROUPS = 6144,  /* at most, for group files of 16 levels; 4856 as compiled */
-    BLORB_STACK_LISTS = 8192    /* at most, for scaled pictures and spoken descriptions, which mark the rows of a list; 8040 as compiled */
+    BLORB_STACK_LISTS = 8192    /* at most, for scaled pictures and spoken descriptions, which mark the rows of a list; 8056 as compiled */
 };
 
 /* Usages and types as numbers: the four bytes, the first one highest. */
@@ -426,9 +426,9 @@ typedef struct blorb_write_answer {
  * begins and how many bytes it has. A partial last row is not looked at. Texts may overlap or be the same bytes. Put into a file as its only
  * 'RDes', behind the index, the chunk gives back the same pairs and texts in the same order.
  *
- * The time is as with reading, and besides proportional to the bytes of all texts that the rows name: 200 rows over one text of 16 MB take 2 s.
- * The list is judged before its size, so this holds of refused lists too, also of those with more rows than any chunk has room for: with ten
- * million rows that do not rise it is minutes.
+ * The time is as with reading, and besides proportional to the bytes of `texts` that the rows name and to the rows: a byte that many rows share is
+ * judged a few times, not once for each, so a million rows over one text of 16 MB take a second or two. The list is judged before its size, so this
+ * holds of refused lists too, also of those with more rows than any chunk has room for: with ten million rows whose pairs do not rise it is minutes.
  * Refusals, row by row 38 before 39, then 40.
  */
 blorb_write_answer blorb_texts_write(const uint32_t *rows, size_t numbers, const uint8_t *texts, size_t texts_size, uint8_t *buffer, size_t size);

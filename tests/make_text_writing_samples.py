@@ -22,7 +22,7 @@ ROOM = 524_288            # the program's buffer for its input, which has to be 
 NUMBERS = 8_192           # numbers in its longest list
 BUFFER = 65_536           # bytes in its longest buffer
 SHORT = 97                # a buffer under this is printed whole
-GENERATED, SEED = 500, 7
+GENERATED, SHARED, SEED = 500, 24, 7
 PICT, SND = int.from_bytes(b"Pict", "big"), int.from_bytes(b"Snd ", "big")
 TOP = 2 ** 32 - 1
 
@@ -116,10 +116,49 @@ def long_lists():
     yield "over 01's limit, the last text bad", rows(*([PICT, n, n, 60_000] for n in range(300))), b"e" * 60_298, BUFFER, ("refused", 39, 299)
 
 
+def over(slice_, *ends, usage=PICT):
+    """Rows for the bytes between these ends, numbers from 1."""
+    return rows(*([usage, i + 1, a, b - a] for i, (a, b) in enumerate(ends))), slice_
+
+
+def shared():
+    """Many texts over one slice, longer than the parts of it that the library remembers: characters of every length, so that the ends of the
+    texts lie in all ways to the ends of the parts. More than fits in a chunk is judged before 40 is answered."""
+    pieces = [bytes.fromhex(GOOD[i % len(GOOD)]) for i in range(4_500)]
+    starts = [0]
+    for piece in pieces:
+        starts.append(starts[-1] + len(piece))
+    slice_ = b"".join(pieces)
+    end, inside = starts[-1], next(at for at in starts if slice_[at] >= 0xF0) + 2
+    many = [(a, end) for a in starts[:150]] + [(0, b) for b in starts[-150:]] + [(a, end - a) for a in (0, 54, 270, 1026)]
+    yield "304 texts over one slice", *over(slice_, *many), BUFFER, ("refused", 40, 0)
+    yield "304 texts over one slice, one more from within a character", *over(slice_, *many, (inside, end)), BUFFER, ("refused", 39, 304)
+    yield "304 texts over one slice, one more to within a character", *over(slice_, *many, (0, end - 54 + inside)), BUFFER, ("refused", 39, 304)
+    whole = slice_ * 3
+    at = whole.index(b"\x7f", 36_000)
+    spoilt = whole[:at] + b"\x80" + whole[at + 1:]
+    ends = [(0, at), (54, at), (at + 1, len(spoilt)), (0, at), (0, len(spoilt))]
+    yield "a stray byte behind what is remembered", *over(spoilt, *ends), BUFFER, ("refused", 39, 4)
+    for at in (511, 512, 513, 767, 768):
+        plain = b"e" * at + b"\x80" + b"e" * 700
+        ends = [(0, at), (at + 1, len(plain)), (1, at), (0, at), (at + 2, len(plain))]
+        yield f"a stray byte at {at}", *over(plain, *ends), 8_000, ("written", 8 + 4 + 5 * 12 + 3 * at - 1 + 2 * 700 - 1 + at % 2)
+        yield f"a stray byte at {at}, and a text over it", *over(plain, *ends, (0, at + 1)), 8_000, ("refused", 39, 5)
+        yield f"a stray byte at {at}, and a text from it", *over(plain, *ends, (at, len(plain))), 8_000, ("refused", 39, 5)
+    for at in (509, 510, 511, 512):
+        split = b"e" * at + b"\xf0\x90\x80\x80" + b"e" * 700
+        ends = [(0, len(split)), (0, at), (at, len(split)), (0, at + 4), (at + 4, len(split)), (0, len(split))]
+        yield f"a character from {at} on", *over(split, *ends), 14_000, ("written", 8 + 4 + 6 * 12 + 4 * len(split))
+        for by in (1, 2, 3):
+            yield f"a character from {at} on, cut after {by}", *over(split, *ends, (0, at + by)), 14_000, ("refused", 39, 6)
+            yield f"a character from {at} on, from its byte {by}", *over(split, *ends, (at + by, len(split))), 14_000, ("refused", 39, 6)
+
+
 def by_hand():
     yield from answers()
     yield from texts()
     yield from long_lists()
+    yield from shared()
 
 
 def generated():
@@ -134,6 +173,14 @@ def generated():
             numbers += [PICT + dice.below(2), dice.below(12), place, end - place if dice.below(20) else dice.below(9)]
         numbers += [dice.below(9) for _ in range(dice.below(4))]
         yield f"generated {k}", numbers, slice_, dice.below(180), None
+    for k in range(SHARED):
+        pieces = [bytes.fromhex(dice.one_of(GOOD if dice.below(1_500) else BAD)) for _ in range(300 + dice.below(500))]
+        slice_, ends = b"".join(pieces), [sum(map(len, pieces[:i])) for i in range(len(pieces) + 1)]
+        numbers = []
+        for n in range(3 + dice.below(8)):
+            place, end = dice.one_of(ends[:80] + ends[-80:]), dice.one_of(ends[-80:])
+            numbers += [PICT, n, min(place, end), max(place, end) - min(place, end) + (0 if dice.below(40) else dice.below(3))]
+        yield f"generated over one slice {k}", numbers, slice_, 20_000, None
 
 
 def filler(n):

@@ -345,6 +345,40 @@ static double time_writing(enum order order)
     return taken / 1e9;
 }
 
+/* ---- texts that share their bytes */
+
+/*
+ * What the writer takes with a million texts of all of one slice of 16 MB, in seconds: 40 is answered once all are judged. The slice is remembered in
+ * parts of PART bytes, 64 to a word. Worst: each text begins just behind the first border and ends at one where a stray byte follows, so that most of
+ * three parts is walked for each text, and the parts of two words are looked at one by one.
+ */
+enum { SHARING = 1000000, PART = BLORB_MAX_SIZE / 57344 + 256 };
+
+static double time_sharing(enum kind kind, bool worst)
+{
+    size_t each = strlen(words[kind]), from = worst ? 3 : 0, to = BLORB_MAX_SIZE / each * each;
+    uint32_t *rows = malloc(BLORB_TEXT_NUMBERS * SHARING * sizeof *rows);
+    uint8_t *texts = calloc(BLORB_MAX_SIZE, 1), buffer[1];
+
+    if (rows == NULL || texts == NULL)
+        exit(1);
+    for (size_t i = 0; i + each <= BLORB_MAX_SIZE; i += each)
+        memcpy(texts + i, words[kind], each);
+    if (worst) {
+        to = BLORB_MAX_SIZE / (192 * PART) * (192 * PART);
+        texts[to] = 0x80;
+    }
+    for (uint32_t i = 0; i < SHARING; i++)
+        memcpy(rows + BLORB_TEXT_NUMBERS * i, (uint32_t[]){BLORB_PICT, i, (uint32_t)from, (uint32_t)(to - from)}, 4 * sizeof *rows);
+    double begun = now();
+    if (blorb_texts_write(rows, BLORB_TEXT_NUMBERS * SHARING, texts, BLORB_MAX_SIZE, buffer, sizeof buffer).refusal != BLORB_RDES_ROOM)
+        exit(1);
+    double taken = now() - begun;
+    free(rows);
+    free(texts);
+    return taken / 1e9;
+}
+
 void print_texts(void)
 {
     puts("| Text of 8 MB | MB/s | C MB/s | time / C |");
@@ -360,5 +394,8 @@ void print_texts(void)
         print_many(MOST_TEXTS, (enum order)order);
     printf("\nWriting %d texts of no bytes takes %.2f s rising, %.2f s shuffled, %.2f s crafted.\n", (int)MOST_TEXTS, time_writing(RISING),
            time_writing(SHUFFLED), time_writing(CRAFTED));
+    printf("\nWriting %d texts that are one text of 16 MB takes %.2f s of ASCII, %.2f s of Chinese; the worst that were made, whose ends lie just off the\n"
+           "parts that are remembered, %.2f s and %.2f s.\n",
+           SHARING, time_sharing(ASCII, false), time_sharing(CHINESE, false), time_sharing(ASCII, true), time_sharing(CHINESE, true));
     fflush(stdout);
 }

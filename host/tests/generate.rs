@@ -6,7 +6,7 @@ mod journals;
 mod resolutions;
 
 use crate::reference::{self, Answer, Call, Edit, State, Tag, ADRIFT, PLAIN, USAGES};
-pub use descriptions::{bad_text, damaged as damaged_descriptions, list, with_descriptions, Built as BuiltDescriptions, Description};
+pub use descriptions::{bad_text, damaged as damaged_descriptions, list, sharing, with_descriptions, Built as BuiltDescriptions, Description};
 pub use faults::{faulty, next_in_order, ORDER};
 pub use journals::undo_state;
 pub use resolutions::{damaged as damaged_resolution, with_resolution, Built as BuiltResolution, Resolution, LARGE_SIDE, REASONS};

@@ -11,7 +11,7 @@ use crate::{check_call_and_52, check_file, check_file_under, check_run, Tally};
 use std::ops::Range;
 
 const FIRST: usize = 0xE0;
-const CASES: [fn(&mut Tally, &mut Rng); 16] = [
+const CASES: [fn(&mut Tally, &mut Rng); 17] = [
     samples,
     at_limit,
     over_limit,
@@ -27,6 +27,7 @@ const CASES: [fn(&mut Tally, &mut Rng); 16] = [
     scaling::largest,
     texts::sequences,
     texts::longest,
+    texts::shared_at_length,
     texts::largest,
 ];
 pub const FAMILIES: Range<usize> = FIRST..FIRST + CASES.len();

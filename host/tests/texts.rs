@@ -5,6 +5,7 @@ use crate::generate::{self, Description, Rng};
 use crate::reference::texts::{chunk_of, good_length, in_index, text, text_of, write};
 use crate::reference::{self, Refusal, Tag};
 use crate::{hex, number_of, on_file, Read, Tally};
+use std::time::Instant;
 
 fn describe(call: &str, read: &Read, arguments: &str) -> String {
     format!("blorb_{call} {arguments} size={} profile={}\n  file={}", read.file.len(), read.profile, hex(read.file))
@@ -56,6 +57,9 @@ pub fn files(tally: &mut Tally, rng: &mut Rng) {
     }
     on_file(tally, rng, "text", &file, |tally, rng, lent, read| check_texts(tally, rng, lent, read, &built.texts));
     writing(tally, rng, &file);
+    if rng.below(40) == 0 {
+        sharing(tally, rng);
+    }
 }
 
 fn check_texts(tally: &mut Tally, rng: &mut Rng, lent: &mut Lent, read: &Read, texts: &[Description]) {
@@ -168,6 +172,16 @@ fn writing(tally: &mut Tally, rng: &mut Rng, file: &[u8]) {
         let (_, after) = write(&rows, &texts, &buffer);
         read_back(tally, rng, &after[..length], &list);
     }
+}
+
+/// A list whose texts share the bytes of a slice that is longer than what the library remembers of it at once.
+fn sharing(tally: &mut Tally, rng: &mut Rng) {
+    let (rows, texts) = generate::sharing(rng);
+    let needed = 13 + rows.chunks(4).map(|row| 12 + row[3] as usize).sum::<usize>();
+    let size = if rng.chance(70) { needed } else { rng.below(needed) };
+    let buffer = rng.bytes(size);
+    check_write(tally, rng, &rows, &texts, &buffer);
+    tally.count("texts shared", number_of(&write(&rows, &texts, &buffer).0));
 }
 
 /// A pair repeated, a text that is no UTF-8, or one that runs past its slice, in one or two rows.
@@ -300,6 +314,33 @@ pub fn longest(tally: &mut Tally, rng: &mut Rng) {
     }
 }
 
+/// 100,000 texts over one slice of 16,777,216 bytes, each of nearly all of it: judged to the last, and within a minute, of which a list that is judged row
+/// by row takes a quarter of an hour. All of them good, or the last one cut within a character or past the slice.
+pub fn shared_at_length(tally: &mut Tally, _: &mut Rng) {
+    for character in ["e", "魚"] {
+        let count = reference::LIMIT / character.len();
+        let (texts, size) = (character.repeat(count), (character.len() * count) as u32);
+        let row = |i: u32| [5, i, i * character.len() as u32, size - 2 * i * character.len() as u32];
+        let good: Vec<u32> = (0..100_000).flat_map(row).collect();
+        let cut = [&good[..], &[5, 100_000, 0, size - 1]].concat();
+        let beyond = [&good[..], &[5, 100_000, 1, size]].concat();
+        let cases = [(good, 40, 0), (cut, if character.len() == 1 { 40 } else { 39 }, 100_000), (beyond, 39, 100_000)];
+        for (rows, number, row) in cases {
+            let expected = Err(Refusal { number, place: if number == 40 { 0 } else { row } });
+            tally.count_call("texts_write", number);
+            let mut lent_rows = Lent::new(&in_memory(&rows), 0);
+            let (mut lent_texts, mut lent_buffer) = (Lent::new(texts.as_bytes(), 0), Lent::new(&[7; 64], 0));
+            let begun = Instant::now();
+            let found = archive::texts_write(&mut lent_rows, rows.len(), &mut lent_texts, &mut lent_buffer);
+            let seconds = begun.elapsed().as_secs();
+            if found != Ok(expected) || seconds >= 60 {
+                let told = format!("expected {expected:?}\nfound    {found:?} after {seconds} s");
+                tally.fail("blorb_texts_write of 100,000 rows over one text", &told);
+            }
+        }
+    }
+}
+
 /// 'RDes' chunks of as many texts as a file can have, all of no bytes, in order and with a repeat at the last one; and of a quarter as many falling and in
 /// no order, for which the time grows with the square. Each is read under an unknown profile too, and written from its rows.
 pub fn largest(tally: &mut Tally, rng: &mut Rng) {
@@ -332,6 +373,7 @@ pub fn largest(tally: &mut Tally, rng: &mut Rng) {
 pub fn rows() -> Vec<(&'static str, Vec<u64>)> {
     vec![
         ("texts_write", vec![0, 38, 39, 40]),
+        ("texts shared", vec![0, 38, 39, 40]),
         // 22 by pair: the sum of 1 for a text and 2 for an entry of the index.
         ("text_of 22", vec![0, 1, 2]),
         ("text 37", vec![36, 38, 39]),

@@ -30,7 +30,7 @@ use Rattle.descriptions.proofs.Telling.{tell-first}
 use Rattle.descriptions.specs.declared.Described.the-variants.{Refused}
 use Rattle.descriptions.specs.declared.Told.the-variants.{Text}
 use Rattle.described.specs.ReadsBack.{Gives, Tells, ReadsBack}
-use Rattle.describing.specs.List.{usageOf, numberOf, textOf, rowAt, rowsFrom, countOf, listOf}
+use Rattle.describing.specs.List.{usageOf, numberOf, rowText, rowAt, rowsFrom, countOf, listOf}
 use Rattle.describing.specs.Writing.{repeated, wholeSize, writeFault, answered, writingOf, writtenOf}
 use Rattle.describing.specs.declared.Writing.the-variants.{Written}
 use Rattle.describing.proofs.JudgeLaws.{row-told, rows-told}
@@ -94,11 +94,11 @@ module _ (rows texts : List ℕ) (room : ℕ) (small : (i : ℕ) → getD rows i
     number-is : numberAt (dataAt f x m) at ≡ numberOf rows i
     number-is = ap (λ (d : Desc). d .number) entry-is
 
-    size-is : sizeAt (dataAt f x m) at ≡ length (textOf rows texts i)
+    size-is : sizeAt (dataAt f x m) at ≡ length (rowText rows texts i)
     size-is = sym (text-length (dataAt f x m) at inside) ∙ ap (λ (d : Desc). length (d .text)) entry-is
 
     -- the text's bytes in the file
-    text-is : take (length (textOf rows texts i)) (drop (x + 8 + at + 12) f) ≡ textOf rows texts i
+    text-is : take (length (rowText rows texts i)) (drop (x + 8 + at + 12) f) ≡ rowText rows texts i
     text-is =
         let k : x + 8 + at + 12 ≡ x + 8 + (at + 12) = omega arith in
         let q : at + 12 + sizeAt (dataAt f x m) at ≤ m = omega (arith, inside, long) in

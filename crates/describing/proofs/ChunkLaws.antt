@@ -13,7 +13,7 @@ use Rattle.edits.specs.Run.{noted}
 use Rattle.edits.proofs.Noted.{noted-none, noted-next}
 use Rattle.rdes.specs.Rdes.{RDes, Desc, desc, entriesBytes, bodyOf}
 use Rattle.describing.specs.Bridging.{entryBytes}
-use Rattle.describing.specs.List.{placeOf, lengthOf, rowAt, rowsFrom, textOf}
+use Rattle.describing.specs.List.{placeOf, lengthOf, rowAt, rowsFrom, rowText}
 use Rattle.describing.specs.Bridging.{Within, entriesSize, capped}
 
 -- the size
@@ -70,7 +70,7 @@ unfolding entryBytes
 length-entry e = simp (length-append, length-be32) (omega arith)
 
 module _ (rows texts : List ℕ) (n : ℕ) (w : Within rows texts n) where
-  pub text-length : (i : ℕ) → i < n → length (textOf rows texts i) ≡ lengthOf rows i
+  pub text-length : (i : ℕ) → i < n → length (rowText rows texts i) ≡ lengthOf rows i
   unfolding Within
   text-length i h = let g = w i h in simp (length-take, length-drop) (omega arith)
 

@@ -12,8 +12,8 @@ use lib.Dec.{eqb, leb}
 use borrow.Author.Tests.{le-leb, lt-leb, leb-true, not-true}
 use Rattle.blorb.specs.Verdict.{Verdict, accept, refuse, _then_, check}
 use Rattle.blorb.proofs.Checks.{pass, stop, holds-last, fails-last, accepts, refuses, then-accept, check-accept, and-both}
-use Rattle.utf8.specs.Utf8.{goodLength}
-use Rattle.describing.specs.List.{placeOf, lengthOf, textOf}
+use Rattle.shared_texts.specs.Segments.{textBetween}
+use Rattle.describing.specs.List.{placeOf, lengthOf}
 use Rattle.describing.specs.Writing.{repeated, textGood, rowFault, rowsFault}
 use Rattle.describing.specs.Bridging.{Within}
 use Rattle.describing.specs.Judging.{FirstBad}
@@ -24,14 +24,14 @@ module _ (rows texts : List ℕ) (i : ℕ) where
   unfolding textGood
   text-past h = rw (lt-leb (placeOf rows i + lengthOf rows i) (length texts) h)
 
-  module _ (g : ℕ) (h : placeOf rows i + lengthOf rows i ≤ length texts)
-      (e : g ≡ goodLength (take (placeOf rows i + lengthOf rows i - placeOf rows i) (drop (placeOf rows i) texts))) where
-    pub text-told : eqb g (lengthOf rows i) ≡ textGood rows texts i
-    unfolding textGood
-    text-told =
-        let q : placeOf rows i + lengthOf rows i - placeOf rows i ≡ lengthOf rows i = omega arith in
-        let l : length (take (lengthOf rows i) (drop (placeOf rows i) texts)) ≡ lengthOf rows i = simp (length-take, length-drop) (omega arith) in
-        rw (le-leb (placeOf rows i + lengthOf rows i) (length texts) h, e, q, l)
+  pub text-told : (r : Bool) → placeOf rows i + lengthOf rows i ≤ length texts
+      → r ≡ textBetween texts (placeOf rows i) (placeOf rows i + lengthOf rows i)
+      → r ≡ textGood rows texts i
+  unfolding textGood textBetween
+  text-told r h e =
+      let q : placeOf rows i + lengthOf rows i - placeOf rows i ≡ lengthOf rows i = omega arith in
+      let l : length (take (lengthOf rows i) (drop (placeOf rows i) texts)) ≡ lengthOf rows i = simp (length-take, length-drop) (omega arith) in
+      rw (le-leb (placeOf rows i + lengthOf rows i) (length texts) h, e, q, l)
 
   -- one row
   pub row-fine : repeated rows texts i ≡ false → textGood rows texts i ≡ true → rowFault rows texts i ≡ accept

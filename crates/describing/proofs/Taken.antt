@@ -18,7 +18,7 @@ use Rattle.blorb.proofs.Checks.{pass, then-accept, check-accept, and-both}
 use Rattle.blorb.proofs.ByteLaws.{length-be32}
 use Rattle.rdes.specs.Rdes.{Desc, desc, Fits, entriesBytes, bodyOf, pairAmong, goodText, entriesFault, chunkFault}
 use Rattle.rdes.proofs.ReadBack.{body-fault}
-use Rattle.describing.specs.List.{usageOf, numberOf, placeOf, lengthOf, textOf, rowAt, rowsFrom, countOf, listOf}
+use Rattle.describing.specs.List.{usageOf, numberOf, placeOf, lengthOf, rowText, rowAt, rowsFrom, countOf, listOf}
 use Rattle.describing.specs.Writing.{repeated, textGood, rowFault, rowsFault, wholeSize, writeFault}
 use Rattle.describing.proofs.JudgeLaws.{row-told, rows-told}
 use Rattle.describing.proofs.PairLaws.{rows-snoc}
@@ -38,15 +38,15 @@ module _ (rows texts : List ℕ) where
   taken-from (suc k) i p h =
       let t = row-told rows texts i (h i (omega arith) (omega arith)) in
       let r : pairAmong (usageOf rows i) (numberOf rows i) (rowsFrom rows texts i 0) ≡ false = unfold repeated in t .0 in
-      let w : (leb (placeOf rows i + lengthOf rows i) (length texts) && goodText (textOf rows texts i)) ≡ true = unfold textGood in t .1 in
-      let g : goodText (textOf rows texts i) ≡ true = and-both (leb (placeOf rows i + lengthOf rows i) (length texts)) (goodText (textOf rows texts i)) w .1 in
+      let w : (leb (placeOf rows i + lengthOf rows i) (length texts) && goodText (rowText rows texts i)) ≡ true = unfold textGood in t .1 in
+      let g : goodText (rowText rows texts i) ≡ true = and-both (leb (placeOf rows i + lengthOf rows i) (length texts)) (goodText (rowText rows texts i)) w .1 in
       let z : 0 + i ≡ i = omega arith in
       let s : suc i ≡ i + 1 = omega arith in
       let e : rowsFrom rows texts i 0 ++ (rowAt rows texts i ∷ []) ≡ rowsFrom rows texts (i + 1) 0
       = sym (rows-snoc rows texts i 0 ∙ ap (λ (j : ℕ). rowsFrom rows texts i 0 ++ (rowAt rows texts j ∷ [])) z) ∙ ap (λ (j : ℕ). rowsFrom rows texts j 0) s in
       pass _ _ _ _ (ap not r) ∙ pass _ _ _ _ g
-      ∙ ap (λ (l : List Desc). entriesFault l (p + 12 + length (textOf rows texts i)) (rowsFrom rows texts k (i + 1))) e
-      ∙ taken-from k (i + 1) (p + 12 + length (textOf rows texts i)) (λ j l m. h j (omega arith) (omega arith))
+      ∙ ap (λ (l : List Desc). entriesFault l (p + 12 + length (rowText rows texts i)) (rowsFrom rows texts k (i + 1))) e
+      ∙ taken-from k (i + 1) (p + 12 + length (rowText rows texts i)) (λ j l m. h j (omega arith) (omega arith))
 
   pub taken : (n p : ℕ) → rowsFault rows texts n 0 ≡ accept → entriesFault [] p (rowsFrom rows texts n 0) ≡ accept
   taken n p e = unfold rowsFrom in taken-from n 0 p (λ j l m. rows-told rows texts n 0 e j l m)

@@ -19,11 +19,11 @@ abbrev pub lengthOf : List ℕ → ℕ → ℕ
 lengthOf rows i = getD rows (4 * i + 3) 0
 
 -- its text
-abbrev pub textOf : List ℕ → List ℕ → ℕ → List ℕ
-textOf rows texts i = take (lengthOf rows i) (drop (placeOf rows i) texts)
+abbrev pub rowText : List ℕ → List ℕ → ℕ → List ℕ
+rowText rows texts i = take (lengthOf rows i) (drop (placeOf rows i) texts)
 
 abbrev pub rowAt : List ℕ → List ℕ → ℕ → Desc
-rowAt rows texts i = desc (usageOf rows i) (numberOf rows i) (textOf rows texts i)
+rowAt rows texts i = desc (usageOf rows i) (numberOf rows i) (rowText rows texts i)
 
 -- n rows from row i on
 unfoldable pub rowsFrom : List ℕ → List ℕ → ℕ → ℕ → List Desc

@@ -7,7 +7,7 @@ use lib.Dec.{leb}
 use Rattle.blorb.specs.Format.{chunkOf, chunkBytes, sized}
 use Rattle.blorb.specs.Verdict.{Verdict, accept, refuse, _then_, check}
 use Rattle.rdes.specs.Rdes.{Desc, RDes, bodyOf, pairAmong, goodText}
-use Rattle.describing.specs.List.{usageOf, numberOf, placeOf, lengthOf, textOf, rowsFrom, countOf, listOf}
+use Rattle.describing.specs.List.{usageOf, numberOf, placeOf, lengthOf, rowText, rowsFrom, countOf, listOf}
 use Rattle.describing.specs.declared.Writing.{Writing}
 use Rattle.describing.specs.declared.Writing.the-variants.{Written, Refused}
 
@@ -17,7 +17,7 @@ repeated rows texts i = pairAmong (usageOf rows i) (numberOf rows i) (rowsFrom r
 
 -- 39: "bad text" ("Texts are UTF-8 by RFC 3629"), "also a text past its slice"
 unfoldable pub textGood : List ℕ → List ℕ → ℕ → Bool
-textGood rows texts i = leb (placeOf rows i + lengthOf rows i) (length texts) && goodText (textOf rows texts i)
+textGood rows texts i = leb (placeOf rows i + lengthOf rows i) (length texts) && goodText (rowText rows texts i)
 
 -- "entry by entry, 38 before 39"; "place the first faulty row from 0"
 unfoldable pub rowFault : List ℕ → List ℕ → ℕ → Verdict

@@ -490,21 +490,27 @@ fn rising(s: &[u8], t: &[u32], layout: Layout, base: usize, n: usize) -> Block
     Block { end: j, at }
 }
 
-// The search, for any layout: n entries, the first of them at `base`.
-fn first_repeat(s: &[u8], t: &[u32], layout: Layout, base: usize, n: usize) -> First
-    requires { ⌜ Inside (source layout (now s) (now t) base) n ⌝ }
+// The search, for any layout: n entries, the first of them at `base`. What `marks` holds before and afterwards does not matter.
+fn first_repeat(
+    s: &[u8],
+    t: &[u32],
+    layout: Layout,
+    base: usize,
+    n: usize,
+    marks: &mut [u64; 896],
+) -> First
+    requires { ⌜ Inside (source layout (now s) (now t) base) n × (length (now marks) ≡ 896) ⌝ }
     ensures { λ r. ⌜ r ≡ firstRepeat (key (source layout (now (s .entry)) (now (t .entry)) base)) n ⌝ }
 {
     let start = rising(s, t, layout, base, n);
     let mut b = start.end;
     let mut from = start.at;
-    let mut marks = [0u64; 896];
     let mut suspects = [0u64; 32];
     while b < n {
         let e = block_end(b, n);
-        let block = mark_block(s, t, layout, base, from, b, e, &mut marks, &mut suspects);
+        let block = mark_block(s, t, layout, base, from, b, e, marks, &mut suspects);
         let end = block.end;
-        let best = first_across(s, t, layout, base, from, b, end, &mut marks, &mut suspects);
+        let best = first_across(s, t, layout, base, from, b, end, marks, &mut suspects);
         if best < e {
             return First::At(best);
         }
@@ -519,7 +525,8 @@ pub fn in_rows(s: &[u8], step: usize, base: usize, n: usize) -> First
     requires { ⌜ (4 ≤ step) × (base + step * n ≤ length (now s)) ⌝ }
     ensures { λ r. ⌜ r ≡ firstRepeat (rowKey (now (s .entry)) step base) n ⌝ }
 {
-    first_repeat(s, &[], Layout::Rows(step), base, n)
+    let mut marks = [0u64; 896];
+    first_repeat(s, &[], Layout::Rows(step), base, n, &mut marks)
 }
 
 // The first of n entries from `base` on, each with a text behind it, whose pair of numbers an earlier entry has.
@@ -527,13 +534,14 @@ pub fn in_entries(s: &[u8], base: usize, n: usize) -> First
     requires { ⌜ EntriesInside (now s) base n ⌝ }
     ensures { λ r. ⌜ r ≡ firstRepeat (entryKey (now (s .entry)) base) n ⌝ }
 {
-    first_repeat(s, &[], Layout::Entries, base, n)
+    let mut marks = [0u64; 896];
+    first_repeat(s, &[], Layout::Entries, base, n, &mut marks)
 }
 
-// The first of n rows of four numbers whose first two an earlier row has.
-pub fn in_list(rows: &[u32], n: usize) -> First
-    requires { ⌜ 4 * n ≤ length (now rows) ⌝ }
+// The first of n rows of four numbers whose first two an earlier row has. The caller lends the marks: it may have used the array for something else before.
+pub fn in_list(rows: &[u32], n: usize, marks: &mut [u64; 896]) -> First
+    requires { ⌜ (4 * n ≤ length (now rows)) × (length (now marks) ≡ 896) ⌝ }
     ensures { λ r. ⌜ r ≡ firstRepeat (listKey (now (rows .entry))) n ⌝ }
 {
-    first_repeat(&[], rows, Layout::Numbers, 0, n)
+    first_repeat(&[], rows, Layout::Numbers, 0, n, marks)
 }

@@ -68,13 +68,13 @@ char-at s at =
     char-any (drop at s) ∙ rw (getD-drop at s 0 256, getD-drop at s 1 256, getD-drop at s 2 256, getD-drop at s 3 256, z)
 
 -- a byte below, in and above a range
-below : (l h a : ℕ) → a < l → inRange (range l h) a ≡ false
+pub below : (l h a : ℕ) → a < l → inRange (range l h) a ≡ false
 below l h a x = rw (lt-leb l a x)
 
-inside : (l h a : ℕ) → l ≤ a → a ≤ h → inRange (range l h) a ≡ true
+pub inside : (l h a : ℕ) → l ≤ a → a ≤ h → inRange (range l h) a ≡ true
 inside l h a x y = rw (le-leb l a x, le-leb a h y)
 
-above : (l h a : ℕ) → h < a → inRange (range l h) a ≡ false
+pub above : (l h a : ℕ) → h < a → inRange (range l h) a ≡ false
 above l h a x = rw (lt-leb a h x) (and-false (leb l a))
 
 -- tests one after another are one test
@@ -204,7 +204,7 @@ lead-240 b c d = rw (or-false (inRange (range 144 191) b && (inRange tailByte c 
 lead-244 : (b c d : ℕ) → byTests 244 b c d ≡ byLead 244 b c d
 lead-244 b c d = thrice (inRange (range 128 143) b) (inRange tailByte c) (inRange tailByte d) 4
 
-split : (a m : ℕ) → (a < m) ⊎ (m ≤ a)
+pub split : (a m : ℕ) → (a < m) ⊎ (m ≤ a)
 split a m = go (leb m a) refl
   where
     go : (b : Bool) → leb m a ≡ b → (a < m) ⊎ (m ≤ a)

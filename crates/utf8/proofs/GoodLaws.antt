@@ -1,4 +1,4 @@
--- The walk over characters: what the loop of good_length keeps, and its two ends.
+-- The good beginning of a text, one character on, and its end.
 use mathlib.Core.Path.{_≡_, refl, sym, ap, _∙_}
 use Prim.Native.Nat.{ℕ, zero, suc, _+_, _-_, _≤_, _<_}
 use mathlib.Core.List.{List, [], _∷_}
@@ -74,9 +74,6 @@ module _ (s : List ℕ) (at n : ℕ) (e : n ≡ charLength (drop at s)) where
 
   pub char-inside : at ≤ length s → at + n ≤ length s
   char-inside h = omega (arith, char-long (drop at s), length-drop at s)
-
-pub good-end : (s : List ℕ) (at : ℕ) → length s ≤ at → at ≡ at + goodFrom s at
-good-end s at h = good-stop s at 0 (let l = char-long (drop at s) in let d = length-drop at s in omega arith) refl
 
 pub good-start : (s : List ℕ) → 0 + goodFrom s 0 ≡ goodLength s
 unfolding goodFrom goodLength

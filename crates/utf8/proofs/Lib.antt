@@ -1,3 +1,4 @@
 pub mod FormLaws
 pub mod GoodLaws
 pub mod Longest
+pub mod RunLaws

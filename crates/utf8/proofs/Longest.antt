@@ -72,7 +72,7 @@ char-append (a ∷ (b ∷ (c ∷ (d ∷ [])))) t e n =
 char-append (a ∷ (b ∷ (c ∷ (d ∷ (x ∷ s))))) t e n = absurd (omega (arith, char-most (a ∷ (b ∷ (c ∷ (d ∷ (x ∷ s)))))))
 
 -- and is one by itself
-char-take : (s : List ℕ) (m : ℕ) → charLength s ≡ m → charLength (take m s) ≡ m
+pub char-take : (s : List ℕ) (m : ℕ) → charLength s ≡ m → charLength (take m s) ≡ m
 char-take s zero e = char-any [] ∙ refl
 char-take [] (suc m) e = absurd (omega (arith, char-long []))
 char-take (a ∷ s) (suc zero) e = char-any (a ∷ []) ∙ use-1 a (getD s 0 256) (getD s 1 256) (getD s 2 256) 256 256 256 (sym (char-any (a ∷ s)) ∙ e)
@@ -99,7 +99,7 @@ good-step s = good-same (length s) (suc (length s)) s (omega arith) (omega arith
         let d : length (drop (suc n) s) ≡ length s - suc n = length-drop (suc n) s in
         ap (λ (x : ℕ). suc n + x) (good-same (length s) (length (drop (suc n) s)) (drop (suc n) s) (omega arith) (omega arith))
 
-take-both : (m g : ℕ) (s : List ℕ) → m ≤ length s → take (m + g) s ≡ take m s ++ take g (drop m s)
+pub take-both : (m g : ℕ) (s : List ℕ) → m ≤ length s → take (m + g) s ≡ take m s ++ take g (drop m s)
 take-both zero g s h = let z : 0 + g ≡ g = omega arith in rw z
 take-both (suc m) g [] h = absurd (not-suc-le-zero h)
 take-both (suc m) g (a ∷ s) h = let z : suc m + g ≡ suc (m + g) = omega arith in rw z (ap (λ (l : List ℕ). a ∷ l) (take-both m g s (omega arith)))

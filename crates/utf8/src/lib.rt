@@ -1,10 +1,11 @@
-// UTF-8 by RFC 3629: the length of the longest good beginning of a text.
+// UTF-8 by RFC 3629: how far the characters of a text go.
 ghost use mathlib.Core.Path.{_≡_};
-ghost use Prim.Native.Nat.{_<_};
+ghost use Prim.Native.Nat.{_<_, _≤_};
 ghost use mathlib.Core.Bool.{cond};
 ghost use lib.ListN.{length, getD, drop};
 ghost use Rattle.utf8.specs.Utf8.{range, inRange, charLength, goodLength};
 ghost use Rattle.utf8.specs.Leads.{lowSecond, highSecond};
+ghost use Rattle.utf8.specs.Runs.{tail, Until};
 
 // The byte at `at`; 256, which no range of the table has, behind the end.
 fn byte_at(s: &[u8], at: usize) -> u64
@@ -82,13 +83,21 @@ fn long_char(s: &[u8], at: usize, a: u64) -> usize
     4
 }
 
-// The length of the longest beginning of the text that is UTF-8. Bytes up to 127 are characters by themselves and cost one test each; characters of two
-// bytes are asked apart, so that where the next one stands is known before their bytes are.
-pub fn good_length(s: &[u8]) -> usize
-    ensures { λ r. ⌜ r ≡ goodLength (now (s .entry)) ⌝ }
+// Whether the byte at `at` can only stand inside a character.
+pub fn is_tail(s: &[u8], at: usize) -> bool
+    ensures { λ r. ⌜ r ≡ tail (now (s .entry)) at ⌝ }
 {
-    let mut at: usize = 0;
-    while at < s.len() {
+    within(byte_at(s, at), 128, 191)
+}
+
+// Where the characters from `from` on first reach or pass `stop`, or where no character follows. Bytes up to 127 are characters by themselves and cost one
+// test each; characters of two bytes are asked apart, so that where the next one stands is known before their bytes are.
+pub fn good_until(s: &[u8], from: usize, stop: usize) -> usize
+    requires { ⌜ (from ≤ stop) × (stop ≤ length (now s)) ⌝ }
+    ensures { λ r. ⌜ Until (now (s .entry)) from stop r ⌝ }
+{
+    let mut at = from;
+    while at < stop {
         let a = s[at] as u64;
         if a < 128 {
             at += 1;
@@ -108,4 +117,11 @@ pub fn good_length(s: &[u8]) -> usize
         at += n;
     }
     at
+}
+
+// The length of the longest beginning of the text that is UTF-8.
+pub fn good_length(s: &[u8]) -> usize
+    ensures { λ r. ⌜ r ≡ goodLength (now (s .entry)) ⌝ }
+{
+    good_until(s, 0, s.len())
 }

@@ -78,6 +78,60 @@ pub fn bad_text(rng: &mut Rng) -> (Vec<u8>, usize) {
     (text, good)
 }
 
+/// A slice of 5,000 to 100,000 bytes of characters of one kind or of all, and where a byte in it was broken.
+pub fn long_slice(rng: &mut Rng) -> (Vec<u8>, Vec<usize>) {
+    let size = rng.pick(&[5_000, 20_000, 40_000, 100_000]) + rng.below(300);
+    let kinds: [fn(&mut Rng) -> char; 5] = [|_| 'e', |_| 'é', |_| '魚', |_| '\u{1F41F}', character];
+    let kind = rng.pick(&kinds);
+    let mut text = String::new();
+    for _ in 0..rng.below(4) {
+        text.push(character(rng));
+    }
+    while text.len() < size {
+        text.push(kind(rng));
+    }
+    let mut bytes = text.into_bytes();
+    let broken: Vec<usize> = (0..rng.pick(&[0, 0, 1, 2, 5])).map(|_| rng.below(size)).collect();
+    for &at in &broken {
+        bytes[at] = rng.pick(&[0x80, 0xBF, 0xC1, 0xE2, 0xF4, 0xFF, b'e']);
+    }
+    (bytes, broken)
+}
+
+/// The first offset from `at` on that can begin a character, or the slice's end.
+fn start_from(bytes: &[u8], at: usize) -> usize {
+    (at..bytes.len()).find(|&i| !(0x80..=0xBF).contains(&bytes[i])).unwrap_or(bytes.len())
+}
+
+/// An end of a text: anywhere, near a border of the parts that the library remembers, near a broken byte or an end of the slice; mostly between characters.
+fn end_of_text(rng: &mut Rng, bytes: &[u8], broken: &[usize]) -> usize {
+    let part = bytes.len() / 57_344 + 256;
+    let near = match rng.below(6) {
+        0 => rng.below(9),
+        1 => bytes.len() - rng.below(9),
+        2 | 3 => part * rng.below(bytes.len() / part + 1) + rng.below(9),
+        4 if !broken.is_empty() => rng.pick(broken) + rng.below(9),
+        _ => rng.below(bytes.len()) + 4,
+    };
+    let at = near.saturating_sub(4).min(bytes.len());
+    if rng.chance(96) { start_from(bytes, at) } else { at }
+}
+
+/// Rows over such a slice that overlap, hold each other or are the same; most of them good, however much of the slice is broken.
+pub fn sharing(rng: &mut Rng) -> (Vec<u32>, Vec<u8>) {
+    let (bytes, broken) = long_slice(rng);
+    let mut rows = Vec::new();
+    for i in 0..rng.between(2, 40) as u32 {
+        let (a, b) = (end_of_text(rng, &bytes, &broken), end_of_text(rng, &bytes, &broken));
+        let (from, mut to) = (a.min(b), a.max(b));
+        if rng.chance(97) {
+            to = from + std::str::from_utf8(&bytes[from..to]).map_or_else(|error| error.valid_up_to(), str::len);
+        }
+        rows.extend([u32::from_be_bytes(*b"Pict"), if rng.chance(1) { 0 } else { i }, from as u32, (to - from) as u32]);
+    }
+    (rows, bytes)
+}
+
 // ---- Lists ---------------------------------------------------------------------------------------------------------
 
 /// A pair: mostly one of the index, else any.

@@ -14,17 +14,17 @@ use Rattle.repeats.proofs.first_repeat.Statement.{statement}
 use Rattle.repeats.proofs.first_repeat.Tie as tie
 
 abbrev Inv-loop : tie.InvT-loop
-Inv-loop s t layout base n b₀ from₀ marks₀ suspects₀ b from marks suspects =
+Inv-loop s t layout base n marks₀ b₀ from₀ suspects₀ marks b from suspects =
     (b ≤ n) × (from ≡ spot (source layout s t base) b) × Apart (key (source layout s t base)) 0 b × (length marks ≡ 896) × (length suspects ≡ 32)
 
 abbrev μ-loop : tie.MeasureT-loop
-μ-loop s t layout base n b₀ from₀ marks₀ suspects₀ b from marks suspects = n - b
+μ-loop s t layout base n marks₀ b₀ from₀ suspects₀ marks b from suspects = n - b
 
 rising-requires : tie.Need-rising-requires Inv-loop μ-loop
-rising-requires c κs = c .before .before .pre
+rising-requires c κs = c .before .before .pre .0
 
 loop-holds : tie.Need-loop-holds Inv-loop μ-loop
-loop-holds c = let w = c .rising .ensures in (w .0, w .1, w .2, refl, refl)
+loop-holds c = let w = c .rising .ensures in (w .0, w .1, w .2, c .before .before .before .pre .1, refl)
 
 mark-block-requires : tie.Need-mark-block-requires Inv-loop μ-loop
 mark-block-requires c κs =
@@ -32,7 +32,7 @@ mark-block-requires c κs =
     let a = call .args in
     let x : Source = source (a .layout) (now (a .s)) (now (a .t)) (a .base) in
     let l = c .before .before .before .before .loop in
-    (omega arith, l .inv .1, inside-to x (a .n) _ (call .pre) (c .before .before .block-end .ensures .1), l .inv .3, l .inv .4)
+    (omega arith, l .inv .1, inside-to x (a .n) _ (call .pre .0) (c .before .before .block-end .ensures .1), l .inv .3, l .inv .4)
 
 first-across-requires : tie.Need-first-across-requires Inv-loop μ-loop
 first-across-requires c κs =
@@ -41,7 +41,7 @@ first-across-requires c κs =
     let x : Source = source (a .layout) (now (a .s)) (now (a .t)) (a .base) in
     let l = c .before .before .before .before .before .before .before .loop in
     let m = c .before .before .mark-block .ensures in
-    (m .0, l .inv .1, inside-to x (a .n) _ (call .pre) (omega arith), m .3, m .4)
+    (m .0, l .inv .1, inside-to x (a .n) _ (call .pre .0) (omega arith), m .3, m .4)
 
 returns : tie.Need-returns Inv-loop μ-loop
 returns c =

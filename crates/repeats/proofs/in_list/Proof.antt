@@ -6,7 +6,7 @@ use Rattle.repeats.proofs.in_list.Statement.{statement}
 use Rattle.repeats.proofs.in_list.Tie as tie
 
 first-repeat-requires : tie.Need-first-repeat-requires
-first-repeat-requires c κs = list-inside _ _ _ (c .before .before .pre)
+first-repeat-requires c κs = let call = c .before .before .before in (list-inside _ _ _ (call .pre .0), call .pre .1)
 
 returns : tie.Need-returns
 returns c = c .first-repeat .ensures ∙ list-answer _ _ _

@@ -1,4 +1,4 @@
--- Numbers of 32 bits, so their sum does not wrap; what is validated is the row's text.
+-- Numbers of 32 bits, so their sum does not wrap; what is judged is the row's text.
 use Prim.Native.Nat.{_+_, _*_}
 use native.Mathlib.Omega.{arith}
 use denote.Ref.{now}
@@ -21,13 +21,15 @@ add-if1 c =
 
 returns : tie.Need-returns
 returns c =
-    let a = c .before .before .before .before .before .args in
-    text-past (now (a .rows)) (now (a .texts)) (a .i) (c .if1 .taken)
+    let call = c .before .before .before .before .before in
+    let a = call .args in
+    (text-past (now (a .rows)) (now (a .texts)) (a .i) (c .if1 .taken), call .pre .1, call .pre .2)
 
 returns-2 : tie.Need-returns-2
 returns-2 c =
     let a = c .before .before .before .before .before .before .before .args in
-    text-told (now (a .rows)) (now (a .texts)) (a .i) _ (c .before .before .if1 .left) (c .good-length .ensures)
+    let told = c .is-text .ensures in
+    (text-told (now (a .rows)) (now (a .texts)) (a .i) _ (c .before .before .if1 .left) (told .0), told .1, told .2)
 
 pub text-good-spec : {M : Type 1} → statement M
 text-good-spec =
@@ -45,9 +47,6 @@ text-good-spec =
     cast-size
     add-if1
     returns
-    (λ c. search needs)
-    (λ c. search needs)
-    (λ c. search needs)
     (λ c. search needs)
     (λ c κs. search needs)
     returns-2)
