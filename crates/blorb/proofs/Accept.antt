@@ -42,6 +42,7 @@ use Rattle.blorb.specs.Sound.{W, ChunkOk, RefOk, Sound}
 use Rattle.blorb.proofs.Places.{startOf-placeOf}
 use Rattle.blorb.proofs.Checks.{then-accept, check-accept, and-both}
 use Rattle.blorb.proofs.Codec.{length-chunksBytes}
+use Rattle.blorb.proofs.EntryList.{length-entriesIn}
 
 -- Rattle's fact of a slice of u8, at each index
 pub bytes-all : (s : List ℕ) → ((i : ℕ) → getD s i 0 < 256) → All Byte s
@@ -153,11 +154,6 @@ entry-back s h l =
       again (drop 8 s) (all-drop Byte 8 s h) (simp length-drop (omega arith)),
     )
     (three-fours s)
-
-pub length-entriesIn : (n : ℕ) (s : List ℕ) → length (entriesIn n s) ≡ n
-unfolding entriesIn
-length-entriesIn zero s = refl
-length-entriesIn (suc n) s = ap suc (length-entriesIn n (drop 12 s))
 
 entries-back : (n : ℕ) (s : List ℕ) → All Byte s → length s ≡ 12 * n → entriesBytes (entriesIn n s) ≡ s
 unfolding entriesBytes entriesIn

@@ -6,6 +6,7 @@ pub mod ModelLaws
 pub mod Checks
 pub mod NumberLaws
 pub mod FindLaws
+pub mod EntryList
 pub mod Accept
 pub mod VerdictLaws
 pub mod Never

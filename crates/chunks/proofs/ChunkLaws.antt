@@ -16,8 +16,7 @@ use Rattle.blorb.specs.Bytes.{rd32}
 use Rattle.blorb.specs.Format.{Chunk, sized, size, chunkIn, chunksIn}
 use Rattle.blorb.specs.Verdict.{Verdict, accept, refuse, check, _then_, chunkFault, walkFault, secondIndex}
 use Rattle.chunks.specs.Walk.{chunkFrom, nextAt, chunksFrom, walkFrom, skipAt, firstFault}
-pub use Rattle.blorb.proofs.Checks.{neither}
-use Rattle.blorb.proofs.Checks.{then-accept, check-accept, pass, stop, holds-last, fails-last, accepts, refuses, and-both}
+use Rattle.blorb.proofs.Checks.{then-accept, check-accept, pass, stop, holds-last, fails-last, accepts, refuses, and-both, neither}
 use Rattle.blorb.proofs.VerdictLaws.{walk-step, walk-nil}
 use Rattle.blorb.proofs.Codec.{chunksIn-step, chunksIn-nil}
 

@@ -10,6 +10,7 @@ use lib.ListN.{length, take, drop, getD, replicate, length-drop, take-append-dro
 use lib.Seq.{drop-drop, take-take, take-at, length-take-le}
 use lib.Dec.{eqb}
 use borrow.Author.Tests.{lt-ltb, le-ltb, eq-eqb}
+use Rattle.blorb.proofs.Checks.{neither}
 use Rattle.blorb.specs.Bytes.{be32, rd32}
 use Rattle.blorb.specs.Sound.{W}
 use Rattle.blorb.specs.Format.{chunkBytes, chunkOf, size}

@@ -21,11 +21,11 @@ use Rattle.chunks.proofs.StartLaws.{begun}
 use Rattle.blorb.proofs.Checks.{pass, stop, holds-last, fails-last, then-accept, check-accept, and-both}
 use Rattle.index.specs.Entries.{usageAt, numberAt, startAt, place, pairPlace}
 use Rattle.blorb.proofs.UsageLaws.{rd32-take}
+use Rattle.blorb.proofs.EntryList.{length-entriesIn, entry-getD}
 use Rattle.index.proofs.EntryLaws.{pair-snoc}
 use Rattle.index.specs.declared.entries.Hit.the-variants.{At, Nothing}
 use Rattle.index.specs.Hits.{hitIn, pickHit}
 use Rattle.index.specs.Optional.{pictureBy, EntriesPassed}
-pub use Rattle.blorb.proofs.Accept.{length-entriesIn}
 
 -- parts of parts
 pub drop-take : (n k m : ℕ) (s : List ℕ) → k ≡ n + m → drop n (take k s) ≡ take m (drop n s)
@@ -157,15 +157,6 @@ module _ (f : List ℕ) (u n count i a b : ℕ) (h : i < count) (ea : a ≡ usag
   pub place-next : eqb a u && eqb b n ≡ false → i + 1 + pairPlace u n (entriesIn (count - (i + 1)) (drop (place (i + 1)) f)) ≡ i + pairPlace u n
       (entriesIn (count - i) (drop (place i) f))
   place-next e = rw (place-on, e) (omega arith)
-
--- entry i of the list
-pub entry-getD : (f : List ℕ) (n i p : ℕ) (d : Entry) → i < n → getD (entriesIn n (drop p f)) i d ≡ entryIn (drop (p + 12 * i) f)
-unfolding entriesIn
-entry-getD f zero i p d h = absurd (not-suc-le-zero h)
-entry-getD f (suc n) zero p d h = let q : p ≡ p + 12 * 0 = omega arith in ap (λ (k : ℕ). entryIn (drop k f)) q
-entry-getD f (suc n) (suc i) p d h =
-    let q : p + 12 + 12 * i ≡ p + 12 * suc i = omega arith in
-    ap (λ (s : List ℕ). getD (entriesIn n s) i d) (drop-drop 12 p f) ∙ entry-getD f n i (p + 12) d (le-of-suc-le-suc h) ∙ ap (λ (k : ℕ). entryIn (drop k f)) q
 
 -- the start of the entry at the place found
 place-start : (u n : ℕ) (es : List Entry) (d : Entry) → pairPlace u n es < length es → hitIn u n es ≡ At (getD es (pairPlace u n es) d .start)

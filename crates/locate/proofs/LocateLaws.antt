@@ -1,28 +1,25 @@
 -- The search goes from chunk to chunk of an accepted walk: a chunk of another type leaves the list of those of the type as it is, and the first of the
 -- type begins that list.
 use mathlib.Core.Path.{_≡_, refl, sym, ap, _∙_}
-use Prim.Native.Nat.{ℕ, _+_, _*_, _≤_, _<_}
-use mathlib.Core.List.{List, [], _∷_}
-use mathlib.Core.Bool.{Bool, true, false}
+use Prim.Native.Nat.{ℕ, suc, _+_, _*_, _≤_, _<_}
+use mathlib.Core.List.{List, [], _∷_, map}
+use mathlib.Core.Bool.{Bool, true, false, _&&_, _||_, cond}
 use native.Mathlib.Omega.{arith}
 use lib.ListN.{length, drop}
-use lib.Dec.{ltb}
-use borrow.Author.Tests.{eq-eqb, ne-eqb, ltb-true, ltb-false}
+use lib.Dec.{eqb, ltb, leb·suc-suc}
+use borrow.Author.Tests.{eq-eqb, ne-eqb, lt-ltb, le-ltb}
 use Rattle.blorb.specs.Bytes.{rd32}
-use Rattle.blorb.specs.Format.{chunkIn, entriesIn}
-use Rattle.blorb.specs.Verdict.{accept, refuse, pairIn}
+use Rattle.blorb.specs.Format.{Chunk, Entry, chunkIn, entriesIn, refOf}
+use Rattle.blorb.proofs.EntryList.{length-entriesIn}
+use Rattle.blorb.specs.Verdict.{accept, pairIn}
 use Rattle.blorb.specs.Rules.{profileVerdict}
 use Rattle.blorb.specs.Model.{base, model}
-use Rattle.chunks.specs.Walk.{chunkFrom, chunksFrom, walkFrom, skipAt}
-use Rattle.chunks.proofs.ChunkLaws.{fine, walked, chunks-end}
-use Rattle.index.specs.Entries.{place, startAt, pairPlace}
-use Rattle.index.proofs.IndexLaws.{find-at, find-none}
-use Rattle.reader.specs.Reading.{readOf, foundAt, foundBy, lookupOf}
-use Rattle.reader.specs.declared.Looked.the-variants.{Found, Refused as Missing}
+use Rattle.chunks.specs.Walk.{chunksFrom, walkFrom, skipAt}
+use Rattle.chunks.proofs.ChunkLaws.{fine, chunks-end}
+use Rattle.index.specs.Entries.{place, pairPlace}
+use Rattle.reader.specs.Reading.{readOf}
 use Rattle.reader.specs.declared.Reading.the-variants.{Accepted, Refused as No}
-use Rattle.reader.proofs.AskLaws.{Good, good, accepted, refused-as, look-on}
-use Rattle.reader.proofs.LookLaws.{either}
-use Rattle.reader.proofs.PartLaws.{refs-count}
+use Rattle.reader.proofs.Promises.{layout-is, accepted-is, accepted-when, refused-is}
 use Rattle.locate.specs.Located.{Spot, ofType, locatedIn, locatedOf}
 use Rattle.locate.specs.Bridging.{Next}
 use Rattle.locate.specs.declared.Located.the-variants.{Nothing, One, More, Refused}
@@ -65,36 +62,42 @@ module _ (f : List ℕ) (t from x : ℕ) (a : Next f t from x) where
 module _ (profile : ℕ) (f : List ℕ) (t : ℕ) where
   pub located-no : (k p : ℕ) → readOf profile f ≡ No k p → Refused k p ≡ locatedOf profile f t
   unfolding locatedOf
-  located-no k p e = rw (refused-as profile f k p e)
+  located-no k p e = rw (refused-is profile f k p .0 e)
 
   pub located-go : (l n : ℕ) → readOf profile f ≡ Accepted l n → locatedIn (ofType t (24 + 12 * n) (chunksFrom f (24 + 12 * n))) ≡ locatedOf profile f t
   unfolding locatedOf base
-  located-go l n e = let g : Good profile f n = accepted profile f l n e in rw (g .verdict, g .model, refs-count f n)
+  located-go l n e =
+      let a = accepted-is profile f l n e in
+      let r = layout-is profile f l n e in
+      rw (a .2, ← a .1, r .model)
 
--- a pair is in the index exactly where the search among its entries ends before their number
+-- a pair is among the entries exactly where the search for it ends before their number
+place-in : (at : ℕ) (cs : List Chunk) (u n : ℕ) (es : List Entry) → ltb (pairPlace u n es) (length es) ≡ pairIn u n (map (refOf at cs) es)
+unfolding pairPlace pairIn refOf
+place-in at cs u n [] = le-ltb 0 0 (omega arith)
+place-in at cs u n (e ∷ es) = go (eqb (e .usage) u && eqb (e .number) n) (place-in at cs u n es)
+  where
+    go : (b : Bool) → ltb (pairPlace u n es) (length es) ≡ pairIn u n (map (refOf at cs) es)
+        → ltb (cond b 0 (suc (pairPlace u n es))) (suc (length es)) ≡ b || pairIn u n (map (refOf at cs) es)
+    go true h = lt-ltb 0 (suc (length es)) (omega arith)
+    go false h = leb·suc-suc (suc (pairPlace u n es)) (length es) ∙ h
+
 module _ (profile : ℕ) (f : List ℕ) (h : profileVerdict profile f ≡ accept) where
   pub count-room : 24 ≤ length f
-  count-room = omega (arith, good profile f h .passed .judged .room)
+  count-room = omega (arith, layout-is profile f _ _ (accepted-when profile f h) .room)
 
   module _ (count : ℕ) (ec : count ≡ rd32 (drop 20 f)) where
-    counted : Good profile f count
-    counted = rw (← ec) at (good profile f h)
+    read : readOf profile f ≡ Accepted (length f) count
+    read =
+        let e = accepted-when profile f h in
+        e ∙ ap (Accepted (length f)) (sym (layout-is profile f _ _ e .count) ∙ sym ec)
 
     pub index-room : (count ≤ 4096) × (place count ≤ length f)
-    index-room = let p = counted .passed .judged in (p .few, p .room)
+    index-room = (accepted-is profile f _ _ read .4, layout-is profile f _ _ read .room)
 
     pub index-pair : (u n i : ℕ) → i ≡ pairPlace u n (entriesIn count (drop 24 f)) → ltb i count ≡ pairIn u n (model f .refs)
-    index-pair u n i e = go (ltb i count) refl
-      where
-        found : i < count → lookupOf profile f u n ≡ foundAt (chunkFrom f (startAt f (place i))) (startAt f (place i))
-        found l = look-on profile f u n count counted ∙ ap (foundBy f) (sym (find-at f u n count i e l _ refl))
-
-        missed : count ≤ i → lookupOf profile f u n ≡ Missing 22 0
-        missed l = look-on profile f u n count counted ∙ ap (foundBy f) (sym (find-none f u n count i e l))
-
-        unlike : (t a m : ℕ) → Found t a m ≡ Missing 22 0 → ⊥
-        unlike t a m q = let z : _≡_ {A = ℕ} 0 1 = cc in omega arith
-
-        go : (b : Bool) → ltb i count ≡ b → b ≡ pairIn u n (model f .refs)
-        go true q = either profile f u n h _ (λ x a. sym (a .pair)) (λ a. absurd (unlike _ _ _ (sym (found (ltb-true _ _ q)) ∙ a .found)))
-        go false q = either profile f u n h _ (λ x a. absurd (unlike _ _ _ (sym (a .found) ∙ missed (ltb-false _ _ q)))) (λ a. sym (a .pair))
+    index-pair u n i e =
+        let es : List Entry = entriesIn count (drop 24 f) in
+        let p : ltb (pairPlace u n es) (length es) ≡ pairIn u n (map (refOf (place count) (chunksFrom f (place count))) es)
+        = place-in (place count) (chunksFrom f (place count)) u n es in
+        rw (e, layout-is profile f _ _ read .model) (rw (length-entriesIn count (drop 24 f)) at p)

@@ -19,8 +19,7 @@ use Rattle.chunks.proofs.StartLaws.{good-ind}
 use Rattle.reader.specs.Reading.{readOf}
 use Rattle.reader.specs.declared.Reading.{Reading}
 use Rattle.reader.specs.declared.Reading.the-variants.{Accepted, Refused as No}
-use Rattle.reader.proofs.AskLaws.{Good, accepted}
-use Rattle.reader.proofs.Promises.{unknown-answers}
+use Rattle.reader.proofs.Promises.{accepted-is, layout-is, unknown-answers}
 use Rattle.locate.specs.Located.{Spot, spotAt, pickSpot, ofType, locatedIn, locatedOf, dataAt}
 use Rattle.locate.specs.declared.Located.{Located}
 use Rattle.locate.specs.declared.Located.the-variants.{Nothing, One, More, Refused}
@@ -96,19 +95,19 @@ module _ (profile : ℕ) (f : List ℕ) (t : ℕ) (r : Located) (e : locatedOf p
   pub located-stood : Stood f t r
   located-stood =
       by-reading (Stood f t)
-      (λ l n h. listed-stood f t (behind n) (all-stand f t (24 + 12 * n) (accepted profile f l n h .passed .judged .walks)))
+      (λ l n h. listed-stood f t (behind n) (all-stand f t (24 + 12 * n) (layout-is profile f l n h .walks)))
       (λ k p. tt)
 
-  of-accepted : (P : Type 0) → ((n : ℕ) → Good profile f n → P) → Unrefused P r
-  of-accepted P g = by-reading (Unrefused P) (λ l n h. unrefused P (locatedIn (behind n)) (g n (accepted profile f l n h))) (λ k p. tt)
+  of-accepted : (P : Type 0) → ((l n : ℕ) → readOf profile f ≡ Accepted l n → P) → Unrefused P r
+  of-accepted P g = by-reading (Unrefused P) (λ l n h. unrefused P (locatedIn (behind n)) (g l n h)) (λ k p. tt)
 
   -- the file is not over the limit
   pub located-short : Unrefused (length f ≤ 16777216) r
-  located-short = of-accepted (length f ≤ 16777216) (λ n g. g .passed .short)
+  located-short = of-accepted (length f ≤ 16777216) (λ l n h. accepted-is profile f l n h .3)
 
   -- and accepted
   pub located-accepts : Unrefused (profileVerdict profile f ≡ accept) r
-  located-accepts = of-accepted (profileVerdict profile f ≡ accept) (λ n g. g .verdict)
+  located-accepts = of-accepted (profileVerdict profile f ≡ accept) (λ l n h. accepted-is profile f l n h .2)
 
 -- "Refusals: 52 an unknown profile, before all others" (02, P12): whatever type is looked for in whatever file
 pub located-unknown : (profile : ℕ) (f : List ℕ) (t : ℕ) → 1 < profile → locatedOf profile f t ≡ Refused 52 0

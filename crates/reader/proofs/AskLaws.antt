@@ -34,8 +34,9 @@ use Rattle.index.specs.Optional.{EntriesPassed}
 use Rattle.reader.specs.Passed.{Passed, modelAt}
 use Rattle.blorb.specs.Model.{model}
 use Rattle.blorb.proofs.Profiles.{profile-accept}
-use Rattle.blorb.proofs.Accept.{accept-short, length-entriesIn}
-use Rattle.index.proofs.IndexLaws.{entry-getD, hit-begun}
+use Rattle.blorb.proofs.Accept.{accept-short}
+use Rattle.blorb.proofs.EntryList.{length-entriesIn, entry-getD}
+use Rattle.index.proofs.IndexLaws.{hit-begun}
 use Rattle.index.proofs.OptionalLaws.{optional-is}
 use Rattle.reader.proofs.ReadLaws.{whole, layout, is-judged, index-of, model-of, v3, v5}
 

@@ -7,7 +7,7 @@ use native.Mathlib.Omega.{arith}
 use native.Mathlib.Nat.{not-suc-le-zero, le-of-suc-le-suc}
 use lib.ListN.{length, getD, drop, length-drop}
 use lib.Seq.{drop-drop}
-use lib.Dec.{eqb, ltb}
+use lib.Dec.{eqb, ltb, leb·suc-suc}
 use borrow.Author.Tests.{eq-eqb, lt-ltb, le-ltb, ltb-true, ltb-false}
 use Rattle.blorb.specs.All.{All}
 use Rattle.blorb.specs.Bytes.{rd32, Byte}
@@ -29,6 +29,7 @@ use Rattle.index.specs.Hits.{hitIn}
 use Rattle.index.specs.declared.entries.Hit.the-variants.{At}
 use Rattle.reader.specs.declared.Looked.{Looked}
 use Rattle.reader.specs.declared.Looked.the-variants.{Refused as Missing}
+use Rattle.blorb.proofs.Checks.{neither}
 use Rattle.chunks.proofs.ChunkLaws.{fine}
 use Rattle.index.proofs.EntryLaws.{pair-snoc}
 use Rattle.index.proofs.IndexLaws.{drop-take, find-at, find-none, first-entry}
@@ -122,6 +123,27 @@ module _ (R : Rules) (f : List ℕ) (base : ℕ) (w : walkFrom f base ≡ accept
       let q = new-pair es (earlier ++ (r ∷ [])) (p + 12) i d (first-entry R f base w e es earlier p h .2) (le-of-suc-le-suc l) in
       neither _ _ (sym (pair-snoc (getD es i d .usage) (getD es i d .number) earlier r) ∙ q) .0
 
+  -- an entry's pair is none behind it
+  new-behind : (e : Entry) (es : List Entry) (earlier : List Ref) (p i : ℕ) (d : Entry) → entriesFault R base (chunksFrom f base) earlier p (e ∷ es) ≡ accept
+      → i < length es → eqb (e .usage) (getD es i d .usage) && eqb (e .number) (getD es i d .number) ≡ false
+  unfolding refOf
+  new-behind e es earlier p i d h l =
+      let r : Ref = refOf base (chunksFrom f base) e in
+      let q = new-pair es (earlier ++ (r ∷ [])) (p + 12) i d (first-entry R f base w e es earlier p h .2) l in
+      neither (pairIn (getD es i d .usage) (getD es i d .number) earlier) _ (sym (pair-snoc (getD es i d .usage) (getD es i d .number) earlier r) ∙ q) .1
+
+  pub apart : (es : List Entry) (earlier : List Ref) (p i j : ℕ) (d : Entry) → entriesFault R base (chunksFrom f base) earlier p es ≡ accept → i < j
+      → j < length es → (getD es i d .usage ≡ getD es j d .usage) × (getD es i d .number ≡ getD es j d .number) → ⊥
+  apart [] earlier p i j d h l m s = not-suc-le-zero m
+  apart (e ∷ es) earlier p i zero d h l m s = not-suc-le-zero l
+  apart (e ∷ es) earlier p zero (suc j) d h l m s =
+      let z : _≡_ {A = ℕ} 0 1 =
+      cc (new-behind e es earlier p j d h (le-of-suc-le-suc m), eq-eqb _ _ (s .0), eq-eqb _ _ (s .1)) in
+      omega arith
+  apart (e ∷ es) earlier p (suc i) (suc j) d h l m s =
+      apart es (earlier ++ (refOf base (chunksFrom f base) e ∷ [])) (p + 12) i j d (first-entry R f base w e es earlier p h .2) (le-of-suc-le-suc l)
+      (le-of-suc-le-suc m) s
+
   pub only-hit : (es : List Entry) (earlier : List Ref) (p i : ℕ) (d : Entry) → entriesFault R base (chunksFrom f base) earlier p es ≡ accept → i < length es
       → hitIn (getD es i d .usage) (getD es i d .number) es ≡ At (getD es i d .start)
   unfolding hitIn refOf
@@ -129,8 +151,5 @@ module _ (R : Rules) (f : List ℕ) (base : ℕ) (w : walkFrom f base ≡ accept
   only-hit (e ∷ es) earlier p zero d h l = rw (eq-eqb (e .usage) (e .usage) refl, eq-eqb (e .number) (e .number) refl)
   only-hit (e ∷ es) earlier p (suc i) d h l =
       let r : Ref = refOf base (chunksFrom f base) e in
-      let a = first-entry R f base w e es earlier p h .2 in
-      let q = new-pair es (earlier ++ (r ∷ [])) (p + 12) i d a (le-of-suc-le-suc l) in
-      let t : eqb (e .usage) (getD es i d .usage) && eqb (e .number) (getD es i d .number) ≡ false
-      = neither (pairIn (getD es i d .usage) (getD es i d .number) earlier) _ (sym (pair-snoc (getD es i d .usage) (getD es i d .number) earlier r) ∙ q) .1 in
-      rw t (only-hit es (earlier ++ (r ∷ [])) (p + 12) i d a (le-of-suc-le-suc l))
+      let k : i < length es = le-of-suc-le-suc l in
+      rw (new-behind e es earlier p i d h k) (only-hit es (earlier ++ (r ∷ [])) (p + 12) i d (first-entry R f base w e es earlier p h .2) k)

@@ -19,7 +19,7 @@ use Rattle.blorb.specs.Queries.{find, uses, without, noRef, refAt, shared, star
 use Rattle.blorb.specs.All.{All}
 use Rattle.blorb.proofs.AllLaws.{all-getD}
 use Rattle.blorb.proofs.Places.{startOf-placeOf}
-use Rattle.blorb.proofs.Accept.{starts-ok, length-entriesIn}
+use Rattle.blorb.proofs.Accept.{starts-ok}
 use Rattle.blorb.proofs.Profiles.{profile-known}
 use Rattle.blorb.proofs.Checks.{stop}
 use Rattle.chunks.specs.Walk.{chunkFrom, chunksFrom}
@@ -42,7 +42,7 @@ use Rattle.reader.specs.Reading.{readBy, readOf}
 use Rattle.reader.proofs.AskLaws.{Good}
 use Rattle.chunks.proofs.ChunkLaws.{fine}
 use Rattle.chunks.proofs.StartLaws.{begun, Begun}
-use Rattle.index.proofs.IndexLaws.{entry-getD}
+use Rattle.blorb.proofs.EntryList.{length-entriesIn, entry-getD}
 
 -- an element of a list and of its image
 getD-map-in : {A B : Type 0} (g : A → B) (l : List A) (i : ℕ) (d : A) (z : B) → i < length l → getD (map g l) i z ≡ g (getD l i d)

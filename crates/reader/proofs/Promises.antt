@@ -23,7 +23,7 @@ use Rattle.blorb.proofs.Accept.{accept-back, entryOf-refOf}
 use Rattle.blorb.proofs.Exactly.{under-exactly}
 use Rattle.blorb.proofs.Profiles.{profile-accept, profile-known, plain-adrift}
 use Rattle.blorb.proofs.ModelLaws.{entries}
-use Rattle.chunks.specs.Walk.{chunkFrom, chunksFrom}
+use Rattle.chunks.specs.Walk.{chunkFrom, chunksFrom, walkFrom}
 use Rattle.index.specs.Entries.{usageAt, numberAt, startAt, place}
 use Rattle.index.specs.Optional.{EntriesPassed}
 use Rattle.reader.specs.Passed.{modelAt}
@@ -38,10 +38,11 @@ use Rattle.reader.specs.declared.Looked.{Looked}
 use Rattle.reader.specs.declared.Looked.the-variants.{Found, Refused as Missing}
 use Rattle.chunks.proofs.ChunkLaws.{fine}
 use Rattle.chunks.proofs.StartLaws.{begun}
-use Rattle.index.proofs.IndexLaws.{entry-getD, hit-start, hit-begun}
+use Rattle.blorb.proofs.EntryList.{entry-getD}
+use Rattle.index.proofs.IndexLaws.{hit-start, hit-begun}
 use Rattle.reader.proofs.AskLaws.{good, accepted, look-found, read-go, refused, refused-as, known-at, not-unknown, given-as}
 use Rattle.reader.proofs.PartLaws.{refs-count, starts, unknown-profile}
-use Rattle.reader.proofs.LookLaws.{part-at, either, only-hit}
+use Rattle.reader.proofs.LookLaws.{part-at, either, only-hit, apart}
 
 -- the reading of an accepted file: its length and the number of its model's entries; both within the limits
 pub accepted-is : (profile : ℕ) (f : List ℕ) (l n : ℕ) → readOf profile f ≡ Accepted l n
@@ -97,6 +98,33 @@ too-short profile f k h =
 -- an accepted file's index has as many entries as the reading says
 pub counted : (profile : ℕ) (f : List ℕ) (l n : ℕ) → readOf profile f ≡ Accepted l n → length (indexOf f) ≡ n
 counted profile f l n e = accepted profile f l n e .many
+
+-- how an accepted file of n entries is laid out: the count says n, the entries stand one after another from 24 on, "No (usage, number) pair stands twice"
+-- (01, rule 6), and good chunks follow to the file's end. They are what the file holds.
+pub record Layout (f : List ℕ) (n : ℕ) : Type 0 where
+  pub count : rd32 (drop 20 f) ≡ n
+  pub room : place n ≤ length f
+  pub index : indexOf f ≡ entriesIn n (drop 24 f)
+  pub once : (i j : ℕ) → i < j → j < n → (getD (indexOf f) i noEntry .usage ≡ getD (indexOf f) j noEntry .usage)
+      × (getD (indexOf f) i noEntry .number ≡ getD (indexOf f) j noEntry .number) → ⊥
+  pub walks : walkFrom f (place n) ≡ accept
+  pub model : model f ≡ modelAt f n
+
+pub layout-is : (profile : ℕ) (f : List ℕ) (l n : ℕ) → readOf profile f ≡ Accepted l n → Layout f n
+unfolding readOf
+layout-is profile f l n e =
+    let q = read-go (profileVerdict profile f) l n (length f) (length (indexOf f)) e in
+    let g = accepted profile f l n e in
+    let j : EntriesPassed f n = g .passed .judged in
+    let es : entriesFault (j .rules) (place n) (chunksFrom f (place n)) [] 24 (indexOf f) ≡ accept = rw (g .index) (j .entries) in
+    record {
+      count = sym (good profile f (q .0) .many) ∙ q .2;
+      room = j .room;
+      index = g .index;
+      once = λ i k a b. apart (j .rules) f (place n) (j .walks) (indexOf f) [] 24 i k noEntry es a (rw (g .many) b);
+      walks = j .walks;
+      model = g .model;
+    }
 
 -- entry i of an accepted file, read where it stands: it and its chunk's header lie in the file, and the lookup of its pair finds that chunk
 pub record EntryAt (profile : ℕ) (f : List ℕ) (i : ℕ) : Type 0 where

@@ -17,10 +17,10 @@ use Rattle.index.specs.Entries.{place, entriesFrom, earlier}
 use Rattle.reader.specs.declared.Reading.the-variants.{Accepted, Refused}
 use Rattle.reader.specs.Reading.{indexOf, readBy}
 use Rattle.blorb.specs.Model.{base, model, modelOf}
-use Rattle.blorb.proofs.Accept.{length-entriesIn}
 use Rattle.chunks.specs.Ordinary.{allOrdinary}
 use Rattle.index.specs.Optional.{optionalFault, EntriesPassed}
 use Rattle.reader.specs.Passed.{readKnown, modelAt}
+use Rattle.blorb.proofs.EntryList.{length-entriesIn}
 use Rattle.index.proofs.IndexLaws.{Shaped, shaped}
 use Rattle.index.proofs.OptionalLaws.{optional-is}
 

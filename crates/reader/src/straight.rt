@@ -95,45 +95,20 @@ fn step_to(s: &[u8], found: usize, at: usize, start: usize) -> Step
     )
 }
 
-// Whether the entry at `p`, whose chunk begins at `start`, gives no cause for 12, 14 and 15, its type being a plain one.
-fn suits_plainly(s: &[u8], p: usize, start: usize) -> bool
-    requires { ⌜ (p + 12 ≤ length (now s)) × (start < length (now s)) × (chunkFault start (drop start (now s)) ≡ accept) × (startAt (now s) p ≡ start) ⌝ }
-    ensures { λ r. ⌜ ((profile : ℕ) → Suits profile r (now (s .entry)) p) ⌝ }
-{
-    let code = blorb::be32_at(s, p);
-    let Known::Is(usage) = Usage::of_code(code) else {
-        return false;
-    };
-    if !entries::plainly_typed(s, usage, start) {
-        return false;
-    }
-    entries::numbered(code, blorb::be32_at(s, p + 4))
-}
-
-// The same, its type being one that the profile allows besides.
-fn suits_also(s: &[u8], profile: u32, p: usize, start: usize) -> bool
-    requires { ⌜ (p + 12 ≤ length (now s)) × (start < length (now s)) × (chunkFault start (drop start (now s)) ≡ accept) × (startAt (now s) p ≡ start) ⌝ }
-    ensures { λ r. ⌜ Suits profile r (now (s .entry)) p ⌝ }
-{
-    let code = blorb::be32_at(s, p);
-    let Known::Is(usage) = Usage::of_code(code) else {
-        return false;
-    };
-    if !usage.also_allows(profile, blorb::be32_at(s, start)) {
-        return false;
-    }
-    entries::numbered(code, blorb::be32_at(s, p + 4))
-}
-
-// The same under the profile. The plain types come first, apart from the others, so that the pass over a plain file stays as short as without profiles.
+// Whether the entry at `p`, whose chunk begins at `start`, gives no cause for 12, 14 and 15. The plain types are tested first: most entries have one.
 fn suits(s: &[u8], profile: u32, p: usize, start: usize) -> bool
     requires { ⌜ (p + 12 ≤ length (now s)) × (start < length (now s)) × (chunkFault start (drop start (now s)) ≡ accept) × (startAt (now s) p ≡ start) ⌝ }
     ensures { λ r. ⌜ Suits profile r (now (s .entry)) p ⌝ }
 {
-    if suits_plainly(s, p, start) {
-        return true;
+    let code = blorb::be32_at(s, p);
+    let Known::Is(usage) = Usage::of_code(code) else {
+        return false;
+    };
+    if entries::plainly_typed(s, usage, start) {
+        return entries::numbered(code, blorb::be32_at(s, p + 4));
     }
-    suits_also(s, profile, p, start)
+    usage.also_allows(profile, blorb::be32_at(s, start))
+        & entries::numbered(code, blorb::be32_at(s, p + 4))
 }
 
 // Whether each entry of this usage suits each chunk of this type once one has: rule 5 looks at the data of a 'Rect' and a 'FORM' too, rule 6 at an

@@ -18,7 +18,7 @@ use lib.Dec.{eqb}
 use borrow.Author.Tests.{le-leb, lt-leb, eq-eqb}
 use Rattle.reader.specs.Reading.{readOf}
 use Rattle.reader.specs.declared.Reading.the-variants.{Accepted, Refused}
-use Rattle.index.proofs.IndexLaws.{length-entriesIn}
+use Rattle.blorb.proofs.EntryList.{length-entriesIn}
 use Rattle.table.specs.declared.Built.the-variants as built
 use Rattle.table.specs.declared.Checked.the-variants as checked
 use Rattle.rows.proofs.SortLaws.{sorted-perm, perm-length, all-there}

@@ -18,7 +18,7 @@ use Rattle.blorb.specs.All.{All}
 use Rattle.blorb.proofs.AllLaws.{all-getD}
 use Rattle.blorb.proofs.Checks.{and-both}
 use Rattle.index.specs.Entries.{place}
-use Rattle.index.proofs.IndexLaws.{length-entriesIn, entry-getD}
+use Rattle.blorb.proofs.EntryList.{length-entriesIn, entry-getD}
 use Rattle.rows.specs.Bridging.{NoTwice, Within, one, rank, held, Alike}
 use Rattle.rows.specs.Rows.{rowIn}
 use Rattle.rows.specs.Order.{before, isPair, sorted, Below, Rising}

@@ -12,7 +12,7 @@ use Rattle.blorb.specs.Bytes.{rd32}
 use Rattle.blorb.specs.Format.{Entry, entryIn, entriesIn}
 use Rattle.blorb.specs.All.{All}
 use Rattle.blorb.proofs.AllLaws.{all-take}
-use Rattle.index.proofs.IndexLaws.{length-entriesIn, entry-getD}
+use Rattle.blorb.proofs.EntryList.{length-entriesIn, entry-getD}
 use Rattle.rows.specs.Rows.{rowIn, rowsBy}
 use Rattle.rows.specs.Order.{before, sorted, Below, Rising}
 use Rattle.rows.specs.Bridging.{NoTwice, Within, one, upto, Alike}

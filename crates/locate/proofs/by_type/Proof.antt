@@ -2,19 +2,19 @@
 use mathlib.Core.Path.{_≡_, sym, _∙_}
 use native.Mathlib.Omega.{arith}
 use borrow.Author.Needs.{needs}
-use Rattle.reader.proofs.AskLaws.{accepted}
+use Rattle.reader.proofs.Promises.{accepted-is, layout-is}
 use Rattle.locate.proofs.LocateLaws.{located-no, located-go}
 use Rattle.locate.proofs.by_type.Statement.{statement}
 use Rattle.locate.proofs.by_type.Tie as tie
 
 mul-from-on : tie.Need-mul-from-on
-mul-from-on c = omega (arith, accepted _ _ _ _ (sym (c .before .before .before .read .ensures) ∙ c .before .count .given .1) .passed .judged .few)
+mul-from-on c = omega (arith, accepted-is _ _ _ _ (sym (c .before .before .before .read .ensures) ∙ c .before .count .given .1) .4)
 
 add-from-on : tie.Need-add-from-on
-add-from-on c = omega (arith, accepted _ _ _ _ (sym (c .before .before .before .read .ensures) ∙ c .before .count .given .1) .passed .judged .few)
+add-from-on c = omega (arith, accepted-is _ _ _ _ (sym (c .before .before .before .read .ensures) ∙ c .before .count .given .1) .4)
 
 from-on-requires : tie.Need-from-on-requires
-from-on-requires c κs = accepted _ _ _ _ (sym (c .before .before .before .read .ensures) ∙ c .before .count .given .1) .passed .judged .walks
+from-on-requires c κs = layout-is _ _ _ _ (sym (c .before .before .before .read .ensures) ∙ c .before .count .given .1) .walks
 
 returns : tie.Need-returns
 returns c = located-no _ _ _ _ _ (sym (c .before .before .before .read .ensures) ∙ c .before .number .given .1)

@@ -4,7 +4,7 @@ use mathlib.Core.Path.{_≡_}
 use lib.ListN.{length, drop}
 use denote.Ref.{now}
 use Rattle.blorb.specs.Format.{entriesIn}
-use Rattle.index.proofs.IndexLaws.{length-entriesIn}
+use Rattle.blorb.proofs.EntryList.{length-entriesIn}
 use Rattle.table.proofs.FillLaws.{fill-risen, fill-sorted}
 use borrow.Author.Needs.{needs}
 use Rattle.table.proofs.fill.Statement.{statement}

@@ -8,7 +8,7 @@ use lib.ListN.{length, take, drop}
 use denote.Ref.{now}
 use Rattle.blorb.specs.Format.{Entry, entriesIn}
 use Rattle.rows.specs.Halving.{noRow}
-use Rattle.index.proofs.IndexLaws.{length-entriesIn, entry-getD}
+use Rattle.blorb.proofs.EntryList.{length-entriesIn, entry-getD}
 use Rattle.rows.specs.Rows.{flat}
 use Rattle.rows.proofs.OrderLaws.{same-entry}
 use Rattle.rows.proofs.FlatLaws.{entries-turn, entries-length, entries-all}
