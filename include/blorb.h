@@ -16,8 +16,9 @@
  *     BLORB_STACK_LISTS under "Scaled pictures" or "Spoken descriptions", and BLORB_STACK_READING elsewhere (this is checked in the
  *     machine code and measured, not proved). The calls on group files recurse, once for each level of nesting and never deeper than 16
  *     levels, whatever the file says; no other call recurses.
- *   - The answer's `refusal` is 0 where the call was carried out; else it is one of the numbers below, and `place` is where
- *     in the file the reason lies (0 where a number has no place).
+ *   - The answer's `refusal` is 0 where the call was carried out; else it is one of the numbers below, and `place` is where the reason lies:
+ *     an offset in the file, of 100 + k in the file that the edit would make; of 35, and in blorb_texts_write, a row, counted from 0. It is 0
+ *     where a number has no place.
  *   - A refused call has written nothing: every lent byte is as it was. The `length` and `used` that a refused edit or undo hands
  *     back are those given.
  *   - No byte outside the lent buffers is read or written.
@@ -31,11 +32,11 @@
  *   - Buffers that a call may write (no const) overlap no other buffer of the same call.
  *   - `usage` and `type` point at four bytes, such as "Pict" or "TEXT". No closing zero is needed.
  *
- * Every call that takes a profile judges the whole file first, each time. That looks at four bytes of a chunk's data at most, so the time
- * does not depend on the size of the resources. It is proportional to entries + chunks where the numbers of each usage rise from entry to
- * entry. Where they do not, earlier pairs are looked through as well, and the time can grow to chunks + entries * entries. This holds for
- * refused files too. An edit besides moves the bytes behind what it changes, once. What scaled pictures and spoken descriptions take besides
- * stands with them.
+ * Every call that takes a profile judges the whole file each time, unless 52 or 20 comes before that. Of a chunk other than the index it looks
+ * at four bytes of data at most, so the time does not depend on the size of the resources. It is proportional to entries + chunks where the
+ * numbers of each usage rise from entry to entry. Where they do not, earlier pairs are looked through as well, and the time can grow to chunks +
+ * entries * entries. This holds for refused files too. An edit besides moves the bytes behind what it changes, once. What finding tables, scaled
+ * pictures and spoken descriptions take besides stands with them.
  *
  * To go through an index, call blorb_read once: in an accepted file entry i stands at 24 + BLORB_ENTRY_SIZE * i, as usage, number and
  * start of its chunk, each of four bytes, the first one highest. Starts never fall from entry to entry, so a file can be played from front
@@ -79,7 +80,7 @@ enum {
     BLORB_ROW_NUMBERS = 3,     /* numbers of 32 bits in a row of a finding table */
     BLORB_FORM_NUMBERS = 4,    /* numbers of 32 bits in a row of the list of FORMs */
     BLORB_FORM_SIZE = 12,      /* bytes that a FORM has at least: header and type */
-    BLORB_MAX_DEPTH = 16,      /* levels of a group file, at most */
+    BLORB_MAX_DEPTH = 16,      /* the deepest level of a FORM or group in a group file; a 'PROP' may stand one deeper */
     BLORB_TEXT_NUMBERS = 4     /* numbers of 32 bits in a row of texts to be written: usage, number, place, length */
 };
 
@@ -175,9 +176,9 @@ enum {
     /* The 'Reso' chunk. */
     BLORB_SECOND_RESO = 31,     /* a second 'Reso'; place: its start */
     BLORB_RESO_LENGTH = 32,     /* the length of the 'Reso' is not 24 plus a multiple of 28; place: its start */
-    BLORB_RESO_NUMBER = 33,     /* a number of the 'Reso', or a side given, may not be; blorb_scaled says which may not; place 0 */
+    BLORB_RESO_NUMBER = 33,     /* a number of the 'Reso', or a side given, is not allowed; blorb_scaled says which are not; place 0 */
 
-    /* The 'RDes' chunk. Places in brackets are those of blorb_texts_write. */
+    /* The 'RDes' chunk. What stands in brackets is of blorb_texts_write. */
     BLORB_SECOND_RDES = 36,     /* a second 'RDes'; place: its start */
     BLORB_RDES_LENGTH = 37,     /* the entries do not fill the 'RDes' exactly; place: its start */
     BLORB_RDES_REPEATED = 38,   /* an earlier text has this usage and number; place: the text's entry [the row from 0] */
@@ -203,7 +204,7 @@ enum {
  */
 const char *blorb_sentence(uint64_t refusal);
 
-/* Reading. The file is the whole array of `size` bytes; it is only read. "The file's refusals" are 52 and those that stand under it above. */
+/* Reading. The file is the whole array of `size` bytes; it is only read. "The file's refusals" are 52, then those under "The file." above. */
 
 /* Of a refused file: length and count 0. */
 typedef struct blorb_read_answer {
@@ -272,8 +273,12 @@ blorb_aiff_answer blorb_aiff_length(const uint8_t *bytes, size_t size);
  *
  * A program that looks up much checks its table once, when it opens the file, and then searches: blorb_table_search finds in
  * an accepted table just what blorb_lookup finds in the file, and reads nothing but the table. Every edit or undo makes the
- * old table stale, unless it is a replacement, or the undo of one, that moves no start (of the same size, or with no entry's chunk
- * behind it); a stale table is refused with 35, for every file that differs in an entry.
+ * old table stale, unless it is a replacement, or the undo of one, that moves no start: one whose chunk keeps its size, padding counted, or has
+ * no entry's chunk behind it. A table is refused with 35 for every file with other entries.
+ *
+ * Measured times (docs/BENCHMARK.md), of 4,096 entries of one usage: where their numbers rise from entry to entry, blorb_read takes 14 us, and
+ * besides that a build takes 5 us, the check of a good table 12 us and a check that refuses with 35 up to 0.2 ms. Where the numbers do not rise it
+ * is 2.5 ms for blorb_read, and besides that 0.2 ms, 0.3 ms and up to 3.2 ms.
  */
 
 /* Of a refused call: rows 0. */
@@ -323,8 +328,9 @@ blorb_search_answer blorb_columns_search(const uint32_t *columns, size_t numbers
  * Group files (EA IFF 85). Artists send many pictures in one file: 'LIST' and 'CAT ' groups that hold FORMs. The file is the whole array of `size`
  * bytes; it is only read, and no profile is asked for. It is one chunk, the top, which is a FORM or a group at depth 1, with its padding; whatever stands
  * in a FORM, a group or a 'PROP' is one level deeper. A FORM holds plain chunks, FORMs and groups. A group holds FORMs and groups, and a 'LIST' may
- * begin with 'PROP's, which hold plain chunks. Every FORM, group and 'PROP' has four bytes of type before what it holds; these are not judged. At most
- * BLORB_MAX_SIZE bytes and BLORB_MAX_DEPTH levels. A Blorb file and an AIFF sound are FORMs, and can be given to these calls too.
+ * begin with 'PROP's, which hold plain chunks. Every FORM, group and 'PROP' has four bytes of type before what it holds; these are not judged.
+ * The file has at most BLORB_MAX_SIZE bytes. FORMs and groups stand at most BLORB_MAX_DEPTH levels deep; a 'PROP' may stand one deeper. A Blorb file
+ * and an AIFF sound are FORMs, and can be given to these calls too.
  *
  * The time is proportional to the file's chunks, down to the first fault; the data of plain chunks is not looked at.
  */
@@ -490,7 +496,7 @@ blorb_edit_answer blorb_remove(uint8_t *file, size_t size, size_t length,
 
 /*
  * Give a resource a second name: a new entry, with the new usage and number, on the chunk of the one with this usage and number. It stands behind
- * the last entry whose chunk begins no later, so with the others on that chunk. No data is copied: it takes BLORB_ENTRY_SIZE bytes in the file, and
+ * the last entry whose chunk begins no later, so right behind the others on that chunk. No data is copied: it takes BLORB_ENTRY_SIZE bytes in the file, and
  * BLORB_RECORD_SIZE in the journal. Both names then find the same bytes; blorb_replace of either is refused with 23, and blorb_remove of one
  * leaves the chunk to the other. With a new number that is not above those before it of its usage, or not below those behind it, the numbers no
  * longer rise from entry to entry, and reading takes longer (see the beginning).

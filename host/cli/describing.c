@@ -219,7 +219,7 @@ static int print_one(const request *r, const contents *c)
     show_pair(r->usage, r->number, pair);
     snprintf(what, sizeof what, "%s has no text", pair);
     if (a.refusal == BLORB_NOT_THERE && blorb_lookup(c->file, c->length, c->profile, r->usage, r->number).refusal == BLORB_DONE)
-        return say_not_there(r->file, what, "`blorb describe FILE` lists the texts that there are.");
+        return say_refused_as(r->file, a.refusal, what, "`blorb describe FILE` lists the texts that there are.");
     if (a.refusal == BLORB_NOT_THERE)
         return say_refused(r->file, a.refusal, a.place, pair, NULL);
     if (a.refusal != BLORB_DONE)

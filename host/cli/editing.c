@@ -282,13 +282,13 @@ static int undo_one(editing *e, state *at)
 /* All of them or none. */
 static int undo_contents(editing *e)
 {
-    char about[80];
+    char what[80];
     uint8_t room[STATE_SIZE];
     state at = e->j.now;
     int status = CARRIED_OUT;
     if (at.edits > 0 && at.edits < e->r->edits) {
-        snprintf(about, sizeof about, "only %" PRIu64 " edits are there to be taken back, not %" PRIu32, at.edits, e->r->edits);
-        return say_refused(e->r->file, BLORB_NOTHING_TO_UNDO, 0, about, "`blorb history FILE` lists what can be undone.");
+        snprintf(what, sizeof what, "only %" PRIu64 " edit%s can be undone, not %" PRIu32, at.edits, at.edits == 1 ? "" : "s", e->r->edits);
+        return say_refused_as(e->r->file, BLORB_NOTHING_TO_UNDO, what, "`blorb history FILE` lists what can be undone.");
     }
     for (uint32_t i = 0; i < e->r->edits && status == CARRIED_OUT; i++)
         status = undo_one(e, &at);

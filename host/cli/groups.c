@@ -48,7 +48,7 @@ static int get_form(const request *r, const contents *c)
     blorb_pick_answer a = blorb_forms_pick(c->file, c->length, r->form);
     snprintf(what, sizeof what, "the file has no FORM %" PRIu32, r->form);
     if (a.refusal == BLORB_NOT_THERE)
-        return say_not_there(r->file, what, "`blorb forms FILE` lists its FORMs, from 0.");
+        return say_refused_as(r->file, a.refusal, what, "`blorb forms FILE` lists its FORMs, from 0.");
     if (a.refusal != BLORB_DONE)
         return refuse(r, a.refusal, a.place);
     return put_where_asked(r, c, (bytes){c->file + a.start, (size_t)a.length});

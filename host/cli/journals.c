@@ -122,17 +122,25 @@ static int is_there(const place *p, const char *name)
     return fstatat(p->folder, name, &status, AT_SYMLINK_NOFOLLOW) == 0;
 }
 
+/* Whether what has the journal's name begins as a journal does, which no link does; -1 and errno where it cannot be read. */
+static int is_journal_there(const place *p)
+{
+    int fd = openat(p->folder, p->undo, O_RDONLY | O_NOFOLLOW | O_NONBLOCK | O_CLOEXEC);
+    if (fd < 0)
+        return errno == ELOOP ? 0 : -1;
+    int found = is_journal(fd);
+    close(fd);
+    return found;
+}
+
 /* Only what begins as a journal is removed: anything else of this name is not the program's. */
 static int forget(const request *r, const place *p)
 {
     if (!is_there(p, p->undo))
         return CARRIED_OUT;
-    int fd = openat(p->folder, p->undo, O_RDONLY | O_NOFOLLOW | O_NONBLOCK | O_CLOEXEC);
-    if (fd < 0 && errno != ELOOP)
+    int found = is_journal_there(p);
+    if (found < 0)
         return say_failed(p->undo_path, "the journal cannot be read");
-    int found = fd >= 0 && is_journal(fd);
-    if (fd >= 0)
-        close(fd);
     if (!found)
         return say_cannot(p->undo_path, "this is no journal, or not even its first bytes are left",
                           "Look at it, and move it away or delete it yourself.");
@@ -149,6 +157,19 @@ static int has_room_for_names(const place *p)
     return longest < 0 || strlen(p->undo_temp) <= (size_t)longest;
 }
 
+/* What stands under the journal's name where no file has FILE's: `forget` drops it only if it is a journal. */
+static int say_undo_taken(const place *p)
+{
+    int found = is_journal_there(p);
+    if (found < 0)
+        return say_failed(p->undo_path, "what has the name of the new file's journal cannot be read");
+    if (!found)
+        return say_cannot(p->undo_path, "this is no journal, and has the name that the new file's journal needs",
+                          "Look at it, and move it away or delete it yourself; or give another name.");
+    return say_cannot(p->undo_path, "the journal of an older file of this name is still there",
+                      "Move it away, or drop it with `blorb forget FILE`; or give another name.");
+}
+
 /* No file is overwritten, and no journal of an older file of this name is taken for the new one's. */
 static int make_new(const request *r, const place *p)
 {
@@ -156,8 +177,7 @@ static int make_new(const request *r, const place *p)
     if (is_there(p, p->name))
         return say_cannot(r->file, "this name is taken", "Move it away or delete it first, or give another name.");
     if (is_there(p, p->undo))
-        return say_cannot(p->undo_path, "the journal of an older file of this name is still there",
-                          "Move it away, or drop it with `blorb forget FILE`; or give another name.");
+        return say_undo_taken(p);
     if (!has_room_for_names(p))
         return say_failed(r->file, "edits would find no name for the journal");
     blorb_edit_answer a = blorb_blank(blank, sizeof blank);

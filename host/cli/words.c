@@ -60,7 +60,7 @@ static const remedy remedies[] = {
     {BLORB_RESO_LENGTH, "Its packer wrote it wrong: it has 24 bytes of window sizes and 28 for each picture. Pack the file again."},
     {BLORB_RESO_NUMBER,
      "Give sides of at most 65535. In the 'Reso' all numbers but those of pictures are at most 65535, the standard window's sides and\n"
-     "  the denominators are not 0 (a limit of 0/0 is none), no least ratio is over the greatest, and no picture is listed twice."},
+     "  the denominators are not 0 (a limit with numerator 0 is none), no least ratio is over the greatest, and no picture is listed twice."},
     {BLORB_SECOND_RDES, "Pack the file again with one of them, which has all texts."},
     {BLORB_RDES_LENGTH, "Its packer wrote it wrong: it has a count, and for each text usage, number, length and the bytes. Pack the file again."},
     {BLORB_RDES_REPEATED, "Give each resource one text."},
@@ -125,7 +125,7 @@ static const char *remedy_for(uint64_t number)
     return NULL;
 }
 
-/* The library's sentence. Its 22 is one for resources, texts and FORMs; of the other two say_not_there tells. */
+/* The library's sentence. Its 22 is one for resources, texts and FORMs; of the other two say_refused_as tells. */
 static const char *sentence_for(uint64_t number)
 {
     return number == BLORB_NOT_THERE ? "there is no such resource" : blorb_sentence(number);
@@ -147,10 +147,10 @@ int say_refused(const char *file, uint64_t number, uint64_t place, const char *a
     return say_sentence(number, about, advice);
 }
 
-int say_not_there(const char *file, const char *what, const char *advice)
+int say_refused_as(const char *file, uint64_t number, const char *what, const char *advice)
 {
     say_file(file);
-    fprintf(stderr, ": refused %d at 0: ", (int)BLORB_NOT_THERE);
+    fprintf(stderr, ": refused %" PRIu64 " at 0: ", number);
     say_safely(what);
     fputs(".\n", stderr);
     say_advice(advice);

@@ -38,8 +38,8 @@ void say_safely(const char *text);
 /* A refusal of the library; `about` (or "") says what it is about, `advice` (or null for the usual one) what to do. Gives REFUSED. */
 int say_refused(const char *file, uint64_t number, uint64_t place, const char *about, const char *advice);
 
-/* The same of refusal 22 where what is missing is no resource: `what` says it, such as "the file has no FORM 9". */
-int say_not_there(const char *file, const char *what, const char *advice);
+/* The same where the library's sentence does not say what is wrong: `what` does, such as "the file has no FORM 9". The place is 0. */
+int say_refused_as(const char *file, uint64_t number, const char *what, const char *advice);
 
 /* The same without number and place, where these are on standard output. */
 int say_meaning(const char *file, uint64_t number, const char *about, const char *advice);

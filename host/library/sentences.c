@@ -74,7 +74,7 @@ const char *blorb_sentence(uint64_t refusal)
     case BLORB_TABLE_ROOM:
         return "there is no room for the finding table";
     case BLORB_TABLE_STALE:
-        return "the finding table is not this file's, from that row on; it may be of an older file, of another one, or damaged";
+        return "the finding table is not this file's: that row is the first that is wrong or missing; the table may be of an older or another file, or damaged";
     case BLORB_GROUP_SIZE:
         return "a chunk of the group file is cut short, runs past what holds it, or lacks the four bytes of its type";
     case BLORB_GROUP_DEPTH:
@@ -104,7 +104,7 @@ const char *blorb_sentence(uint64_t refusal)
     case BLORB_RDES_REPEATED:
         return "an earlier text is for the same usage and number";
     case BLORB_RDES_TEXT:
-        return "a text is not UTF-8 from there on, or runs past the bytes given";
+        return "a text is not UTF-8, or runs past the bytes given";
     case BLORB_RDES_ROOM:
         return "there is no room for the 'RDes' chunk, or it would be longer than 16,777,216 bytes";
     case BLORB_RESULT_TOO_LONG:

@@ -83,6 +83,11 @@ def type_left_out(work):
     for what, unclear in OTHERS.items():
         failed("add", file, "Snd", "1", "-", stdin=unclear, saying=f"it is {what}")
     same(contents(work), held, "nothing changes where the data does not tell")
+    # This is said before FILE is looked at.
+    failed("add", work / "missing.blb", "Data", "1", "-", stdin=b"a text", saying="TYPE is left out")
+    file.write_bytes(file.read_bytes()[:-1])
+    failed("add", file, "Data", "1", "-", stdin=b"a text", saying="TYPE is left out")
+    refused(5, 4, "add", file, "Data", "1", "TEXT", "-", stdin=b"a text")
 
 
 def warned(file, *wanted):

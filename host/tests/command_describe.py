@@ -170,7 +170,7 @@ def describe_misuse(work):
     file = work / "game.blb"
     file.write_bytes(editing_reference.BLANK)
     expect("missing: NUMBER" in failed("describe", file, "Pict").err, "NUMBER")
-    failed("describe", file, "-o", "x", saying="one text, or for --write")
+    failed("describe", file, "-o", "x", saying="one text, or for --write\n  usage: blorb describe FILE [USAGE NUMBER [-o OUT]], or ")
     failed("describe", file, "Pict", "1", "--write", "x", saying="too much")
     failed("describe", file, "--write", saying="takes one name, once")
     failed("describe", file, "--write", "a", "--write", "b", saying="takes one name, once")

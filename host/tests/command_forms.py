@@ -122,6 +122,11 @@ def other_files(work):
     same(done("forms", file), printed(held, [(b"IFRS", 0, len(held) - 8, 1), (b"AIFF", at, len(sound) - 8, 2)]), "a Blorb file with a sound")
     same(done("forms", file, "1"), sound, "its sound")
     same(done("forms", "--adrift", file), done("forms", file), "no profile is asked for")
+    file.write_bytes(held[:at + 16] + be(1000) + held[at + 20:])
+    expect(run("check", file).out.startswith(b"accepted "), "a sound that is damaged inside")
+    refused(41, at + 12, "forms", file)
+    file.write_bytes(held)
+    failed("forms", file, "-o", work / "none", saying="usage: blorb forms FILE [N [-o OUT]]\n")
     even = ROOT / "host/tests/data/even.aiff"
     same(done("forms", even), printed(even.read_bytes(), [(b"AIFF", 0, 246, 1)]), "a sound by itself")
     failed("forms", file, "0", "-o", file, saying="FILE itself")

@@ -243,10 +243,12 @@ def several_undos(work):
             same(file.read_bytes(), files[5 - count], "the file after another undo")
         same(contents(work), {FILE: START}, "back at the start")
     restore(work, held)
-    for count in ("6", "4294967295"):
-        result = refused(26, 0, "undo", file, count, advice="blorb history")
-        expect(f"only 5 edits are there to be taken back, not {count}" in result.err, f"how many: {result.err}")
+    for count in ("6", "9", "4294967295"):
+        result = refused(26, 0, "undo", file, count, saying=f" at 0: only 5 edits can be undone, not {count}.", advice="blorb history")
+        expect("nothing to undo" not in result.err, f"there is something to undo: {result.err}")
     same(contents(work), held, "too many undos change nothing")
+    done("undo", file, "4")
+    refused(26, 0, "undo", file, "2", saying=" at 0: only 1 edit can be undone, not 2.", advice="blorb history")
     restore(work, {FILE: START})
     refused(26, 0, "undo", file, "3")
 
@@ -273,6 +275,28 @@ def forgotten(work):
     done("new", file)
     same(contents(work), {FILE: editing_reference.BLANK}, "a journal whose file is gone")
     failed("forget", work / "no" / "file", saying="Check the name")
+
+
+def new_beside(work):
+    """new beside a FILE.undo that is no journal: `forget` would not drop it, so the message does not name it."""
+    file, undo = work / FILE, work / UNDO
+
+    def makes_none(what):
+        result = failed("new", file, saying="this is no journal")
+        expect("delete it yourself" in result.err and "forget" not in result.err, f"{what}: {result.err}")
+        expect(not file.exists(), f"{what}: no file is made")
+        failed("forget", file, saying="this is no journal")
+
+    for other in (b"", b"BLORBU", b"an author's own notes on undoing", START):
+        restore(work, {UNDO: other})
+        makes_none("other bytes")
+        same(contents(work), {UNDO: other}, "they stay")
+    restore(work, {})
+    for make, drop in ((undo.mkdir, undo.rmdir), (lambda: os.mkfifo(undo), undo.unlink), (lambda: undo.symlink_to("elsewhere"), undo.unlink)):
+        make()
+        makes_none("a folder, pipe or link")
+        drop()
+    done("new", file)
 
 
 def without_undo(work):
@@ -416,4 +440,4 @@ def runs_with_ends(work):
 
 
 PARTS = (other_journals, journal_format, only_added_to, cost_of_an_edit, damaged_journals, no_journals, history, before_links,
-         several_undos, forgotten, without_undo, old_versions, damage_after_version_1, other_permissions, runs_with_ends)
+         several_undos, forgotten, new_beside, without_undo, old_versions, damage_after_version_1, other_permissions, runs_with_ends)

@@ -81,6 +81,7 @@ def without(work):
                   ["add", "Data", "9", "TEXT", "-"], ["replace", "Pict", "1", "GIF", "-"], ["remove", "Pict", "1"], ["undo"],
                   ["link", "Pict", "1", "Pict", "9"], ["remove", "Pict", "1", "--no-undo"]):
         refused(14, 24, words[0], file, *words[1:], advice="--adrift allows them")
+    failed("add", file, "Data", "9", "-", stdin=b"a text", saying="TYPE is left out")
     refused_list(14, 24, file, advice="--adrift allows them")
     same(json.loads(run("list", file, "--json").out), {"refused": 14, "place": 24}, "list --json")
     same(contents(work), held, "nothing changes")

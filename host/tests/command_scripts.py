@@ -42,6 +42,9 @@ def json_listing(work):
     others = [(c["type"].encode("latin-1"), c["length"]) for c in told["other_chunks"]]
     same(others, [(kind, len(body)) for kind, body in CHUNKS[9:]], "chunks without an entry")
     expect(all(held[c["start"]:c["start"] + 4] == c["type"].encode("latin-1") for c in told["other_chunks"]), "and where they begin")
+    for kind, shown in ((b"\"\\\0\xff", b"\\u0022\\u005c\\u0000\\u00ff"), (b"\x1f ~\x7f", b"\\u001f ~\\u007f")):
+        file.write_bytes(blorb([], [(kind, b"")]))
+        expect(b'"type": "%s"' % shown in done("list", file, "--json"), f"what is escaped of {kind}")
     done("new", work / "blank")
     same(json.loads(done("list", "--json", work / "blank")),
          {"length": 24, "count": 0, "release": None, "frontispiece": None, "resources": [], "other_chunks": []}, "a blank file")

@@ -39,7 +39,8 @@ module _ (rows texts : List ℕ) where
       let t = row-told rows texts i (h i (omega arith) (omega arith)) in
       let r : pairAmong (usageOf rows i) (numberOf rows i) (rowsFrom rows texts i 0) ≡ false = unfold repeated in t .0 in
       let w : (leb (placeOf rows i + lengthOf rows i) (length texts) && goodText (rowText rows texts i)) ≡ true = unfold textGood in t .1 in
-      let g : goodText (rowText rows texts i) ≡ true = and-both (leb (placeOf rows i + lengthOf rows i) (length texts)) (goodText (rowText rows texts i)) w .1 in
+      let g : goodText (rowText rows texts i) ≡ true =
+      and-both (leb (placeOf rows i + lengthOf rows i) (length texts)) (goodText (rowText rows texts i)) w .1 in
       let z : 0 + i ≡ i = omega arith in
       let s : suc i ≡ i + 1 = omega arith in
       let e : rowsFrom rows texts i 0 ++ (rowAt rows texts i ∷ []) ≡ rowsFrom rows texts (i + 1) 0

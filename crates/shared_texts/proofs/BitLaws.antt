@@ -7,7 +7,7 @@ use native.Mathlib.Nat.{pow-suc, div-eq-of-lt, eq-or-lt-of-le}
 use lib.Pow.{pow-lt, pow-pos, pow-add, shl-exact, shl-shr, high, ones-lt, ones-split}
 use lib.Arith.{dbl-pred}
 use lib.Bits.{bitOr, or-shr, or-mod, or-zero-l}
-use Rattle.utf8.proofs.FormLaws.{split}
+use Rattle.blorb.proofs.NumberLaws.{below?}
 use Rattle.shared_texts.specs.Segments.{bitOf, OneMore}
 
 -- the bits of a power: one
@@ -24,7 +24,7 @@ power-bit i j e =
     ⊎-elim
     (λ (h : i < j). absurd (omega (arith, power-low i j h)))
     (λ (h : j ≤ i). ⊎-elim (λ (q : j ≡ i). q) (λ (q : j < i). absurd (above q)) (eq-or-lt-of-le h))
-    (split i j)
+    (below? i j)
   where
     above : j < i → ⊥
     above q =

@@ -12,7 +12,7 @@ use lib.Seq.{getD-set-same, getD-set-other}
 use lib.Dec.{eqb}
 use Rattle.utf8.specs.Utf8.{inRange, tailByte}
 use Rattle.utf8.specs.Runs.{Runs, here, tail, Start, Until}
-use Rattle.utf8.proofs.FormLaws.{split}
+use Rattle.blorb.proofs.NumberLaws.{below?}
 use Rattle.utf8.proofs.RunLaws.{runs-join, text-told, text-cut, not-both}
 use Rattle.shared_texts.specs.Segments.{textBetween, Leads, Joined, Passed, segmentSize, bitOf, OneMore, bitAt, Remembers, AllSet}
 use Rattle.shared_texts.proofs.BitLaws.{all-bits}
@@ -27,14 +27,14 @@ module _ (s : List ℕ) where
       ⊎-elim
       (λ (h : a < length s). h)
       (λ (h : length s ≤ a). absurd (not-both e (ap (inRange tailByte) (List·getD-eq-default s 256 {n = a} h))))
-      (split a (length s))
+      (below? a (length s))
 
   start-same : {y a b : ℕ} → Start s y a → Start s y b → a ≡ b
   start-same {y} {a} {b} u v =
       ⊎-elim
       (λ (h : a < b). absurd (not-both (v .inside a (u .from) h) (u .begins)))
       (λ (h : b ≤ a). ⊎-elim (λ (q : b ≡ a). sym q) (λ (q : b < a). absurd (not-both (u .inside b (v .from) q) (v .begins))) (eq-or-lt-of-le h))
-      (split a b)
+      (below? a b)
 
   pub leads-told : (from stop end : ℕ) → Until s from stop end → stop ≤ end → tail s end ≡ false → Leads s from stop
   leads-told from stop end u h t =
@@ -69,7 +69,7 @@ module _ (s : List ℕ) where
       ⊎-elim
       (λ (k : g < 57344). k)
       (λ (k : 57344 ≤ g). let m : 57344 * segmentSize s ≤ g * segmentSize s = mul-le-mul-right (segmentSize s) k in absurd (omega arith))
-      (split g 57344)
+      (below? g 57344)
 
   pub next-border : (g x size : ℕ) → x ≡ g * size → x + size ≡ (g + 1) * size
   next-border g x size e = rw (add-mul g 1 size, e) (omega arith)
@@ -97,7 +97,7 @@ module _ (s : List ℕ) where
           = ⊎-elim
           (λ (h : g / 64 < 896). getD-replicate 896 (g / 64) 0 0 h)
           (λ (h : 896 ≤ g / 64). List·getD-eq-default (zeros 896) 0 {n = g / 64} h)
-          (split (g / 64) 896) in
+          (below? (g / 64) 896) in
           rw (w, zero-div (2 ^ (g % 64)))
 
   module _ (known : List ℕ) (m : Remembers s known) where
@@ -105,7 +105,7 @@ module _ (s : List ℕ) where
         → Joined s (g * segmentSize s) (g * segmentSize s + segmentSize s)
         → Remembers s (set known (g / 64) new)
     unfolding Remembers
-    remembers-more g new w o j h e = go (split (h / 64) (g / 64)) (split (g / 64) (h / 64))
+    remembers-more g new w o j h e = go (below? (h / 64) (g / 64)) (below? (g / 64) (h / 64))
       where
         other : (h / 64 ≡ g / 64 → ⊥) → Joined s (h * segmentSize s) (h * segmentSize s + segmentSize s)
         other n = m h (sym (ap (λ (x : ℕ). bitOf x (h % 64)) (getD-set-other known (g / 64) (h / 64) new 0 n)) ∙ e)

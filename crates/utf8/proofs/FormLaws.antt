@@ -11,6 +11,7 @@ use lib.Seq.{getD-drop}
 use lib.Dec.{leb}
 use borrow.Author.Tests.{le-leb, lt-leb, lt-ltb, le-ltb, eq-eqb, ne-eqb, leb-true, leb-false}
 use Rattle.blorb.proofs.UsageLaws.{or-false}
+use Rattle.blorb.proofs.NumberLaws.{below?}
 use Rattle.utf8.specs.Utf8.{range, inRange, tailByte, forms, begins, formLength, charLength}
 use Rattle.utf8.specs.Leads.{byLead, byTests, twoBytes, lowSecond, highSecond}
 
@@ -204,15 +205,8 @@ lead-240 b c d = rw (or-false (inRange (range 144 191) b && (inRange tailByte c 
 lead-244 : (b c d : ℕ) → byTests 244 b c d ≡ byLead 244 b c d
 lead-244 b c d = thrice (inRange (range 128 143) b) (inRange tailByte c) (inRange tailByte d) 4
 
-pub split : (a m : ℕ) → (a < m) ⊎ (m ≤ a)
-split a m = go (leb m a) refl
-  where
-    go : (b : Bool) → leb m a ≡ b → (a < m) ⊎ (m ≤ a)
-    go true e = inr (leb-true m a e)
-    go false e = inl (leb-false m a e)
-
 lead-any : (a b c d : ℕ) → 194 ≤ a → a ≤ 244 → byTests a b c d ≡ byLead a b c d
-lead-any a b c d g h = from-two (split a 224)
+lead-any a b c d g h = from-two (below? a 224)
   where
     from-four : (a < 244) ⊎ (244 ≤ a) → 241 ≤ a → byTests a b c d ≡ byLead a b c d
     from-four (inl l) m = lead-four a b c d m (omega arith)
@@ -220,27 +214,27 @@ lead-any a b c d g h = from-two (split a 224)
 
     from-240 : (a < 241) ⊎ (241 ≤ a) → 240 ≤ a → byTests a b c d ≡ byLead a b c d
     from-240 (inl l) m = let e : 240 ≡ a = omega arith in subst (λ (x : ℕ). byTests x b c d ≡ byLead x b c d) e (lead-240 b c d)
-    from-240 (inr l) m = from-four (split a 244) l
+    from-240 (inr l) m = from-four (below? a 244) l
 
     from-late : (a < 240) ⊎ (240 ≤ a) → 238 ≤ a → byTests a b c d ≡ byLead a b c d
     from-late (inl l) m = lead-late a b c d m (omega arith)
-    from-late (inr l) m = from-240 (split a 241) l
+    from-late (inr l) m = from-240 (below? a 241) l
 
     from-237 : (a < 238) ⊎ (238 ≤ a) → 237 ≤ a → byTests a b c d ≡ byLead a b c d
     from-237 (inl l) m = let e : 237 ≡ a = omega arith in subst (λ (x : ℕ). byTests x b c d ≡ byLead x b c d) e (lead-237 b c d)
-    from-237 (inr l) m = from-late (split a 240) l
+    from-237 (inr l) m = from-late (below? a 240) l
 
     from-three : (a < 237) ⊎ (237 ≤ a) → 225 ≤ a → byTests a b c d ≡ byLead a b c d
     from-three (inl l) m = lead-three a b c d m (omega arith)
-    from-three (inr l) m = from-237 (split a 238) l
+    from-three (inr l) m = from-237 (below? a 238) l
 
     from-224 : (a < 225) ⊎ (225 ≤ a) → 224 ≤ a → byTests a b c d ≡ byLead a b c d
     from-224 (inl l) m = let e : 224 ≡ a = omega arith in subst (λ (x : ℕ). byTests x b c d ≡ byLead x b c d) e (lead-224 b c d)
-    from-224 (inr l) m = from-three (split a 237) l
+    from-224 (inr l) m = from-three (below? a 237) l
 
     from-two : (a < 224) ⊎ (224 ≤ a) → byTests a b c d ≡ byLead a b c d
     from-two (inl l) = lead-two a b c d g (omega arith)
-    from-two (inr l) = from-224 (split a 225) l
+    from-two (inr l) = from-224 (below? a 225) l
 
 -- the range of the second byte, case by case
 module _ (a : ℕ) where

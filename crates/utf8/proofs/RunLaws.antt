@@ -15,7 +15,8 @@ use Rattle.blorb.proofs.Checks.{and-both}
 use Rattle.utf8.specs.Utf8.{Range, inRange, tailByte, forms, begins, formLength, charLength, Utf8, none, char, goodLength}
 use Rattle.utf8.specs.Leads.{goodFrom}
 use Rattle.utf8.specs.Runs.{Runs, here, on, tail, Reached, Until}
-use Rattle.utf8.proofs.FormLaws.{inside, above, below, split}
+use Rattle.blorb.proofs.NumberLaws.{below?}
+use Rattle.utf8.proofs.FormLaws.{inside, above, below}
 use Rattle.utf8.proofs.GoodLaws.{good-next, good-stop, good-start, char-long, char-inside}
 use Rattle.utf8.proofs.Longest.{char-append, char-take, take-both, whole}
 
@@ -242,7 +243,7 @@ module _ (s : List ℕ) (p q : ℕ) (l : p ≤ q) (h : q ≤ length s) where
   -- characters lead from p to b, and from there on as far as r
   module _ (b : ℕ) (first : Runs s p b) where
     pub text-told : (r : ℕ) → Until s b q r → eqb r q ≡ eqb (goodLength (take (q - p) (drop p s))) (q - p)
-    text-told r u = go (split r q)
+    text-told r u = go (below? r q)
       where
         all : Runs s p r
         all = runs-join first (u .reached .runs)
