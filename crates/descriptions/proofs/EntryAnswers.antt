@@ -18,7 +18,6 @@ use Rattle.rdes.specs.Rdes.{usageAt, numberAt, sizeAt, textAt, nextAt, offsetOf
 use Rattle.rdes.proofs.EntryLaws.{Room, room-at, text-length, fills-all}
 use Rattle.descriptions.specs.Texts.{pickTold, tellFrom}
 use Rattle.descriptions.specs.Opened.{GoodTo, BadAt}
-use Rattle.descriptions.specs.declared.Told.{Told}
 use Rattle.descriptions.specs.declared.Told.the-variants.{Text, Refused}
 
 -- the search for a pair

@@ -23,7 +23,6 @@ use Rattle.descriptions.specs.Texts.{rdesVerdict, describedOf, described
 use Rattle.descriptions.specs.Opened.{Opens}
 use Rattle.descriptions.specs.declared.Opened.{Opened}
 use Rattle.descriptions.specs.declared.Opened.the-variants.{One}
-use Rattle.descriptions.specs.declared.Described.{Described}
 use Rattle.descriptions.specs.declared.Described.the-variants.{Given, Refused as Withheld}
 use Rattle.descriptions.specs.declared.Told.{Told}
 use Rattle.descriptions.specs.declared.Told.the-variants.{Text, Refused as Untold}

@@ -1,6 +1,6 @@
 -- What the two ways of reading promise (02, P7): by entry every entry is given, whether its resource is in the index or not; by pair only those whose
 -- resource is; and 39 stands at the first byte behind the longest good beginning.
-use mathlib.Core.Path.{_≡_, sym, _∙_}
+use mathlib.Core.Path.{_≡_, _∙_}
 use Prim.Native.Nat.{ℕ, _+_, _≤_, _<_}
 use mathlib.Core.List.{List, _++_, _∷_}
 use mathlib.Core.Bool.{false}

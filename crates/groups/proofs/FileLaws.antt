@@ -1,6 +1,6 @@
 -- Laws of a whole file: what the code's walk says of the verdict, the list of FORMs and one FORM.
-use Prim.Native.Nat.{ℕ, zero, suc, _+_, _-_, _*_, _/_, _≤_, _<_}
-use mathlib.Core.Path.{_≡_, refl, ap, sym, _∙_}
+use Prim.Native.Nat.{ℕ, zero, suc, _+_, _*_, _/_, _≤_, _<_}
+use mathlib.Core.Path.{_≡_, refl, sym, _∙_}
 use mathlib.Core.List.{List, [], _∷_, _++_}
 use mathlib.Core.Bool.{Bool, true, false}
 use native.Mathlib.Omega.{arith}
@@ -22,7 +22,7 @@ use Rattle.members.specs.Kinds.{behind}
 use Rattle.members.specs.Faults.{nextAt, endAt, kindAt, memberFault}
 use Rattle.groups.specs.Events.{Event, form, fault, chunkBy, unlessEnd, membersGo, members, chunk}
 use Rattle.members.proofs.FaultLaws.{good-facts}
-use Rattle.groups.specs.Files.{Row, noRow, firstFault, forms, eventsOf, formsOf, fileFault, rowNumbers, rowsNumbers, listOf, listed, pickOf, pickedBy}
+use Rattle.groups.specs.Files.{noRow, firstFault, forms, eventsOf, formsOf, fileFault, rowNumbers, rowsNumbers, listOf, listed, pickOf, pickedBy}
 use Rattle.groups.specs.Scan.{store, Outcome, good, bad, outcome, scan, andScan, scanFile, pickOutcome}
 use Rattle.groups.proofs.StoreLaws.{stores, stores-all, stores-pick}
 

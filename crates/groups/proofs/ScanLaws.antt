@@ -1,5 +1,5 @@
 -- Laws of the walk that counts and stores: one for each way out of the code.
-use Prim.Native.Nat.{ℕ, zero, suc, _+_, _-_, _*_, _≤_, _<_}
+use Prim.Native.Nat.{ℕ, zero, suc, _+_, _≤_, _<_}
 use mathlib.Core.Path.{_≡_, refl, ap, sym, _∙_}
 use mathlib.Core.List.{List, [], _∷_, _++_}
 use mathlib.Core.Bool.{Bool, true, false}
@@ -19,9 +19,7 @@ use Rattle.members.specs.Quick.{QuickTells}
 use Rattle.members.specs.Faults.{kindAt, sizeAt, endAt, nextAt, memberFault}
 use Rattle.groups.specs.Events.{Event, form, fault, chunkBy, unlessEnd, membersGo, members, chunk}
 use Rattle.groups.specs.Files.{firstFault}
-use Rattle.groups.specs.declared.Scan.{Scan}
-use Rattle.groups.specs.declared.Scan.the-variants.{Fine, Refused as Broken}
-use Rattle.groups.specs.Scan.{formShows, store, Outcome, good, bad, outcome, scan, andScan, passedBy, memberBy, memberAt}
+use Rattle.groups.specs.Scan.{store, Outcome, good, bad, scan, andScan, passedBy, memberBy, memberAt}
 use Rattle.members.proofs.FaultLaws.{good-facts}
 use Rattle.groups.proofs.EventLaws.{members-end, members-on, chunk-length}
 

@@ -1,6 +1,6 @@
 -- Refusal 1: a group file over the limit is refused with 1 at 0 whatever it holds, before 41 to 45 and 22, since the length is tested first; and the lent
 -- rows stay as they were.
-use mathlib.Core.Path.{_≡_, ap, _∙_}
+use mathlib.Core.Path.{_≡_, ap}
 use Prim.Native.Nat.{ℕ, _<_}
 use mathlib.Core.List.{List}
 use lib.ListN.{length}

@@ -126,7 +126,7 @@ fn next_member(s: &[u8], place: Place, depth: usize, end: usize, at: usize) -> M
     }
 }
 
-// The FORM at `at`, whose data ends at `end`: its row, then its members. left: how many levels may still begin in it.
+// The FORM at `at`, whose data ends at `end`: its row, then its members. left: how many of the 16 levels are left, its own among them.
 fn form_in(
     s: &[u8],
     rows: &mut [u32],
@@ -136,13 +136,13 @@ fn form_in(
     at: usize,
     left: usize,
 ) -> Scan
-    requires { ⌜ (at + 12 ≤ end) × (end ≤ length (now s)) × (length (now s) ≤ 16777216) × (n ≤ at) × (left ≤ 15) ⌝ }
-    ensures { λ r. ⌜ outcome r (now (rows .exit)) ≡ scan base n (now (rows .entry)) (formShows (now (s .entry)) (16 - left) (17 - left) end at) ⌝ }
+    requires { ⌜ (at + 12 ≤ end) × (end ≤ length (now s)) × (length (now s) ≤ 16777216) × (n ≤ at) × (left ≤ 16) × (1 ≤ left) ⌝ }
+    ensures { λ r. ⌜ outcome r (now (rows .exit)) ≡ scan base n (now (rows .entry)) (formShows (now (s .entry)) (17 - left) (18 - left) end at) ⌝ }
 {
-    put_form(s, rows, base, n, at, 16 - left);
+    put_form(s, rows, base, n, at, 17 - left);
     let mut i = at + 12;
     let mut k = n + 1;
-    let depth = 17 - left;
+    let depth = 18 - left;
     while i < end {
         match next_member(s, Place::InForm, depth, end, i) {
             Member::Refused { number, place } => {
@@ -172,7 +172,7 @@ fn form_in(
     Scan::Fine(k)
 }
 
-// The members of a LIST or CAT, from `at` to `end`. left: how many levels may still begin here.
+// The members of a LIST or CAT, from `at` to `end`. left: how many of the 16 levels are left, the group's own among them.
 fn group_in(
     s: &[u8],
     rows: &mut [u32],
@@ -183,13 +183,13 @@ fn group_in(
     at: usize,
     left: usize,
 ) -> Scan
-    requires { ⌜ (end ≤ length (now s)) × (length (now s) ≤ 16777216) × (n ≤ at) × (left ≤ 15) ⌝ }
-    ensures { λ r. ⌜ outcome r (now (rows .exit)) ≡ scan base n (now (rows .entry)) (members (now (s .entry)) place (17 - left) end at) ⌝ }
+    requires { ⌜ (end ≤ length (now s)) × (length (now s) ≤ 16777216) × (n ≤ at) × (left ≤ 16) × (1 ≤ left) ⌝ }
+    ensures { λ r. ⌜ outcome r (now (rows .exit)) ≡ scan base n (now (rows .entry)) (members (now (s .entry)) place (18 - left) end at) ⌝ }
 {
     let mut i = at;
     let mut k = n;
     let mut p = place;
-    let depth = 17 - left;
+    let depth = 18 - left;
     while i < end {
         match next_member(s, p, depth, end, i) {
             Member::Refused { number, place } => {
@@ -230,8 +230,8 @@ fn top_in(s: &[u8], rows: &mut [u32], base: usize) -> Scan
     match member_at(s, Place::Top, 1, s.len(), 0) {
         Member::Refused { number, place } => Scan::Refused { number, place },
         Member::Passed(_, _) => Scan::Fine(0),
-        Member::Form(close, _, _) => form_in(s, rows, base, 0, close, 0, 15),
-        Member::Group(place, close, _, _) => group_in(s, rows, base, 0, place, close, 12, 15),
+        Member::Form(close, _, _) => form_in(s, rows, base, 0, close, 0, 16),
+        Member::Group(place, close, _, _) => group_in(s, rows, base, 0, place, close, 12, 16),
     }
 }
 

@@ -1,6 +1,5 @@
 -- The four numbers of the row are read from the FORM's header.
 use mathlib.Core.Path.{_∙_}
-use mathlib.Core.Path.{_∙_}
 use borrow.Author.Needs.{needs}
 use Rattle.groups.proofs.readers.put_form.Statement.{statement}
 use Rattle.groups.proofs.readers.put_form.Tie as tie

@@ -1,6 +1,6 @@
--- The top is judged as a member at depth 1, in a parent that is the whole file; its own reader may open 15 levels more.
+-- The top is judged as a member at depth 1, in a parent that is the whole file; its own reader has all 16 levels left, the first of them its own.
 use native.Mathlib.Omega.{arith}
-use mathlib.Core.Path.{_≡_, refl, sym, _∙_}
+use mathlib.Core.Path.{_≡_, sym, _∙_}
 use lib.ListN.{length}
 use denote.Ref.{now}
 use borrow.Author.Needs.{needs}

@@ -1,6 +1,6 @@
 -- The reader of a FORM: its row is stored first, then its loop keeps one equation: what is counted and stored so far, scanned on from here, is the scan of
 -- all its members. What a member's own reader answers is the scan of that member.
-use Prim.Native.Nat.{ℕ, _+_, _-_, _≤_, _<_}
+use Prim.Native.Nat.{ℕ, _-_, _≤_}
 use mathlib.Core.Path.{_≡_, refl, sym, _∙_}
 use native.Mathlib.Omega.{arith}
 use lib.ListN.{length}
@@ -20,7 +20,7 @@ use Rattle.groups.proofs.readers.+form_in+group_in.Proof.Cycle.{form-in
 abbrev pub Inv-loop : form-in-lts.InvT-loop
 Inv-loop s rows₀ base n end at left i₀ k₀ depth rows i k =
     (k ≤ i) × (length rows ≡ length rows₀)
-    × (scan base k rows (members s InForm (17 - left) end i) ≡ scan base k₀ rows₀ (members s InForm (17 - left) end i₀))
+    × (scan base k rows (members s InForm (18 - left) end i) ≡ scan base k₀ rows₀ (members s InForm (18 - left) end i₀))
 
 abbrev pub μ-loop : form-in-lts.MeasureT-loop
 μ-loop s rows₀ base n end at left i₀ k₀ depth rows i k = end - i
@@ -67,18 +67,18 @@ told-group t c = sym (c .before .before .next-member .ensures) ∙ c .place .giv
 pub whole : (t : ℕ) (c : form-in-lts.At-loop (form-in-calls t) (form-in-at t) form-in.Post Inv-loop μ-loop)
     → scan (c .before .before .before .before .before .before .before .args .base) (c .loop .k) (c .loop .rows)
     (members (now (c .before .before .before .before .before .before .before .args .s)) InForm
-    (17 - c .before .before .before .before .before .before .before .args .left)
+    (18 - c .before .before .before .before .before .before .before .args .left)
     (c .before .before .before .before .before .before .before .args .end) (c .loop .i))
     ≡ scan (c .before .before .before .before .before .before .before .args .base) (c .before .before .before .before .before .before .before .args .n)
     (now (c .before .before .before .before .before .before .before .args .rows))
     (formShows (now (c .before .before .before .before .before .before .before .args .s))
-    (16 - c .before .before .before .before .before .before .before .args .left)
-    (17 - c .before .before .before .before .before .before .before .args .left) (c .before .before .before .before .before .before .before .args .end)
+    (17 - c .before .before .before .before .before .before .before .args .left)
+    (18 - c .before .before .before .before .before .before .before .args .left) (c .before .before .before .before .before .before .before .args .end)
     (c .before .before .before .before .before .before .before .args .at))
 whole t c =
     let a = c .before .before .before .before .before .before .before .args in
     c .loop .inv .2
-    ∙ form-first (now (a .s)) (a .base) (a .n) (16 - a .left) (17 - a .left) (a .end) (a .at) (now (a .rows)) _ (c .before .before .before .put-form .ensures)
+    ∙ form-first (now (a .s)) (a .base) (a .n) (17 - a .left) (18 - a .left) (a .end) (a .at) (now (a .rows)) _ (c .before .before .before .put-form .ensures)
 
 pub put-form-requires : (t : ℕ) → form-in-lts.Need-put-form-requires (form-in-calls t) (form-in-at t) form-in.Post Inv-loop μ-loop
 put-form-requires t c κs = search needs
@@ -200,4 +200,4 @@ pub returns-4 : (t : ℕ) → form-in-lts.Need-returns-4 (form-in-calls t) (form
 returns-4 t c =
     let l = c .before .loop in
     let a = c .before .before .before .before .before .before .before .before .args in
-    turn-end (now (a .s)) InForm (17 - a .left) (a .end) (l .i) (a .base) (l .k) (l .rows) (c .loop-test .left) ∙ whole t (c .before)
+    turn-end (now (a .s)) InForm (18 - a .left) (a .end) (l .i) (a .base) (l .k) (l .rows) (c .loop-test .left) ∙ whole t (c .before)

@@ -1,10 +1,9 @@
 -- The reader of a group: as that of a FORM, but nothing is stored first, and what the next member stands in changes behind the PROPs of a LIST.
-use Prim.Native.Nat.{ℕ, _+_, _-_, _≤_, _<_}
+use Prim.Native.Nat.{ℕ, _-_, _≤_}
 use mathlib.Core.Path.{_≡_, refl, sym, _∙_}
 use native.Mathlib.Omega.{arith}
 use lib.ListN.{length}
 use denote.Ref.{now}
-use borrow.Author.Needs.{needs}
 use Rattle.groups.specs.declared.readers.Member.the-variants.{Refused as Stopped, Form as OfForm, Group as OfGroup, Passed}
 use Rattle.groups.specs.Events.{members}
 use Rattle.groups.specs.Scan.{scan}
@@ -17,7 +16,7 @@ use Rattle.groups.proofs.readers.+form_in+group_in.Proof.Cycle.{group-i
 abbrev pub Inv-loop : group-in-lts.InvT-loop
 Inv-loop s rows₀ base n end at left i₀ k₀ p₀ depth rows i k p =
     (k ≤ i) × (length rows ≡ length rows₀)
-    × (scan base k rows (members s p (17 - left) end i) ≡ scan base n rows₀ (members s p₀ (17 - left) end at))
+    × (scan base k rows (members s p (18 - left) end i) ≡ scan base n rows₀ (members s p₀ (18 - left) end at))
 
 abbrev pub μ-loop : group-in-lts.MeasureT-loop
 μ-loop s rows₀ base n end at left i₀ k₀ p₀ depth rows i k p = end - i
@@ -177,4 +176,4 @@ pub returns-4 : (t : ℕ) → group-in-lts.Need-returns-4 (group-in-calls t) (gr
 returns-4 t c =
     let l = c .before .loop in
     let a = c .before .before .before .before .args in
-    turn-end (now (a .s)) (l .p) (17 - a .left) (a .end) (l .i) (a .base) (l .k) (l .rows) (c .loop-test .left) ∙ c .before .loop .inv .2
+    turn-end (now (a .s)) (l .p) (18 - a .left) (a .end) (l .i) (a .base) (l .k) (l .rows) (c .loop-test .left) ∙ c .before .loop .inv .2
