@@ -1,7 +1,7 @@
 -- Numbers that a verdict never has: a verdict does not refuse with k where k is none of the numbers of its checks. Each law goes through the checks of
 -- its part one by one.
 use mathlib.Core.Path.{_≡_, refl, subst}
-use Prim.Native.Nat.{ℕ, _+_}
+use Prim.Native.Nat.{ℕ, zero, suc, _+_}
 use mathlib.Core.List.{List, [], _∷_}
 use mathlib.Core.Bool.{Bool, true, false, cond}
 use lib.Dec.{eqb}
@@ -16,6 +16,8 @@ use Rattle.blorb.specs.Verdict.{
   _then_,
   check,
   headFault,
+  chunkFault,
+  walkFault,
   secondIndex,
   indexFault,
   refFault,
@@ -97,6 +99,15 @@ module _ (k : ℕ) (h : Elsewhere k) where
     pub head-never : (f : List ℕ) → Never k (headFault f)
     unfolding headFault
     head-never f = more _ k 1 0 _ (h .0) (more _ k 2 0 _ e2 (more _ k 3 0 _ e3 (more _ k 4 8 _ e4 (other _ k 5 4 e5))))
+
+  -- those of the walk: 6, 28, 29 and 7
+  module _ (e6 : eqb 6 k ≡ false) (e28 : eqb 28 k ≡ false) (e29 : eqb 29 k ≡ false) (e7 : eqb 7 k ≡ false) where
+    pub walk-never : (n at : ℕ) (s : List ℕ) → Never k (walkFault n at s)
+    unfolding walkFault chunkFault
+    walk-never zero at s = tt
+    walk-never (suc n) at [] = tt
+    walk-never (suc n) at (b ∷ s) =
+        both k _ _ (more _ k 6 _ _ e6 (more _ k 28 _ _ e28 (more _ k 29 _ _ e29 (other _ k 7 _ e7)))) (walk-never n _ _)
 
   -- and those behind it: 8 to 19 and 27
   module _ (e8 : eqb 8 k ≡ false) (e10 : eqb 10 k ≡ false) (e13 : eqb 13 k ≡ false) (e27 : eqb 27 k ≡ false) where

@@ -1,17 +1,17 @@
 -- 01's edits keep the order of the chunks (02, P5), whatever the edit: an added entry stands last in the index and on the last chunk, a
 -- replacement leaves the entries alone, and where an entry goes the others keep their order. So no edit's result is refused with 27, and no edit
 -- is refused with 127: where the order holds, what is left to judge of a file (modelFault) has no 27 in it. Neither has it 6, 28 or 29, nor any other
--- number but 1, 9, 11, 12 and 14 to 19 (blorb/proofs/Never).
-use mathlib.Core.Path.{_≡_, refl, ap, _∙_}
+-- number but 1, 9, 11, 12 and 14 to 19 (blorb/proofs/Never). A file that is refused itself is answered with its own number, which is under 100.
+use mathlib.Core.Path.{_≡_, refl, ap, subst, _∙_}
 use Prim.Native.Nat.{ℕ, _+_, _<_}
 use mathlib.Core.List.{List}
 use mathlib.Core.Bool.{Bool, true, false, cond}
 use native.Mathlib.Omega.{arith}
-use lib.ListN.{length}
+use lib.ListN.{length, drop}
 use lib.Dec.{eqb, leb}
 use borrow.Author.Tests.{ne-eqb, eqb-false}
 use Rattle.blorb.specs.Bytes.{Byte}
-use Rattle.blorb.specs.Format.{Chunk}
+use Rattle.blorb.specs.Format.{Chunk, chunksOf}
 use Rattle.blorb.specs.Verdict.{Verdict, accept, refuse, _then_, check, verdict}
 use Rattle.blorb.specs.Rules.{rulesOf}
 use Rattle.blorb.specs.Model.{Model, model, file}
@@ -20,9 +20,10 @@ use Rattle.blorb.specs.All.{All}
 use Rattle.blorb.specs.Sound.{Sound}
 use Rattle.blorb.proofs.Accept.{accept-back}
 use Rattle.blorb.proofs.VerdictLaws.{modelFault, inOrder, verdict-file, file-ordered}
-use Rattle.blorb.proofs.Never.{Never, never-itself, other, both, more, Elsewhere, model-never}
+use Rattle.blorb.proofs.AllLaws.{all-take}
+use Rattle.blorb.proofs.Never.{Never, never-itself, other, both, more, Elsewhere, model-never, head-never, walk-never, layout-never}
 use Rattle.edits.specs.Edit.{Edit, add, replace, remove, link, edited, linked, entered, added, replaced, removed, removedBoth, removedEntry, givenChunk}
-use Rattle.edits.specs.Run.{ArgsOk, hundred, wholeFault, targetFault, editedFile, editFault}
+use Rattle.edits.specs.Run.{State, fileIn, edit, ArgsOk, hundred, wholeFault, targetFault, editedFile, editFault, fault}
 use Rattle.edits.proofs.Applies.{Applies}
 use Rattle.edits.proofs.FitLaws.{edit-sound}
 use Rattle.edits.proofs.RunLaws.{target-applies}
@@ -97,23 +98,64 @@ module _ (profile : ℕ) (f : List ℕ) (bytes : All Byte f) (fine : verdict (ru
   pub result-elsewhere : (k p : ℕ) → Elsewhere k → Applies (model f) e → verdict (rulesOf profile) (editedFile f e) ≡ refuse k p → ⊥
   result-elsewhere k p h a q = never-itself k p _ (result-never k h a) q
 
-  -- no edit is refused with 100 + k
-  pub answer-elsewhere : (k N J L U p : ℕ) → Elsewhere k → editFault (rulesOf profile) N J f L U e ≡ refuse (100 + k) p → ⊥
-  answer-elsewhere k N J L U p h q = never-itself (100 + k) p _ (answer-never k h N J L U) q
-
-  -- no edit's result is refused with 27, and no edit with 127 (02, P5)
+  -- no edit's result is refused with 27 (02, P5)
   pub result-in-order : (p : ℕ) → Applies (model f) e → verdict (rulesOf profile) (editedFile f e) ≡ refuse 27 p → ⊥
   result-in-order p a q = result-elsewhere 27 p (refl, refl, refl, refl, refl, refl, refl, refl, refl, refl) a q
 
-  pub never-127 : (N J L U p : ℕ) → editFault (rulesOf profile) N J f L U e ≡ refuse 127 p → ⊥
-  never-127 N J L U p q = answer-elsewhere 27 N J L U p (refl, refl, refl, refl, refl, refl, refl, refl, refl, refl) q
+-- no file at all is refused with a hundred or more
+module _ (k : ℕ) where
+  low-elsewhere : Elsewhere (100 + k)
+  low-elsewhere = (
+    low 1 k (omega arith),
+    low 9 k (omega arith),
+    low 11 k (omega arith),
+    low 12 k (omega arith),
+    low 14 k (omega arith),
+    low 15 k (omega arith),
+    low 16 k (omega arith),
+    low 17 k (omega arith),
+    low 18 k (omega arith),
+    low 19 k (omega arith),
+  )
+
+  verdict-never : (profile : ℕ) (f : List ℕ) → Never (100 + k) (verdict (rulesOf profile) f)
+  unfolding verdict
+  verdict-never profile f =
+      both (100 + k) _ _
+      (head-never (100 + k) low-elsewhere (low 2 k (omega arith)) (low 3 k (omega arith)) (low 4 k (omega arith)) (low 5 k (omega arith)) f)
+      (both (100 + k) _ _
+      (walk-never (100 + k) low-elsewhere (low 6 k (omega arith)) (low 28 k (omega arith)) (low 29 k (omega arith)) (low 7 k (omega arith)) (length f) 12
+      (drop 12 f))
+      (layout-never (100 + k) low-elsewhere (low 8 k (omega arith)) (low 10 k (omega arith)) (low 13 k (omega arith)) (low 27 k (omega arith)) profile
+      (chunksOf f)))
+
+-- the answer to a call, whatever the state
+module _ (profile : ℕ) (s : State) (bytes : All Byte (s .buffer)) (e : Edit) (args : ArgsOk e) where
+  call-never : (k : ℕ) → Elsewhere k → Never (100 + k) (fault (rulesOf profile) s (edit e))
+  unfolding fault
+  call-never k h = more _ (100 + k) 52 0 _ (low 52 k (omega arith)) (by (verdict (rulesOf profile) (fileIn s)) refl)
+    where
+      by : (v : Verdict) → verdict (rulesOf profile) (fileIn s) ≡ v
+          → Never (100 + k) (editFault (rulesOf profile) (length (s .buffer)) (length (s .journal)) (fileIn s) (s .L) (s .U) e)
+      by accept q = answer-never profile (fileIn s) (all-take Byte (s .L) (s .buffer) bytes) q e args k h _ _ _ _
+      by (refuse n p) q =
+          unfold editFault in more _ (100 + k) 20 0 _ (low 20 k (omega arith))
+          (rw q (unfold _then_ in subst (λ (w : Verdict). Never (100 + k) w) q (verdict-never k profile (fileIn s))))
+
+  -- no edit is refused with 100 + k
+  pub answer-elsewhere : (k p : ℕ) → Elsewhere k → fault (rulesOf profile) s (edit e) ≡ refuse (100 + k) p → ⊥
+  answer-elsewhere k p h q = never-itself (100 + k) p _ (call-never k h) q
+
+  -- no edit is refused with 127 (02, P5)
+  pub never-127 : (p : ℕ) → fault (rulesOf profile) s (edit e) ≡ refuse 127 p → ⊥
+  never-127 p q = answer-elsewhere 27 p (refl, refl, refl, refl, refl, refl, refl, refl, refl, refl) q
 
   -- nor with 106, 128 or 129: an edit breaks no chunk off (02, P1)
-  pub never-106 : (N J L U p : ℕ) → editFault (rulesOf profile) N J f L U e ≡ refuse 106 p → ⊥
-  never-106 N J L U p q = answer-elsewhere 6 N J L U p (refl, refl, refl, refl, refl, refl, refl, refl, refl, refl) q
+  pub never-106 : (p : ℕ) → fault (rulesOf profile) s (edit e) ≡ refuse 106 p → ⊥
+  never-106 p q = answer-elsewhere 6 p (refl, refl, refl, refl, refl, refl, refl, refl, refl, refl) q
 
-  pub never-128 : (N J L U p : ℕ) → editFault (rulesOf profile) N J f L U e ≡ refuse 128 p → ⊥
-  never-128 N J L U p q = answer-elsewhere 28 N J L U p (refl, refl, refl, refl, refl, refl, refl, refl, refl, refl) q
+  pub never-128 : (p : ℕ) → fault (rulesOf profile) s (edit e) ≡ refuse 128 p → ⊥
+  never-128 p q = answer-elsewhere 28 p (refl, refl, refl, refl, refl, refl, refl, refl, refl, refl) q
 
-  pub never-129 : (N J L U p : ℕ) → editFault (rulesOf profile) N J f L U e ≡ refuse 129 p → ⊥
-  never-129 N J L U p q = answer-elsewhere 29 N J L U p (refl, refl, refl, refl, refl, refl, refl, refl, refl, refl) q
+  pub never-129 : (p : ℕ) → fault (rulesOf profile) s (edit e) ≡ refuse 129 p → ⊥
+  never-129 p q = answer-elsewhere 29 p (refl, refl, refl, refl, refl, refl, refl, refl, refl, refl) q
