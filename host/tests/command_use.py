@@ -1,11 +1,15 @@
 """Every command and exit status, on good files, damaged files, files at the limit, and where the system fails."""
 import fcntl
+import importlib
+import importlib.util
+import io
 import os
 import resource
 import shutil
 import stat
 import subprocess
 import time
+import warnings
 
 from building import Dice, blorb, chunk, form, grow, index, put, put32, right_length
 from command_kit import (PROGRAM, ROOT, aiff, be, contents, done, edited, editing_reference, expect, failed, jpeg, listing,
@@ -142,14 +146,26 @@ def media(work):
     same(done("get", file, "Data", "9"), aiff(), "an AIFF file as plain data")
 
 
-def samples_in(sound):
-    """What SoX hears in an AIFF file: nothing of this project is used."""
+def by_sox(sound):
     return subprocess.run(["sox", "-t", "aiff", "-", "-t", "raw", "-"], input=sound, capture_output=True, check=True).stdout
+
+
+def by_aifc(sound):
+    with warnings.catch_warnings():
+        warnings.simplefilter("ignore", DeprecationWarning)
+        aifc = importlib.import_module("aifc")
+    with aifc.open(io.BytesIO(sound)) as file:
+        return file.readframes(file.getnframes())
+
+
+def players():
+    """What gives the samples of an AIFF file and is nothing of this project: SoX, and Python's own reader, which it had up to 3.12."""
+    return {name: heard for name, heard, there in (("SoX", by_sox, shutil.which("sox")), ("aifc", by_aifc, importlib.util.find_spec("aifc"))) if there}
 
 
 def played_back(work):
     """AIFF files that SoX made (sox -D -r 8000 -n -b 8 -c 1 --comment "" odd.aiff synth 101s sine 440; even.aiff has -b 16 and 100s): what get
-    writes are the same bytes, and SoX plays them."""
+    writes are the same bytes, and others play them."""
     file, even, odd = work / "game.blb", SOUNDS / "even.aiff", SOUNDS / "odd.aiff"
     whole = odd.read_bytes()[:-1]
     done("new", file)
@@ -167,12 +183,13 @@ def played_back(work):
     done("undo", file)
     done("get", file, "--all", work / "all")
     same(contents(work / "all"), {f"Snd-{number}.FORM": sound for number, sound in sounds.items()}, "get --all")
-    if shutil.which("sox") is None:
-        print("  played_back: there is no sox here, so nothing was played back")
-        return
-    for number, (sound, length) in {"1": (even, 200), "2": (odd, 101)}.items():
-        heard = samples_in(done("get", file, "Snd", number))
-        same((heard, len(heard)), (samples_in(sound.read_bytes()), length), f"what SoX hears in {number}")
+    found = players()
+    if not found:
+        print("  played_back: there is neither sox nor Python's aifc here, so nothing was played back")
+    for name, heard in found.items():
+        for number, (sound, length) in {"1": (even, 200), "2": (odd, 101)}.items():
+            samples = heard(done("get", file, "Snd", number))
+            same((samples, len(samples)), (heard(sound.read_bytes()), length), f"what {name} hears in {number}")
 
 
 def links(work):

@@ -265,9 +265,9 @@ fn check_link(tally: &mut Tally, call: &Call, answer: Answer, state: &State, aft
     let Call::Edit(Edit::Link { usage, number, new_usage, new_number }) = call else { return };
     let file = &after.file[..after.length.min(after.file.len())];
     if answer.refusal == 0 {
-        let view = reference::read(file, state.profile);
-        let [one, other] = [(usage, number), (new_usage, new_number)].map(|(u, n)| reference::lookup_answer(file, &view, u, *n));
-        if one != other || one.is_err() {
+        let mut lent = Lent::new(file, 0);
+        let [one, other] = [(usage, number), (new_usage, new_number)].map(|(u, n)| archive::lookup(&mut lent, state.profile, u, *n));
+        if one != other || !matches!(one, Ok(Ok(_))) {
             tally.fail(&describe(call, state), &format!("two names, two answers: {one:?} and {other:?}"));
         }
     }
@@ -290,8 +290,8 @@ fn check_whole(tally: &mut Tally, call: &Call, refusal: u64, state: &State, afte
     }
     if refusal == 0 {
         let file = &after.file[..after.length];
-        let found = reference::lookup_answer(file, &reference::read(file, state.profile), usage, *number);
-        if !matches!(found, Ok([_, start, length]) if &file[start as usize..][..length as usize] == &data[..]) {
+        let found = archive::lookup(&mut Lent::new(file, 0), state.profile, usage, *number);
+        if !matches!(found, Ok(Ok([_, start, length])) if &file[start as usize..][..length as usize] == &data[..]) {
             tally.fail(&describe(call, state), &format!("what was put in does not read back: {found:?}"));
         }
     }

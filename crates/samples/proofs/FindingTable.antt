@@ -5,7 +5,6 @@
 use mathlib.Core.Path.{refl}
 use Prim.Native.Nat.{ℕ}
 use mathlib.Core.List.{List, [], _∷_, _++_}
-use mathlib.Core.Bool.{true}
 use lib.ListN.{take, set, replicate, drop}
 use Rattle.blorb.specs.All.{All}
 use Rattle.blorb.specs.Format.{Entry}

@@ -15,7 +15,7 @@ use Rattle.groups.specs.Files.{firstFault, forms, fileFault, rowsNumbers, listO
 use Rattle.groups.specs.declared.Listing.the-variants.{Listed, Refused}
 use Rattle.groups.specs.declared.Picking.the-variants as picking
 use Rattle.samples.specs.Files.{B}
-use Rattle.samples.specs.FormRows.{FormRow, lists, picks, FormRowHolds, part, ILBM, holder, nested, empty, even, odd}
+use Rattle.samples.specs.FormRows.{FormRow, lists, picks, FormRowHolds, ILBM, holder, nested, empty, even, odd}
 
 computed : ℕ
 unfolding be32 rd32 _then_ check kindOf fits padded memberFault membersGo members chunk firstFault forms fileFault rowsNumbers listOf listed pickOf

@@ -7,7 +7,7 @@ use Rattle.blorb.specs.Bytes.{be32}
 use Rattle.blorb.specs.Tags.{Pict, Snd, Data, Exec, Rect, TEXT, GIF, ZCOD}
 use Rattle.blorb.specs.declared.Usage.the-variants as usage
 use Rattle.blorb.specs.All.{All}
-use Rattle.blorb.specs.Verdict.{accept, refuse}
+use Rattle.blorb.specs.Verdict.{refuse}
 use Rattle.edits.specs.Edit.{replace, remove, link}
 use Rattle.edits.specs.Run.{edit, undo}
 use Rattle.reader.specs.declared.Reading.the-variants.{Accepted}

@@ -124,8 +124,12 @@ table =
     ∷ []))))))))
     (remove Data 7 ∷ (remove Pict 1 ∷ (replace Data 7 TEXT nine ∷ (link Pict 1 Pict 2 ∷ (add Snd 3 FORM aiff ∷ []))))) 48 46 78 ∷ (
     -- everything undone
-    measures 0 start (longer ∷ (shorter ∷ (undo ∷ (undo ∷ (undo ∷ []))))) [] 0 0 76
-    ∷ [])))))))))))))
+    measures 0 start (longer ∷ (shorter ∷ (undo ∷ (undo ∷ (undo ∷ []))))) [] 0 0 76 ∷ (
+    -- What the length needs of a run's start. With a record of before in the journal the undo takes back an edit that is in no list. With L past the
+    -- buffer every call is refused (20), where the ledger knows of the buffer's bytes alone.
+    measures 0 (record { buffer = A; L = 48; journal = addedEel; U = 29 }) (undo ∷ []) [] 0 0 24 ∷ (
+    measures 0 (record { buffer = A; L = 50; journal = replicate 40 7; U = 0 }) (edit (remove Data 7) ∷ []) (remove Data 7 ∷ []) 0 24 50
+    ∷ [])))))))))))))))
 
 pub samples : All RowHolds table
 unfolding computed table padded grows falls grown shrunk ledgerFile ledgerUsed ledgerFault ledgerAfter ledgerStep ledgerRun
@@ -151,7 +155,7 @@ samples = (
                     (refl, refl),
                     (
                       (refl, refl),
-                      ((refl, refl), ((refl, refl, refl, refl), ((refl, refl, refl, refl), tt))),
+                      ((refl, refl), ((refl, refl, refl, refl), ((refl, refl, refl, refl), ((refl, refl, refl, refl), ((refl, refl, refl, refl), tt))))),
                     ),
                   ),
                 ),

@@ -47,9 +47,9 @@ table =
     refuses 0 blank (add Snd 3 FORM (set aiff 7 6)) 30 0 ∷ (
     refuses 0 blank (add Snd 3 FORM (aiff ++ (0 ∷ []))) 30 0 ∷ (
     -- after 22 and 23, before 100 + k
-    refuses 0 A (replace Data 8 FORM []) 22 0 ∷ (
-    refuses 0 twoNames (replace Data 7 FORM []) 23 0 ∷ (
-    refuses 0 A (replace Data 7 FORM []) 30 0 ∷ (
+    refuses 0 A (replace Data 8 FORM (set aiff 0 102)) 22 0 ∷ (
+    refuses 0 twoNames (replace Data 7 FORM (set aiff 0 102)) 23 0 ∷ (
+    refuses 0 A (replace Data 7 FORM (set aiff 0 102)) 30 0 ∷ (
     refuses 0 A (replace Data 7 FORM aiff) 114 24 ∷ []))))))))))))))))))
 
 pub samples : All RowHolds table

@@ -5,7 +5,7 @@ use mathlib.Core.List.{List, [], _∷_, _++_}
 use lib.ListN.{length}
 use Rattle.blorb.specs.Bytes.{be32}
 use Rattle.blorb.specs.Tags.{tag, FORM}
-use Rattle.members.specs.Kinds.{LIST, CAT, PROP}
+use Rattle.members.specs.Kinds.{CAT}
 use Rattle.groups.specs.Files.{listOf, listed, pickOf}
 use Rattle.groups.specs.declared.Listing.{Listing}
 use Rattle.groups.specs.declared.Picking.{Picking}
