@@ -2,7 +2,7 @@
 -- still to come have the same answer as all of them (seen-found). The fields stand in the chunk's 18 bytes, so they can be read where these lie in the file.
 use Prim.Native.Nat.{ℕ, _+_, _*_, _/_, _%_, _≤_, _<_}
 use mathlib.Core.Path.{_≡_, refl, ap, sym, _∙_}
-use mathlib.Core.List.{List, [], _∷_}
+use mathlib.Core.List.{List, _∷_}
 use mathlib.Core.Bool.{Bool, true, false, cond, _&&_}
 use native.Mathlib.Omega.{arith}
 use lib.ListN.{length, take, drop}
@@ -12,7 +12,7 @@ use borrow.Author.Tests.{le-leb, lt-leb, eq-eqb, ne-eqb}
 use Rattle.blorb.specs.Bytes.{rd32}
 use Rattle.blorb.specs.Tags.{FORM, AIFF}
 use Rattle.blorb.specs.Format.{Chunk, sized, size, chunkIn, chunksOf}
-use Rattle.blorb.specs.Verdict.{Verdict, accept, refuse, accepted}
+use Rattle.blorb.specs.Verdict.{Verdict, accept, refuse}
 use Rattle.blorb.proofs.ByteLaws.{rd32-at}
 use Rattle.blorb.proofs.Checks.{and-both}
 use Rattle.chunks.specs.Walk.{chunkFrom, skipAt, chunksFrom, walkFrom}

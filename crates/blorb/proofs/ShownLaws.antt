@@ -1,7 +1,7 @@
 -- What a lookup shows of a chunk. Where the chunk is read from a file's bytes, writing its header again gives those very bytes, so what is shown is a
 -- part of the file.
 use mathlib.Core.Path.{_≡_, refl, sym, ap, _∙_}
-use Prim.Native.Nat.{ℕ, _+_, _-_, _%_, _≤_}
+use Prim.Native.Nat.{ℕ, _+_, _%_, _≤_}
 use mathlib.Core.List.{List, _++_, append-assoc}
 use mathlib.Core.Bool.{Bool, true, false, cond}
 use native.Mathlib.Omega.{arith}

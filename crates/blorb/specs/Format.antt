@@ -1,5 +1,5 @@
 -- Chunks and index entries, and how they stand in a file's bytes (01, rules 1 to 4): written, and read back without judging.
-use Prim.Native.Nat.{ℕ, zero, suc, _+_, _*_, _%_}
+use Prim.Native.Nat.{ℕ, zero, suc, _+_, _%_}
 use mathlib.Core.List.{List, [], _∷_, _++_}
 use mathlib.Core.Bool.{Bool, false, _||_, cond}
 use lib.ListN.{length, take, drop, replicate}

@@ -47,13 +47,13 @@ pub record Keeps (R : Rules) (Seven : Model → Type 0) (f : List ℕ) (m : Mode
 abbrev pub KeepsRules : Rules → List ℕ → Type 0
 KeepsRules R f = (m : Model) × Keeps R (λ (k : Model). R .rule7 (base (length (k .refs))) (k .refs) (k .chunks) ≡ accept) f m
 
--- rule 7 of a chunk of plain files: "'RelN' (length 2) and 'Fspc' (length 4, the number of a picture) occur at most once each. The picture named is in
--- the index and isn't a 'Rect'." earlier: the chunks before it
+-- rule 7 of a chunk, under every profile: "'RelN' (length 2) and 'Fspc' (length 4, the number of a picture) occur at most once each. The picture named
+-- is in the index and isn't a 'Rect'." earlier: the chunks before it
 pub record ChunkKeeps (rs : List Ref) (cs earlier : List Chunk) (c : Chunk) : Type 0 where
   pub release : c .type ≡ RelN → (typeIn RelN earlier ≡ false) × (length (c .body) ≡ 2)
   pub front : c .type ≡ Fspc → (typeIn Fspc earlier ≡ false) × (length (c .body) ≡ 4) × (picture (rd32 (c .body)) cs rs ≡ true)
 
--- rule 7 of a plain file, which is `optional` in Rules.antt
+-- rule 7 of a file, under every profile: `optional` in Rules.antt
 abbrev pub ChunksKeep : Model → Type 0
 ChunksKeep m = (i : ℕ) → i < length (m .chunks) → ChunkKeeps (m .refs) (m .chunks) (take i (m .chunks)) (chunkAt m i)
 

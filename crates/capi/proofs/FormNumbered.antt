@@ -6,7 +6,7 @@ use mathlib.Core.Bool.{Bool, true, false}
 use native.Mathlib.Omega.{arith}
 use lib.ListN.{length}
 use lib.Dec.{leb, ltb}
-use Rattle.blorb.specs.Verdict.{Verdict, accept, refuse, _then_, check}
+use Rattle.blorb.specs.Verdict.{Verdict, accept, refuse}
 use Rattle.members.specs.declared.Kind.{Kind}
 use Rattle.members.specs.declared.Kind.the-variants.{Form, List as Lst, Cat, Prop, Plain}
 use Rattle.members.specs.declared.Place.{Place}
@@ -14,10 +14,8 @@ use Rattle.members.specs.declared.Place.the-variants.{Top, InForm, ListHead, In
 use Rattle.members.specs.Kinds.{behind}
 use Rattle.members.specs.Faults.{kindAt, endAt, nextAt, memberFault}
 use Rattle.groups.specs.Events.{Event, form, fault, chunkBy, unlessEnd, membersGo, members, chunk}
-use Rattle.groups.specs.Files.{Row, firstFault, eventsOf, formsOf, fileFault, pickListing, listedBy, listOf, pickPicking, pickedBy, pickOf}
-use Rattle.groups.specs.declared.Listing.{Listing}
+use Rattle.groups.specs.Files.{firstFault, eventsOf, formsOf, fileFault, pickListing, listedBy, listOf, pickPicking, pickedBy, pickOf}
 use Rattle.groups.specs.declared.Listing.the-variants.{Listed, Refused}
-use Rattle.groups.specs.declared.Picking.{Picking}
 use Rattle.groups.specs.declared.Picking.the-variants.{Picked, Refused as Missing}
 use Rattle.capi.specs.Numbered.{Numbered}
 use Rattle.capi.specs.FormNumbers.{listNumbers, pickNumbers}

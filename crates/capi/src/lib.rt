@@ -1,6 +1,5 @@
 // The calls of reader, editor and table for programs in C; include/blorb.h declares them.
 // Sounds, group files, scaled pictures and spoken descriptions have modules of their own.
-use blorb::Usage;
 use editor::Answer;
 use editor::Outcome;
 use reader::Asked;

@@ -1,7 +1,7 @@
 -- 02, P7: "A list whose pairs are all in the index, written and then read as the one 'RDes' of an accepted file, has the same pairs and texts in the same
 -- order": by entry and by pair. What is written has no fault of its own, so nothing is asked of the verdict on the texts.
 use mathlib.Core.Path.{_≡_, refl, sym, ap, _∙_}
-use Prim.Native.Nat.{ℕ, zero, suc, _+_, _-_, _%_, _≤_, _<_}
+use Prim.Native.Nat.{ℕ, zero, suc, _+_, _%_, _≤_, _<_}
 use mathlib.Core.List.{List, [], _∷_, _++_, append-assoc}
 use mathlib.Core.Bool.{true, false, _&&_}
 use native.Mathlib.Omega.{arith}
@@ -18,7 +18,6 @@ use Rattle.blorb.specs.Verdict.{Verdict, accept, refuse, pairIn}
 use Rattle.blorb.proofs.ByteLaws.{rd32-be32, drop-be32, drop-two}
 use Rattle.blorb.proofs.Codec.{length-chunkBytes}
 use Rattle.blorb.specs.Model.{model}
-use Rattle.blorb.proofs.Checks.{neither}
 use Rattle.rdes.specs.Rdes.{RDes, Desc, desc, bodyOf, usageAt, numberAt, sizeAt, textAt, nextAt, offsetOf, fillsFrom, descsFrom, pairAmong, chunkFault}
 use Rattle.rdes.proofs.EntryLaws.{entry-room, entry-of, text-length, fills-all}
 use Rattle.rdes.proofs.FaultLaws.{none}

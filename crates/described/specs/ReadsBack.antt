@@ -5,7 +5,7 @@ use mathlib.Core.List.{List}
 use mathlib.Core.Bool.{true}
 use lib.ListN.{length, take, drop}
 use Rattle.blorb.specs.Verdict.{pairIn}
-use Rattle.blorb.specs.Model.{Model, model}
+use Rattle.blorb.specs.Model.{model}
 use Rattle.rdes.specs.Rdes.{Desc}
 use Rattle.descriptions.specs.Texts.{describedOf, toldOf}
 use Rattle.descriptions.specs.declared.Described.the-variants.{Given, Refused}

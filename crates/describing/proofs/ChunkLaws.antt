@@ -1,8 +1,8 @@
 -- The chunk's bytes. Each loop goes by the rows that are left, so what is written so far and what is still to come are one list all the time, and no
 -- law on a list's last element is needed.
 use mathlib.Core.Path.{_≡_, refl, sym, ap, _∙_}
-use Prim.Native.Nat.{ℕ, zero, suc, _+_, _*_, _-_, _%_, _≤_, _<_}
-use mathlib.Core.List.{List, [], _∷_, _++_, append-assoc}
+use Prim.Native.Nat.{ℕ, zero, suc, _+_, _-_, _%_, _≤_, _<_}
+use mathlib.Core.List.{List, _∷_, _++_, append-assoc}
 use native.Mathlib.Omega.{arith}
 use lib.ListN.{length, take, drop, length-append, length-take, length-drop, length-replicate, replicate}
 use borrow.Author.Tests.{le-leb, lt-leb}

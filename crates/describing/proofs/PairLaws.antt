@@ -2,12 +2,12 @@
 use mathlib.Core.Path.{_≡_, refl, sym, ap, _∙_}
 use Prim.Native.Nat.{ℕ, zero, suc, _+_, _*_, _≤_, _<_}
 use mathlib.Core.List.{List, [], _∷_, _++_}
-use mathlib.Core.Bool.{Bool, true, false, _&&_, _||_}
+use mathlib.Core.Bool.{false}
 use native.Mathlib.Omega.{arith}
 use lib.ListN.{getD}
-use lib.Dec.{eqb}
-use borrow.Author.Tests.{eq-eqb, ne-eqb, eqb-true, eqb-false}
+use Rattle.blorb.proofs.NumberLaws.{key-eqb}
 use Rattle.rdes.specs.Rdes.{Desc, pairAmong}
+use Rattle.rdes.proofs.EntryLaws.{pair-snoc}
 use Rattle.repeats.specs.Keys.{listKey}
 use Rattle.repeats.specs.Repeats.{among, firstRepeat, Apart}
 use Rattle.repeats.proofs.Answers.{among-none, answer-at, answer-nothing}
@@ -18,14 +18,6 @@ use Rattle.describing.specs.Writing.{repeated, rowsFault}
 use Rattle.describing.specs.Judging.{FirstBad}
 use Rattle.describing.proofs.JudgeLaws.{judged-38, judged-39, judged-good}
 
-pair-eqb : (a b c d : ℕ) → b < 4294967296 → d < 4294967296 → eqb (a * 4294967296 + b) (c * 4294967296 + d) ≡ (eqb a c && eqb b d)
-pair-eqb a b c d hb hd = by (eqb a c) (eqb b d) refl refl
-  where
-    by : (x y : Bool) → eqb a c ≡ x → eqb b d ≡ y → eqb (a * 4294967296 + b) (c * 4294967296 + d) ≡ (x && y)
-    by true true p q = let s = eqb-true a c p in let t = eqb-true b d q in eq-eqb (a * 4294967296 + b) (c * 4294967296 + d) (omega arith)
-    by true false p q = let s = eqb-true a c p in ne-eqb _ _ (λ (e : a * 4294967296 + b ≡ c * 4294967296 + d). eqb-false b d q (omega arith))
-    by false y p q = ne-eqb _ _ (λ (e : a * 4294967296 + b ≡ c * 4294967296 + d). eqb-false a c p (omega arith))
-
 -- the rows up to one, and that one
 pub rows-snoc : (rows texts : List ℕ) (n i : ℕ) → rowsFrom rows texts (suc n) i ≡ rowsFrom rows texts n i ++ (rowAt rows texts (i + n) ∷ [])
 unfolding rowsFrom
@@ -35,16 +27,6 @@ rows-snoc rows texts (suc n) i =
     ap (λ (l : List Desc). rowAt rows texts i ∷ l) (rows-snoc rows texts n (i + 1)
     ∙ ap (λ (k : ℕ). rowsFrom rows texts n (i + 1) ++ (rowAt rows texts k ∷ [])) e)
 
-among-last : (u k : ℕ) (es : List Desc) (e : Desc) → pairAmong u k (es ++ (e ∷ [])) ≡ ((eqb (e .usage) u && eqb (e .number) k) || pairAmong u k es)
-unfolding pairAmong
-among-last u k [] e = refl
-among-last u k (d ∷ es) e = rw (among-last u k es e) (turn (eqb (d .usage) u && eqb (d .number) k) (eqb (e .usage) u && eqb (e .number) k) (pairAmong u k es))
-  where
-    turn : (x y z : Bool) → (x || (y || z)) ≡ (y || (x || z))
-    turn true true z = refl
-    turn true false z = refl
-    turn false y z = refl
-
 module _ (rows texts : List ℕ) (b : (i : ℕ) → getD rows i 0 < 4294967296) where
   among-is : (i n : ℕ) → among (listKey rows) (listKey rows i) n ≡ pairAmong (usageOf rows i) (numberOf rows i) (rowsFrom rows texts n 0)
   unfolding among listKey
@@ -53,9 +35,9 @@ module _ (rows texts : List ℕ) (b : (i : ℕ) → getD rows i 0 < 4294967296) 
       let z : 0 + n ≡ n = omega arith in
       rw (
         rows-snoc rows texts n 0,
-        among-last (usageOf rows i) (numberOf rows i) (rowsFrom rows texts n 0) (rowAt rows texts (0 + n)),
+        pair-snoc (usageOf rows i) (numberOf rows i) (rowsFrom rows texts n 0) (rowAt rows texts (0 + n)),
         z,
-        pair-eqb (usageOf rows n) (numberOf rows n) (usageOf rows i) (numberOf rows i) (b (4 * n + 1)) (b (4 * i + 1)),
+        key-eqb (usageOf rows n) (numberOf rows n) (usageOf rows i) (numberOf rows i) (b (4 * n + 1)) (b (4 * i + 1)),
         ← among-is i n,
       )
 

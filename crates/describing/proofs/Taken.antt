@@ -1,9 +1,9 @@
 -- What the writer takes the reader takes: the two judge the same pairs and texts in the same order, so the data of a list that is written have no
 -- fault of their own, wherever the chunk stands.
-use mathlib.Core.Path.{_≡_, refl, sym, ap, subst, _∙_}
+use mathlib.Core.Path.{_≡_, refl, sym, ap, _∙_}
 use Prim.Native.Nat.{ℕ, zero, suc, _+_, _*_, _≤_, _<_}
 use mathlib.Core.List.{List, [], _∷_, _++_}
-use mathlib.Core.Bool.{Bool, true, false, _&&_, not}
+use mathlib.Core.Bool.{true, false, _&&_, not}
 use native.Mathlib.Omega.{arith}
 use native.Mathlib.Nat.{not-suc-le-zero}
 use lib.ListN.{length, take, drop, getD, length-append, length-take}
@@ -13,10 +13,10 @@ use Rattle.blorb.specs.All.{All}
 use Rattle.blorb.specs.Sound.{W}
 use Rattle.blorb.specs.Bytes.{be32}
 use Rattle.blorb.specs.Format.{sized}
-use Rattle.blorb.specs.Verdict.{accept, check, _then_}
+use Rattle.blorb.specs.Verdict.{accept}
 use Rattle.blorb.proofs.Checks.{pass, then-accept, check-accept, and-both}
 use Rattle.blorb.proofs.ByteLaws.{length-be32}
-use Rattle.rdes.specs.Rdes.{Desc, desc, Fits, entriesBytes, bodyOf, pairAmong, goodText, entriesFault, chunkFault}
+use Rattle.rdes.specs.Rdes.{Desc, Fits, entriesBytes, bodyOf, pairAmong, goodText, entriesFault, chunkFault}
 use Rattle.rdes.proofs.ReadBack.{body-fault}
 use Rattle.describing.specs.List.{usageOf, numberOf, placeOf, lengthOf, rowText, rowAt, rowsFrom, countOf, listOf}
 use Rattle.describing.specs.Writing.{repeated, textGood, rowFault, rowsFault, wholeSize, writeFault}

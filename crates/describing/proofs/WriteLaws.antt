@@ -1,21 +1,21 @@
 -- The writer's answer and the buffer from the verdict on the rows and the size. The size computed is the chunk's, or both are over the limit, so the
 -- test of the room is the same for both.
 use mathlib.Core.Path.{_≡_, refl, sym, ap, _∙_}
-use Prim.Native.Nat.{ℕ, zero, suc, _+_, _*_, _-_, _/_, _%_, _≤_, _<_}
-use mathlib.Core.List.{List, _++_}
+use Prim.Native.Nat.{ℕ, _+_, _%_, _≤_, _<_}
+use mathlib.Core.List.{List}
 use mathlib.Core.Bool.{Bool, true, false, _&&_, _||_, not}
 use mathlib.Core.Logic.{_⊎_, inl, inr, ⊎-elim}
 use native.Mathlib.Omega.{arith}
-use lib.ListN.{length, drop, length-append}
+use lib.ListN.{length, length-append}
 use lib.Dec.{leb, ltb}
 use borrow.Author.Tests.{le-leb, lt-leb, ltb-true, ltb-false, leb-true, leb-false}
 use Rattle.blorb.specs.Format.{chunkOf, chunkBytes, sized, size}
-use Rattle.blorb.specs.Verdict.{Verdict, accept, refuse, _then_, check}
-use Rattle.blorb.proofs.Checks.{pass, stop, holds-last, fails-last, accepts, refuses}
+use Rattle.blorb.specs.Verdict.{accept, refuse}
+use Rattle.blorb.proofs.Checks.{neither, holds-last, fails-last, accepts, refuses}
 use Rattle.blorb.proofs.ByteLaws.{length-be32}
 use Rattle.blorb.proofs.Codec.{length-chunkBytes}
 use Rattle.edits.specs.Run.{noted}
-use Rattle.rdes.specs.Rdes.{RDes, bodyOf, entriesBytes}
+use Rattle.rdes.specs.Rdes.{RDes, bodyOf}
 use Rattle.describing.specs.List.{countOf, listOf, rowsFrom}
 use Rattle.describing.specs.Writing.{rowsFault, wholeSize, writeFault, writingOf, writtenOf}
 use Rattle.describing.specs.Bridging.{Within, entriesSize, capped}
@@ -94,11 +94,7 @@ module _ (rows texts b : List ℕ) where
 
     module _ (t : (ltb 16777216 (8 + (m + m % 2)) || ltb (length b) (8 + (m + m % 2))) ≡ false) where
       pub fits : (8 + (m + m % 2) ≤ 16777216) × (8 + (m + m % 2) ≤ length b)
-      fits = let q = apart _ _ t in (ltb-false _ _ (q .0), ltb-false _ _ (q .1))
-        where
-          apart : (x y : Bool) → (x || y) ≡ false → (x ≡ false) × (y ≡ false)
-          apart true y h = (h, cc)
-          apart false y h = (refl, h)
+      fits = let q = neither _ _ t in (ltb-false _ _ (q .0), ltb-false _ _ (q .1))
 
       pub size-is : m ≡ 4 + entriesSize rows (countOf rows) 0
       unfolding capped

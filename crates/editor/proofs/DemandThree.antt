@@ -2,7 +2,7 @@
 -- every answer are the ledger's", with "one known profile for the whole run, its starting file accepted under it" (02, P12). Read Acts for what a run of the
 -- code is, edits/specs/Demand3 for where one begins, specs/Runs for `AsLedger`
 -- and edits/specs/Run for the ledger. It holds since the contract of each function is `Called`, and Runs has demand 3 for whatever is `Called`.
-use mathlib.Core.Path.{_≡_, subst}
+use mathlib.Core.Path.{subst}
 use Prim.Native.Nat.{ℕ, _<_}
 use mathlib.Core.List.{List, [], _∷_, map}
 use mir.Syntax.{w8}

@@ -9,7 +9,7 @@ use lib.ListN.{length, replicate}
 use lib.Dec.{ltb, lit<, lit≤}
 use borrow.Author.Tests.{ltb-true}
 use mir.Syntax.{w8}
-use mir.Val.{Val, vint}
+use mir.Val.{vint}
 use denote.Ref.{RefT}
 use denote.Shadow.{shadow}
 use denote.Plain.{UInt}

@@ -11,7 +11,7 @@ use lib.Seq.{getD-set-same, getD-set-other}
 use lib.Dec.{eqb, ltb}
 use borrow.Author.Tests.{eqb-true, eqb-false, lt-ltb, ltb-true, not-true}
 use Rattle.blorb.specs.Format.{Ref, Chunk}
-use Rattle.blorb.specs.Verdict.{Rules, accept, _then_, check, noChunk, pairIn, refFault}
+use Rattle.blorb.specs.Verdict.{Rules, accept, check, noChunk, pairIn, refFault}
 use Rattle.blorb.specs.Tags.{Pict, Rect, Fspc}
 use Rattle.blorb.specs.Rules.{picture, typeIn, optional}
 use Rattle.blorb.specs.Model.{startOf}

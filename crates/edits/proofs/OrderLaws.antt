@@ -1,6 +1,6 @@
 -- The edits keep the entries in the order of their chunks (02, P5: "01's edits keep the order").
 use mathlib.Core.Path.{_≡_, refl, ap}
-use Prim.Native.Nat.{ℕ, zero, suc, _+_, _-_, _≤_, _<_}
+use Prim.Native.Nat.{ℕ, zero, suc, _-_, _≤_, _<_}
 use mathlib.Core.List.{List, [], _∷_, _++_, map}
 use mathlib.Core.Bool.{Bool, true, false, cond, _&&_, _||_, and-true}
 use native.Mathlib.Omega.{arith}

@@ -1,7 +1,7 @@
 -- The calls on the lent buffers, the ledger, and whole runs (01, Whole runs).
 use Prim.Native.Nat.{ℕ, _+_, _-_, _<_, max}
 use mathlib.Core.List.{List, [], _∷_, _++_}
-use mathlib.Core.Bool.{Bool, true, false, _&&_, _||_, not}
+use mathlib.Core.Bool.{_&&_, _||_, not}
 use lib.ListN.{length, take, drop, replicate}
 use lib.Dec.{eqb, leb, ltb}
 use Rattle.blorb.specs.Verdict.{Rules, Verdict, accept, refuse, _then_, check, verdict, accepted}

@@ -17,7 +17,7 @@ use mathlib.Core.Path.{_≡_}
 use Prim.Native.Nat.{ℕ, _+_, _%_}
 use mathlib.Core.List.{List, [], _∷_}
 use mathlib.Core.Bool.{cond}
-use lib.ListN.{length, take}
+use lib.ListN.{length}
 use Rattle.blorb.specs.Format.{Chunk}
 use Rattle.blorb.specs.Verdict.{Rules, accept}
 use Rattle.blorb.specs.Model.{Model, model}

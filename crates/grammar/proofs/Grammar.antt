@@ -1,19 +1,18 @@
 -- 02's sentences on group files as a grammar: a file is accepted exactly when its bytes are those of a tree of at most 16 levels that they allow, and the
 -- list is that tree's FORMs, each once, by rising start. The sentences are turned into the tables by which a file is read (Sentences) and back.
-use Prim.Native.Nat.{ℕ, zero, suc, _+_, _-_, _≤_, _<_}
+use Prim.Native.Nat.{ℕ, suc, _+_, _-_, _≤_, _<_}
 use mathlib.Core.Path.{_≡_, refl, ap, sym, _∙_}
 use mathlib.Core.List.{List, [], _∷_, _++_, append-nil}
-use mathlib.Core.Bool.{Bool, true, false}
+use mathlib.Core.Bool.{true, false}
 use native.Mathlib.Omega.{arith}
 use lib.ListN.{length, take, drop}
 use lib.Seq.{take-length}
-use lib.Dec.{eqb, leb}
 use borrow.Author.Tests.{le-leb, eq-eqb, leb-true, eqb-true}
 use Rattle.blorb.specs.All.{All}
 use Rattle.blorb.specs.Bytes.{rd32, Byte}
-use Rattle.blorb.specs.Format.{Chunk, sized, chunkBytes}
+use Rattle.blorb.specs.Format.{Chunk, chunkBytes}
 use Rattle.blorb.specs.Sound.{W}
-use Rattle.blorb.specs.Verdict.{accept, refuse, _then_, check}
+use Rattle.blorb.specs.Verdict.{accept, _then_, check}
 use Rattle.blorb.proofs.Accept.{rd32-small}
 use Rattle.blorb.proofs.AllLaws.{all-drop}
 use Rattle.blorb.proofs.Checks.{then-accept, check-accept}
@@ -26,11 +25,11 @@ use Rattle.groups.specs.Events.{Event, form, fault, members, chunk}
 use Rattle.groups.specs.Files.{Row, firstFault, forms, eventsOf, formsOf, fileFault}
 use Rattle.groups.proofs.Order.{Rising, file-rising}
 use Rattle.members.proofs.FaultLaws.{good-facts}
-use Rattle.grammar.specs.Tree.{Chunks, none, plain, holder, codeOf, bytes, Each, Allowed, Within, ownRow, rowsFrom, Rise, FileOf}
+use Rattle.grammar.specs.Tree.{Chunks, none, holder, bytes, Each, Within, ownRow, rowsFrom, Rise, FileOf}
 use Rattle.grammar.proofs.Sentences.{Placed, nests-named, placed-said, said-placed}
 use Rattle.grammar.proofs.TreeRead.{shows, shows-fine, shows-forms, kind-of-code, code-small, chunkFor, length-data}
 use Rattle.grammar.proofs.TreeRead.{next-at, filled, chunk-right, holder-events, tree-members}
-use Rattle.grammar.proofs.TreeBack.{Read, nothing, members-back, holder-again, chunk-fine}
+use Rattle.grammar.proofs.TreeBack.{Read, members-back, holder-again, chunk-fine}
 
 nests-holds : (k : Kind) → nests k ≡ true → isPlain k ≡ false
 nests-holds Form e = refl

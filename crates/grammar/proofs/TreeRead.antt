@@ -2,18 +2,18 @@
 -- from the bytes that they were made of, and what stands behind it from there on.
 use Prim.Native.Nat.{ℕ, zero, suc, _+_, _-_, _%_, _≤_, _<_}
 use mathlib.Core.Path.{_≡_, refl, ap, sym, _∙_}
-use mathlib.Core.List.{List, [], _∷_, _++_, append-assoc, append-nil}
+use mathlib.Core.List.{List, [], _∷_, _++_, append-assoc}
 use mathlib.Core.Bool.{Bool, true, false, _&&_, _||_}
 use native.Mathlib.Omega.{arith}
 use native.Mathlib.Nat.{add-zero}
-use lib.ListN.{length, getD, drop, replicate, length-append, length-drop, length-replicate}
+use lib.ListN.{length, getD, drop, replicate, length-append, length-drop}
 use lib.Seq.{drop-at, drop-drop, getD-drop}
 use lib.Dec.{eqb, leb, ltb}
 use borrow.Author.Tests.{le-leb, lt-ltb, le-ltb, eq-eqb}
 use Rattle.blorb.specs.Bytes.{be32, rd32}
 use Rattle.blorb.specs.Format.{Chunk, chunkOf, size, sized, chunkBytes}
 use Rattle.blorb.specs.Sound.{W}
-use Rattle.blorb.specs.Verdict.{Verdict, accept, refuse}
+use Rattle.blorb.specs.Verdict.{accept}
 use Rattle.blorb.proofs.ByteLaws.{length-be32, rd32-be32, drop-be32, drop-two}
 use Rattle.blorb.proofs.Codec.{length-chunkBytes, first-type, first-length, first-rest}
 use Rattle.members.specs.declared.Kind.{Kind}

@@ -42,7 +42,7 @@ module _ (pic : ℕ → Bool) where
 unfoldable pub optionalFault : List ℕ → ℕ → Verdict
 optionalFault f count = rulesFrom (pictured f count) false false (place count) (chunksFrom f (place count))
 
--- what is known once refusals 1 to 16 are ruled out of a file with count entries
+-- what is known once refusals 1 to 16 and 27 to 29 are ruled out of a file with count entries
 pub record EntriesPassed (f : List ℕ) (count : ℕ) : Type 0 where
   pub few : count ≤ 4096
   pub room : place count ≤ length f

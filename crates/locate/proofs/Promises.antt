@@ -7,10 +7,10 @@ use native.Mathlib.Omega.{arith}
 use lib.ListN.{length, drop, take}
 use lib.Seq.{drop-drop}
 use lib.Dec.{eqb}
-use borrow.Author.Tests.{eqb-true, lt-ltb, le-ltb}
+use borrow.Author.Tests.{eqb-true}
 use Rattle.blorb.specs.All.{All}
 use Rattle.blorb.specs.Bytes.{rd32}
-use Rattle.blorb.specs.Format.{Chunk, sized, size, chunkIn}
+use Rattle.blorb.specs.Format.{sized, size, chunkIn}
 use Rattle.blorb.specs.Verdict.{accept}
 use Rattle.blorb.specs.Rules.{profileVerdict}
 use Rattle.chunks.specs.Walk.{chunkFrom, nextAt, chunksFrom, walkFrom}

@@ -7,7 +7,7 @@ use native.Mathlib.Omega.{arith}
 use lib.ListN.{getD}
 use lib.Dec.{eqb, leb, ltb}
 use borrow.Author.Tests.{le-leb, lt-leb, leb-true, eq-eqb, ne-eqb, eqb-true, lt-ltb, le-ltb, ltb-true, ltb-false, not-true, not-false}
-use Rattle.blorb.specs.Verdict.{accept, refuse, _then_}
+use Rattle.blorb.specs.Verdict.{accept, refuse}
 use Rattle.blorb.proofs.Checks.{then-accept, check-accept, pass, stop, holds-last, fails-last, and-both, neither}
 use Rattle.members.specs.declared.Kind.the-variants.{Form, Plain}
 use Rattle.members.specs.declared.Place.{Place}

@@ -1,7 +1,7 @@
 -- The frontispiece of a file that the reader has passed. Rule 7 has judged its length, so its number can be read; the first 'Fspc' that the walk meets is
 -- the model's, and there is none among ordinary chunks.
 use mathlib.Core.Path.{_≡_, refl, sym, ap, _∙_}
-use Prim.Native.Nat.{ℕ, suc, _+_, _-_, _≤_, _<_}
+use Prim.Native.Nat.{ℕ, suc, _+_, _≤_, _<_}
 use mathlib.Core.List.{List, [], _∷_}
 use mathlib.Core.Bool.{Bool, true, false, cond, _||_}
 use native.Mathlib.Omega.{arith}
@@ -23,13 +23,8 @@ use Rattle.index.specs.Entries.{place}
 use Rattle.index.specs.Optional.{oneRule, rulesFrom, optionalFault}
 use Rattle.reader.specs.Passed.{Passed, modelAt, Fronts, pickFront, frontFrom}
 use Rattle.reader.specs.Inspecting.{frontBy, frontOf}
-use Rattle.reader.specs.declared.Target.{Target}
-use Rattle.reader.specs.declared.Target.the-variants as target
 use Rattle.reader.specs.declared.Front.{Front}
 use Rattle.reader.specs.declared.Front.the-variants as front
-use Rattle.reader.specs.declared.Inspection.the-variants as inspection
-use Rattle.reader.specs.declared.Judgement.{Judgement}
-use Rattle.reader.specs.declared.Judgement.the-variants as judgement
 use Rattle.chunks.proofs.ChunkLaws.{fine, chunks-end, ordinary-not}
 use Rattle.index.proofs.IndexLaws.{body-word}
 use Rattle.reader.proofs.PartLaws.{refs-count}

@@ -7,7 +7,7 @@ use native.Mathlib.Omega.{arith}
 use native.Mathlib.Nat.{not-suc-le-zero, le-of-suc-le-suc}
 use lib.ListN.{length, getD, drop, length-drop}
 use lib.Seq.{drop-drop}
-use lib.Dec.{eqb, ltb, leb·suc-suc}
+use lib.Dec.{eqb, ltb}
 use borrow.Author.Tests.{eq-eqb, lt-ltb, le-ltb, ltb-true, ltb-false}
 use Rattle.blorb.specs.All.{All}
 use Rattle.blorb.specs.Bytes.{rd32, Byte}
@@ -29,7 +29,6 @@ use Rattle.index.specs.Hits.{hitIn}
 use Rattle.index.specs.declared.entries.Hit.the-variants.{At}
 use Rattle.reader.specs.declared.Looked.{Looked}
 use Rattle.reader.specs.declared.Looked.the-variants.{Refused as Missing}
-use Rattle.blorb.proofs.Checks.{neither}
 use Rattle.chunks.proofs.ChunkLaws.{fine}
 use Rattle.index.proofs.EntryLaws.{pair-snoc}
 use Rattle.index.proofs.IndexLaws.{drop-take, find-at, find-none, first-entry}

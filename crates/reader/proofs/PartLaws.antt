@@ -212,7 +212,7 @@ module _ (profile : ℕ) (f : List ℕ) where
   unfolding readOf readKnown
   known-is h = let q : profileVerdict profile f ≡ verdict (rulesOf profile) f = profile-known profile f (le-leb _ _ h) in rw q
 
-  -- what is left once refusals 1 to 16 are ruled out
+  -- what is left once refusals 1 to 16 and 27 to 29 are ruled out
   pub entries-no : (r : Judgement) (k p : ℕ) → profile ≤ 1 → JudgesEntries profile r f → r ≡ judgement.Refused k p → Refused k p ≡ readOf profile f
   entries-no r k p h j e = (rw e at j) ∙ known-is h
 

@@ -2,7 +2,7 @@
 -- starts to what stands behind it, and each entry on the chunk that the walk has come to leaves the index's faults to the entries behind it.
 use mathlib.Core.Path.{_≡_, refl, sym, ap, _∙_}
 use Prim.Native.Nat.{ℕ, _+_, _*_, _-_, _%_, _≤_, _<_}
-use mathlib.Core.List.{List, [], _∷_}
+use mathlib.Core.List.{List}
 use mathlib.Core.Bool.{Bool, true, false, _&&_, _||_, not, and-true, and-assoc}
 use native.Mathlib.Omega.{arith}
 use lib.ListN.{length, drop}
@@ -22,15 +22,15 @@ use Rattle.reader.specs.declared.Judgement.the-variants as judgement
 use Rattle.reader.specs.declared.straight.Step.the-variants.{To}
 use Rattle.reader.specs.declared.straight.Straight.{Straight}
 use Rattle.reader.specs.declared.straight.Straight.the-variants.{Good, Unsure}
-use Rattle.chunks.specs.Walk.{chunkFrom, chunksFrom, walkFrom, skipAt, Reached}
+use Rattle.chunks.specs.Walk.{chunkFrom, chunksFrom, walkFrom, skipAt}
 use Rattle.chunks.specs.Ordinary.{ordinaryType, allOrdinary}
 use Rattle.index.specs.Entries.{usageAt, numberAt, startAt, place, typedAt, entryFault, earlier, entriesFrom}
 use Rattle.reader.specs.Passed.{JudgesEntries}
 use Rattle.reader.specs.Straight.{CameTo, ChunkAt, Stands, Stepped, Suits, Allowed, Remembered, SoFar, Alongside, Straightly}
-use Rattle.chunks.proofs.ChunkLaws.{whole, walk-end, walk-next, chunk-even, chunks-end, ordinary-end, second-end, along-next, first-good, chunks-on}
+use Rattle.chunks.proofs.ChunkLaws.{whole, walk-end, walk-next, chunk-even, ordinary-end, second-end, along-next, first-good}
 use Rattle.index.proofs.EntryLaws.{by-good, judged-at, entries-next, entries-end, before-next, before-none}
 use Rattle.index.proofs.IndexLaws.{shape-good}
-use Rattle.reader.proofs.ReadLaws.{is-judged, read-rest, ordinary-behind}
+use Rattle.reader.proofs.ReadLaws.{is-judged, read-rest}
 
 pub came-none : (f : List ℕ) (at : ℕ) → CameTo f at at true
 came-none f at =

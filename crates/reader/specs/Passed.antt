@@ -32,7 +32,7 @@ abbrev pub Judges : (profile : ℕ) → Judgement → List ℕ → Type 0
 Judges profile (judgement.Good n ordinary) f = (Accepted (length f) n ≡ readOf profile f) × (ordinary ≡ true → allOrdinary (chunksFrom f (place n)) ≡ true)
 Judges profile (judgement.Refused k p) f = Refused k p ≡ readOf profile f
 
--- the same of refusals 1 to 16 under a known profile: 17 to 19 decide
+-- the same of refusals 1 to 16 and 27 to 29 under a known profile: 17 to 19 decide
 abbrev pub JudgesEntries : (profile : ℕ) → Judgement → List ℕ → Type 0
 JudgesEntries profile (judgement.Good n ordinary) f =
     EntriesPassed f n × (readBy (optionalFault f n) (length f) n ≡ readKnown profile f) × (ordinary ≡ true → allOrdinary (chunksFrom f (place n)) ≡ true)

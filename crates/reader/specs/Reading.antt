@@ -1,9 +1,9 @@
 -- What the reader answers (01, Found resources), as functions of the profile (02, P12) and the file's bytes.
 use Prim.Native.Nat.{ℕ, _+_, _-_}
-use mathlib.Core.List.{List, [], _∷_}
-use mathlib.Core.Bool.{Bool, true, false, _&&_}
+use mathlib.Core.List.{List, []}
+use mathlib.Core.Bool.{Bool, true, false}
 use lib.ListN.{length, getD, take, drop}
-use lib.Dec.{eqb, ltb}
+use lib.Dec.{ltb}
 use Rattle.blorb.specs.Format as format
 use Rattle.blorb.specs.Format.{chunksOf, entriesOf}
 use Rattle.blorb.specs.Verdict.{Verdict, accept, refuse, noChunk}

@@ -1,5 +1,5 @@
 -- What is known along the straight way through a file, where chunks and entries are gone through side by side.
-use Prim.Native.Nat.{ℕ, _+_, _-_, _≤_, _<_}
+use Prim.Native.Nat.{ℕ, _-_, _≤_, _<_}
 use mathlib.Core.Path.{_≡_}
 use mathlib.Core.List.{List}
 use mathlib.Core.Bool.{Bool, true, _&&_, not}
@@ -79,7 +79,7 @@ Alongside profile (Good n ordinary) f count =
     × (ordinary ≡ true → allOrdinary (chunksFrom f (place count)) ≡ true) × (entriesFrom profile f (place count) 0 count ≡ accept)
 Alongside profile Unsure f count = Unit {0}
 
--- refusals 1 to 16 and 27 are ruled out: 17 to 19 decide
+-- refusals 1 to 16 and 27 to 29 are ruled out: 17 to 19 decide
 abbrev pub Straightly : (profile : ℕ) → Straight → List ℕ → Type 0
 Straightly profile (Good n ordinary) f = JudgesEntries profile (judgement.Good n ordinary) f
 Straightly profile Unsure f = Unit {0}

@@ -80,7 +80,7 @@ enum Judgement {
     Refused { number: u64, place: usize },
 }
 
-// Refusals 1 to 16, each in its turn; `Good` where only 17 to 19 are left to judge.
+// Refusals 1 to 16 and 27 to 29, each in its turn; `Good` where only 17 to 19 are left to judge.
 fn judge_in_turn(file: &[u8], profile: u32) -> Judgement
     ensures { λ r. ⌜ JudgesEntries profile r (now (file .entry)) ⌝ }
 {

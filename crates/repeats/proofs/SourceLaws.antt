@@ -1,7 +1,7 @@
 -- Where the entries of a list stand, what their keys are, and the three layouts as the keys of the public contracts.
 use Prim.Native.Nat.{ℕ, zero, suc, _+_, _*_, _≤_, _<_}
-use mathlib.Core.Path.{_≡_, refl, ap, ap₂, sym, _∙_, subst}
-use mathlib.Core.List.{List, []}
+use mathlib.Core.Path.{_≡_, refl, ap, sym, _∙_, subst}
+use mathlib.Core.List.{List}
 use native.Mathlib.Omega.{arith}
 use native.Mathlib.Numerals.{add-one}
 use native.Mathlib.Nat.{mul-le-mul}
@@ -10,7 +10,6 @@ use Rattle.blorb.specs.Bytes.{rd32}
 use Rattle.repeats.specs.Keys.{pairKey, rowKey, entryAt, EntriesInside, entryKey, listKey}
 use Rattle.repeats.specs.Repeats.{firstRepeat}
 use Rattle.repeats.specs.Source.{Source, source, keyAt, nextAt, Readable, spot, key, Inside}
-use Rattle.repeats.specs.declared.First.{First}
 use Rattle.repeats.specs.declared.Layout.{Layout}
 use Rattle.repeats.specs.declared.Layout.the-variants.{Rows, Entries, Numbers}
 

@@ -1,5 +1,5 @@
 -- The first entry whose key an earlier entry has (02: "a repeated picture number", "a repeated pair"). k gives the key of an entry by its number.
-use Prim.Native.Nat.{ℕ, zero, suc, _+_, _≤_, _<_}
+use Prim.Native.Nat.{ℕ, zero, suc, _≤_, _<_}
 use mathlib.Core.Path.{_≡_}
 use mathlib.Core.Bool.{Bool, true, false, _||_}
 use lib.Dec.{eqb}

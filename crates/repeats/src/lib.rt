@@ -2,8 +2,8 @@
 // against the marks, and only entries whose marks are all set, the suspects, are compared with the block's keys, many in one pass. Marks mislead at
 // worst: no answer depends on them.
 ghost use mathlib.Core.Path.{_≡_};
-ghost use mathlib.Core.Bool.{Bool, true};
-ghost use Prim.Native.Nat.{ℕ, _+_, _*_, _-_, _≤_, _<_, _^_};
+ghost use mathlib.Core.Bool.{true};
+ghost use Prim.Native.Nat.{_+_, _*_, _-_, _≤_, _<_, _^_};
 ghost use mathlib.Core.List.{[]};
 ghost use lib.ListN.{length, getD};
 ghost use Rattle.repeats.specs.declared.Layout.the-variants.{Entries, Numbers};

@@ -8,10 +8,6 @@ use Rattle.blorb.specs.Little.{swapped, swapped-little}
 use borrow.Author.Needs.{needs}
 use Rattle.blorb.proofs.be32_at.Statement.{statement}
 use Rattle.blorb.proofs.be32_at.Tie as tie
-use Rattle.blorb.proofs.be32_at.Reads as reads
-use Rattle.blorb.proofs.be32_at.Lts as lts
-use Rattle.blorb.proofs.le32_at.Reads as le32-at-reads
-use Rattle.blorb.proofs.swap.Reads as swap-reads
 
 le32-at-requires : tie.Need-le32-at-requires
 le32-at-requires c κs = search needs

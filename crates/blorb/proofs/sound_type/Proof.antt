@@ -6,10 +6,6 @@ use Rattle.blorb.proofs.UsageLaws.{snd-other, snd-short, snd-form}
 use borrow.Author.Needs.{needs}
 use Rattle.blorb.proofs.sound_type.Statement.{statement}
 use Rattle.blorb.proofs.sound_type.Tie as tie
-use Rattle.blorb.proofs.sound_type.Reads as reads
-use Rattle.blorb.proofs.sound_type.Lts as lts
-use Rattle.blorb.proofs.be32_at.Reads as be32-at-reads
-use Rattle.blorb.proofs.snd_type.Reads as snd-type-reads
 
 snd-type-requires : tie.Need-snd-type-requires
 snd-type-requires c κs = search needs

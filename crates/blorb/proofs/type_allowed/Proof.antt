@@ -3,10 +3,6 @@ use Rattle.blorb.proofs.UsageLaws.{allows-unknown, allows-known}
 use borrow.Author.Needs.{needs}
 use Rattle.blorb.proofs.type_allowed.Statement.{statement}
 use Rattle.blorb.proofs.type_allowed.Tie as tie
-use Rattle.blorb.proofs.type_allowed.Reads as reads
-use Rattle.blorb.proofs.type_allowed.Lts as lts
-use Rattle.blorb.proofs.Usage.allows.Reads as allows-reads
-use Rattle.blorb.proofs.Usage.of_code.Reads as of-code-reads
 
 of-code-requires : tie.Need-of-code-requires
 of-code-requires c κs = search needs

@@ -2,10 +2,6 @@ use Rattle.capi.proofs.CallLaws.{answered}
 use borrow.Author.Needs.{needs}
 use Rattle.capi.proofs.blorb_add.Statement.{statement}
 use Rattle.capi.proofs.blorb_add.Tie as tie
-use Rattle.capi.proofs.blorb_add.Reads as reads
-use Rattle.capi.proofs.blorb_add.Lts as lts
-use Rattle.capi.proofs.numbers.Reads as numbers-reads
-use Rattle.editor.proofs.add.Reads as add-reads
 
 add-requires : tie.Need-add-requires
 add-requires c κs = search needs

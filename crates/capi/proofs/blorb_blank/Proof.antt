@@ -3,10 +3,6 @@ use Rattle.capi.specs.Numbers.{editNumbers}
 use borrow.Author.Needs.{needs}
 use Rattle.capi.proofs.blorb_blank.Statement.{statement}
 use Rattle.capi.proofs.blorb_blank.Tie as tie
-use Rattle.capi.proofs.blorb_blank.Reads as reads
-use Rattle.capi.proofs.blorb_blank.Lts as lts
-use Rattle.capi.proofs.numbers.Reads as numbers-reads
-use Rattle.editor.proofs.blank.Reads as blank-reads
 
 blank-requires : tie.Need-blank-requires
 blank-requires c κs = search needs

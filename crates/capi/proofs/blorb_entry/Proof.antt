@@ -4,10 +4,6 @@ use Rattle.capi.proofs.CallLaws.{code-small}
 use borrow.Author.Needs.{needs}
 use Rattle.capi.proofs.blorb_entry.Statement.{statement}
 use Rattle.capi.proofs.blorb_entry.Tie as tie
-use Rattle.capi.proofs.blorb_entry.Reads as reads
-use Rattle.capi.proofs.blorb_entry.Lts as lts
-use Rattle.blorb.proofs.Usage.code.Reads as code-reads
-use Rattle.reader.proofs.entry.Reads as entry-reads
 
 entry-requires : tie.Need-entry-requires
 entry-requires c κs = search needs

@@ -3,10 +3,6 @@ use Rattle.capi.proofs.CallLaws.{answered}
 use borrow.Author.Needs.{needs}
 use Rattle.capi.proofs.blorb_link.Statement.{statement}
 use Rattle.capi.proofs.blorb_link.Tie as tie
-use Rattle.capi.proofs.blorb_link.Reads as reads
-use Rattle.capi.proofs.blorb_link.Lts as lts
-use Rattle.capi.proofs.numbers.Reads as numbers-reads
-use Rattle.editor.proofs.link.Reads as link-reads
 
 link-requires : tie.Need-link-requires
 link-requires c κs = search needs

@@ -3,9 +3,6 @@ use Rattle.capi.specs.Numbers.{lookupNumbers}
 use borrow.Author.Needs.{needs}
 use Rattle.capi.proofs.blorb_lookup.Statement.{statement}
 use Rattle.capi.proofs.blorb_lookup.Tie as tie
-use Rattle.capi.proofs.blorb_lookup.Reads as reads
-use Rattle.capi.proofs.blorb_lookup.Lts as lts
-use Rattle.reader.proofs.lookup.Reads as lookup-reads
 
 lookup-requires : tie.Need-lookup-requires
 lookup-requires c κs = search needs

@@ -3,9 +3,6 @@ use Rattle.capi.specs.Numbers.{readNumbers}
 use borrow.Author.Needs.{needs}
 use Rattle.capi.proofs.blorb_read.Statement.{statement}
 use Rattle.capi.proofs.blorb_read.Tie as tie
-use Rattle.capi.proofs.blorb_read.Reads as reads
-use Rattle.capi.proofs.blorb_read.Lts as lts
-use Rattle.reader.proofs.read.Reads as read-reads
 
 read-requires : tie.Need-read-requires
 read-requires c κs = search needs

@@ -2,10 +2,6 @@ use Rattle.capi.proofs.CallLaws.{answered}
 use borrow.Author.Needs.{needs}
 use Rattle.capi.proofs.blorb_remove.Statement.{statement}
 use Rattle.capi.proofs.blorb_remove.Tie as tie
-use Rattle.capi.proofs.blorb_remove.Reads as reads
-use Rattle.capi.proofs.blorb_remove.Lts as lts
-use Rattle.capi.proofs.numbers.Reads as numbers-reads
-use Rattle.editor.proofs.remove.Reads as remove-reads
 
 remove-requires : tie.Need-remove-requires
 remove-requires c κs = search needs

@@ -2,10 +2,6 @@ use Rattle.capi.proofs.CallLaws.{answered}
 use borrow.Author.Needs.{needs}
 use Rattle.capi.proofs.blorb_replace.Statement.{statement}
 use Rattle.capi.proofs.blorb_replace.Tie as tie
-use Rattle.capi.proofs.blorb_replace.Reads as reads
-use Rattle.capi.proofs.blorb_replace.Lts as lts
-use Rattle.capi.proofs.numbers.Reads as numbers-reads
-use Rattle.editor.proofs.replace.Reads as replace-reads
 
 replace-requires : tie.Need-replace-requires
 replace-requires c κs = search needs

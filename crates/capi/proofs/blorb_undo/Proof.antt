@@ -2,10 +2,6 @@ use Rattle.capi.proofs.CallLaws.{answered}
 use borrow.Author.Needs.{needs}
 use Rattle.capi.proofs.blorb_undo.Statement.{statement}
 use Rattle.capi.proofs.blorb_undo.Tie as tie
-use Rattle.capi.proofs.blorb_undo.Reads as reads
-use Rattle.capi.proofs.blorb_undo.Lts as lts
-use Rattle.capi.proofs.numbers.Reads as numbers-reads
-use Rattle.editor.proofs.undo.Reads as undo-reads
 
 undo-requires : tie.Need-undo-requires
 undo-requires c κs = search needs

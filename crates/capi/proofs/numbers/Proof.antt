@@ -1,8 +1,6 @@
 use borrow.Author.Needs.{needs}
 use Rattle.capi.proofs.numbers.Statement.{statement}
 use Rattle.capi.proofs.numbers.Tie as tie
-use Rattle.capi.proofs.numbers.Reads as reads
-use Rattle.capi.proofs.numbers.Lts as lts
 
 enum-told : tie.Need-enum-told
 enum-told c = search needs

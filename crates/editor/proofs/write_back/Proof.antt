@@ -23,12 +23,6 @@ use Rattle.editor.proofs.UndoBack.{
 use borrow.Author.Needs.{needs}
 use Rattle.editor.proofs.write_back.Statement.{statement}
 use Rattle.editor.proofs.write_back.Tie as tie
-use Rattle.editor.proofs.write_back.Reads as reads
-use Rattle.editor.proofs.write_back.Lts as lts
-use Rattle.rewrite.proofs.insert_bytes.Reads as insert-bytes-reads
-use Rattle.rewrite.proofs.insert_entry.Reads as insert-entry-reads
-use Rattle.rewrite.proofs.remove_bytes.Reads as remove-bytes-reads
-use Rattle.rewrite.proofs.replace_bytes.Reads as replace-bytes-reads
 
 cast-place : tie.Need-cast-place
 cast-place c = search needs

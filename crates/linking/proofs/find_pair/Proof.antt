@@ -1,7 +1,7 @@
 -- The loop keeps that the pair's place among the entries from i on, and i, make its place among all: an entry with the pair ends it, any other is passed over.
 use native.Mathlib.Omega.{arith}
 use mathlib.Core.Path.{_≡_}
-use Prim.Native.Nat.{ℕ, _+_, _-_, _≤_, _<_}
+use Prim.Native.Nat.{_+_, _-_, _≤_, _<_}
 use denote.Ref.{now}
 use Rattle.blorb.specs.Bytes.{Byte}
 use Rattle.blorb.specs.All.{All}
@@ -13,9 +13,6 @@ use Rattle.linking.proofs.IndexRead.{pair-hit, pair-next, pair-none}
 use borrow.Author.Needs.{needs}
 use Rattle.linking.proofs.find_pair.Statement.{statement}
 use Rattle.linking.proofs.find_pair.Tie as tie
-use Rattle.linking.proofs.find_pair.Reads as reads
-use Rattle.linking.proofs.find_pair.Lts as lts
-use Rattle.blorb.proofs.be32_at.Reads as be32-at-reads
 
 abbrev Inv-loop : tie.InvT-loop
 Inv-loop s count usage number i₀ i = (i ≤ count) × (i + find usage number (drop i (model s .refs)) ≡ find usage number (model s .refs))

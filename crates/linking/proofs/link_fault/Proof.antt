@@ -12,13 +12,6 @@ use Rattle.linking.proofs.LinkFault.{chunk-lies, out-101, out-111, out-
 use borrow.Author.Needs.{needs}
 use Rattle.linking.proofs.link_fault.Statement.{statement}
 use Rattle.linking.proofs.link_fault.Tie as tie
-use Rattle.linking.proofs.link_fault.Reads as reads
-use Rattle.linking.proofs.link_fault.Lts as lts
-use Rattle.blorb.proofs.Usage.of_code.Reads as of-code-reads
-use Rattle.judging.proofs.judge.number_fits.Reads as number-fits-reads
-use Rattle.judging.proofs.judge.refused.Reads as refused-reads
-use Rattle.undoing.proofs.chunk_allowed.Reads as chunk-allowed-reads
-use Rattle.linking.proofs.find_pair.Reads as find-pair-reads
 
 add-if1 : tie.Need-add-if1
 add-if1 c = search needs

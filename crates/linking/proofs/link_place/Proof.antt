@@ -1,7 +1,7 @@
 -- The starts rise along the index, so the new entry goes where the first later one stands: the loop keeps that the entry before i starts no later.
 use native.Mathlib.Omega.{arith}
 use mathlib.Core.Path.{_≡_, sym, _∙_}
-use Prim.Native.Nat.{ℕ, _+_, _-_, _≤_, _<_}
+use Prim.Native.Nat.{_+_, _-_, _≤_, _<_}
 use denote.Ref.{now}
 use Rattle.blorb.specs.Bytes.{Byte}
 use Rattle.blorb.specs.All.{All}
@@ -11,9 +11,6 @@ use Rattle.linking.proofs.PlaceLaws.{own-start, place-here}
 use borrow.Author.Needs.{needs}
 use Rattle.linking.proofs.link_place.Statement.{statement}
 use Rattle.linking.proofs.link_place.Tie as tie
-use Rattle.linking.proofs.link_place.Reads as reads
-use Rattle.linking.proofs.link_place.Lts as lts
-use Rattle.blorb.proofs.be32_at.Reads as be32-at-reads
 
 abbrev Inv-loop : tie.InvT-loop
 Inv-loop s count at i₀ i = (0 < i) × (i ≤ count) × (startIn s (i - 1) ≤ at)

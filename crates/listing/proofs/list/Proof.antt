@@ -5,11 +5,6 @@ use Rattle.listing.proofs.ListLaws.{list-by}
 use borrow.Author.Needs.{needs}
 use Rattle.listing.proofs.list.Statement.{statement}
 use Rattle.listing.proofs.list.Tie as tie
-use Rattle.listing.proofs.list.Reads as reads
-use Rattle.listing.proofs.list.Lts as lts
-use Rattle.listing.proofs.list_accepted.Reads as list-accepted-reads
-use Rattle.listing.proofs.list_refused.Reads as list-refused-reads
-use Rattle.reader.proofs.read.Reads as read-reads
 
 list-accepted-requires : tie.Need-list-accepted-requires
 list-accepted-requires c κs = sym (c .before .before .before .before .read .ensures) ∙ c .before .before .length .given .1

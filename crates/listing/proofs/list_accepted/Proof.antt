@@ -11,10 +11,6 @@ use Rattle.listing.proofs.ListLaws.{size-known, no-room, written}
 use borrow.Author.Needs.{needs}
 use Rattle.listing.proofs.list_accepted.Statement.{statement}
 use Rattle.listing.proofs.list_accepted.Tie as tie
-use Rattle.listing.proofs.list_accepted.Reads as reads
-use Rattle.listing.proofs.list_accepted.Lts as lts
-use Rattle.listing.proofs.put_entries.Reads as put-entries-reads
-use Rattle.listing.proofs.put_head.Reads as put-head-reads
 
 mul-if1 : tie.Need-mul-if1
 mul-if1 c = omega (arith, accepted-is 0 (now (c .before .before .args .file)) _ _ (c .before .before .pre) .4)

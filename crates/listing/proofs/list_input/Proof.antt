@@ -4,10 +4,6 @@ use Rattle.listing.proofs.ListLaws.{input-long, input-over, input-whole
 use borrow.Author.Needs.{needs}
 use Rattle.listing.proofs.list_input.Statement.{statement}
 use Rattle.listing.proofs.list_input.Tie as tie
-use Rattle.listing.proofs.list_input.Reads as reads
-use Rattle.listing.proofs.list_input.Lts as lts
-use Rattle.listing.proofs.list.Reads as list-reads
-use Rattle.listing.proofs.list_refused.Reads as list-refused-reads
 
 returns : tie.Need-returns
 returns c =

@@ -8,10 +8,6 @@ use Rattle.listing.proofs.ListLaws.{no-room, written}
 use borrow.Author.Needs.{needs}
 use Rattle.listing.proofs.list_refused.Statement.{statement}
 use Rattle.listing.proofs.list_refused.Tie as tie
-use Rattle.listing.proofs.list_refused.Reads as reads
-use Rattle.listing.proofs.list_refused.Lts as lts
-use Rattle.listing.proofs.put_number.Reads as put-number-reads
-use Rattle.listing.proofs.put_text.Reads as put-text-reads
 
 returns : tie.Need-returns
 returns c = let a = c .before .before .args in no-room (now (a .out)) 64 (refusedLine (a .number) (a .place)) (c .if1 .taken)

@@ -12,9 +12,6 @@ use Rattle.listing.specs.InPlace.{Wrote}
 use Rattle.listing.proofs.ListLaws.{lines-none, lines-turn, lines-whole}
 use Rattle.listing.proofs.put_entries.Statement.{statement}
 use Rattle.listing.proofs.put_entries.Tie as tie
-use Rattle.listing.proofs.put_entries.Reads as reads
-use Rattle.listing.proofs.put_entries.Lts as lts
-use Rattle.listing.proofs.put_entry.Reads as put-entry-reads
 
 abbrev Inv-loop : tie.InvT-loop
 Inv-loop out₀ at file count to₀ i₀ out to i = (i ≤ count) × (length out ≡ length out₀) × (to ≤ at + 48 * i) × Wrote out₀ at

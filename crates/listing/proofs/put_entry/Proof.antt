@@ -4,11 +4,6 @@ use Rattle.listing.proofs.LineLaws.{entry-text}
 use borrow.Author.Needs.{needs}
 use Rattle.listing.proofs.put_entry.Statement.{statement}
 use Rattle.listing.proofs.put_entry.Tie as tie
-use Rattle.listing.proofs.put_entry.Reads as reads
-use Rattle.listing.proofs.put_entry.Lts as lts
-use Rattle.blorb.proofs.be32_at.Reads as be32-at-reads
-use Rattle.listing.proofs.put_chunk.Reads as put-chunk-reads
-use Rattle.listing.proofs.put_fields.Reads as put-fields-reads
 
 returns : tie.Need-returns
 returns c = let a = c .before .before .before .before .before .before .before .before .before .before .before .args in

@@ -6,11 +6,6 @@ use Rattle.listing.proofs.LineLaws.{fields-text}
 use borrow.Author.Needs.{needs}
 use Rattle.listing.proofs.put_fields.Statement.{statement}
 use Rattle.listing.proofs.put_fields.Tie as tie
-use Rattle.listing.proofs.put_fields.Reads as reads
-use Rattle.listing.proofs.put_fields.Lts as lts
-use Rattle.blorb.proofs.be32_at.Reads as be32-at-reads
-use Rattle.listing.proofs.put_number.Reads as put-number-reads
-use Rattle.listing.proofs.put_tag.Reads as put-tag-reads
 
 put-number-requires : tie.Need-put-number-requires
 put-number-requires c κs = omega (

@@ -6,10 +6,6 @@ use Rattle.listing.proofs.LineLaws.{head-line}
 use borrow.Author.Needs.{needs}
 use Rattle.listing.proofs.put_head.Statement.{statement}
 use Rattle.listing.proofs.put_head.Tie as tie
-use Rattle.listing.proofs.put_head.Reads as reads
-use Rattle.listing.proofs.put_head.Lts as lts
-use Rattle.listing.proofs.put_number.Reads as put-number-reads
-use Rattle.listing.proofs.put_text.Reads as put-text-reads
 
 put-number-requires : tie.Need-put-number-requires
 put-number-requires c κs = omega (arith, decimal-20 (c .before .before .before .args .size))

@@ -5,10 +5,6 @@ use Rattle.listing.specs.Text.{decimal}
 use Rattle.listing.proofs.WriteLaws.{more}
 use Rattle.listing.proofs.put_number.Statement.{statement}
 use Rattle.listing.proofs.put_number.Tie as tie
-use Rattle.listing.proofs.put_number.Reads as reads
-use Rattle.listing.proofs.put_number.Lts as lts
-use Rattle.listing.proofs.put_decimal.Reads as put-decimal-reads
-use Rattle.listing.proofs.put_text.Reads as put-text-reads
 
 returns : tie.Need-returns
 returns c =

@@ -12,9 +12,6 @@ use Rattle.blorb.proofs.Accept.{bytes-all}
 use Rattle.listing.proofs.LineLaws.{tag-is}
 use Rattle.listing.proofs.put_tag.Statement.{statement}
 use Rattle.listing.proofs.put_tag.Tie as tie
-use Rattle.listing.proofs.put_tag.Reads as reads
-use Rattle.listing.proofs.put_tag.Lts as lts
-use Rattle.listing.proofs.put_text.Reads as put-text-reads
 
 returns : tie.Need-returns
 returns c =

@@ -4,12 +4,6 @@ use lib.Seq.{length-take-le}
 use borrow.Author.Needs.{needs}
 use Rattle.listing_io.proofs.list_stdin.Statement.{statement}
 use Rattle.listing_io.proofs.list_stdin.Tie as tie
-use Rattle.listing_io.proofs.list_stdin.Reads as reads
-use Rattle.listing_io.proofs.list_stdin.Lts as lts
-use Rattle.io.proofs.read_full.Reads as read-full-reads
-use Rattle.io.proofs.write_all.Reads as write-all-reads
-use Rattle.listing_io.proofs.list_whole.Reads as list-whole-reads
-use Rattle.listing_io.proofs.more_follows.Reads as more-follows-reads
 
 slice-aggregate-write-all : tie.Need-slice-aggregate-write-all
 slice-aggregate-write-all c = sym (length-take-le _ _ (c .before .before .list-whole .ensures .2))

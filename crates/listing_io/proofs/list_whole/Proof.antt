@@ -4,9 +4,6 @@ use Rattle.listing_io.proofs.Laws.{room-enough, whole}
 use borrow.Author.Needs.{needs}
 use Rattle.listing_io.proofs.list_whole.Statement.{statement}
 use Rattle.listing_io.proofs.list_whole.Tie as tie
-use Rattle.listing_io.proofs.list_whole.Reads as reads
-use Rattle.listing_io.proofs.list_whole.Lts as lts
-use Rattle.listing.proofs.list_input.Reads as list-input-reads
 
 returns : tie.Need-returns
 returns c = let a = c .before .before .before .before .before .before .before .before .args in room-enough (now (a .file)) (a .longer) (now (a .out)) _

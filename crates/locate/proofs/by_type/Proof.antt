@@ -1,5 +1,5 @@
 -- Of a file that the reader accepts the chunks behind the index are walked; of another one its refusal is handed on.
-use mathlib.Core.Path.{_≡_, sym, _∙_}
+use mathlib.Core.Path.{sym, _∙_}
 use native.Mathlib.Omega.{arith}
 use borrow.Author.Needs.{needs}
 use Rattle.reader.proofs.Promises.{accepted-is, layout-is}

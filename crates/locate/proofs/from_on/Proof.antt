@@ -1,5 +1,4 @@
 -- The first chunk of the type begins the list of those from `from` on; behind it the next one, if any, begins the rest of that list.
-use mathlib.Core.Path.{_≡_, refl}
 use native.Mathlib.Omega.{arith}
 use borrow.Author.Needs.{needs}
 use Rattle.chunks.proofs.ChunkLaws.{walked, fine}

@@ -1,6 +1,4 @@
 -- An accepted file has the room of its index, and its entries are those of the model.
-use mathlib.Core.Path.{_≡_, _∙_}
-use native.Mathlib.Omega.{arith}
 use Rattle.locate.proofs.LocateLaws.{count-room, index-room, index-pair}
 use Rattle.locate.proofs.in_index.Statement.{statement}
 use Rattle.locate.proofs.in_index.Tie as tie

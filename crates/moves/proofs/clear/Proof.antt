@@ -8,8 +8,6 @@ use Rattle.moves.proofs.MoveLaws.{clear-turn, all-clear}
 use borrow.Author.Needs.{needs}
 use Rattle.moves.proofs.clear.Statement.{statement}
 use Rattle.moves.proofs.clear.Tie as tie
-use Rattle.moves.proofs.clear.Reads as reads
-use Rattle.moves.proofs.clear.Lts as lts
 
 abbrev Inv-loop : tie.InvT-loop
 Inv-loop buf₀ at n i₀ buf i = (i ≤ n) × (length buf ≡ length buf₀) × (buf ≡ paste buf₀ at (replicate n 0) i)

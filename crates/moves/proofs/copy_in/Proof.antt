@@ -3,9 +3,6 @@ use Rattle.moves.proofs.MoveLaws.{copied}
 use borrow.Author.Needs.{needs}
 use Rattle.moves.proofs.copy_in.Statement.{statement}
 use Rattle.moves.proofs.copy_in.Tie as tie
-use Rattle.moves.proofs.copy_in.Reads as reads
-use Rattle.moves.proofs.copy_in.Lts as lts
-use Rattle.moves.proofs.shift.copy_parts.Reads as copy-parts-reads
 
 copy-parts-requires : tie.Need-copy-parts-requires
 copy-parts-requires c κs = search needs

@@ -10,11 +10,6 @@ use Rattle.moves.specs.Moves.{relocated, startsMoved}
 use borrow.Author.Needs.{needs}
 use Rattle.moves.proofs.move_starts.Statement.{statement}
 use Rattle.moves.proofs.move_starts.Tie as tie
-use Rattle.moves.proofs.move_starts.Reads as reads
-use Rattle.moves.proofs.move_starts.Lts as lts
-use Rattle.moves.proofs.Move.start.Reads as start-reads
-use Rattle.moves.proofs.put32.Reads as put32-reads
-use Rattle.blorb.proofs.be32_at.Reads as be32-at-reads
 
 abbrev Inv-loop : tie.InvT-loop
 Inv-loop buf₀ at n m i₀ p₀ buf i p = (i ≤ n) × (p ≡ at + 12 * i) × (length buf ≡ length buf₀) × (startsMoved (relocated m) (n - i) p buf ≡ startsMoved

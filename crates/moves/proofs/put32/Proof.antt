@@ -6,10 +6,6 @@ use Rattle.moves.proofs.MoveLaws.{low-turned}
 use borrow.Author.Needs.{needs}
 use Rattle.moves.proofs.put32.Statement.{statement}
 use Rattle.moves.proofs.put32.Tie as tie
-use Rattle.moves.proofs.put32.Reads as reads
-use Rattle.moves.proofs.put32.Lts as lts
-use Rattle.moves.proofs.put_low.Reads as put-low-reads
-use Rattle.moves.proofs.turn.Reads as turn-reads
 
 turn-requires : tie.Need-turn-requires
 turn-requires c κs = search needs

@@ -3,8 +3,6 @@ use Rattle.moves.proofs.MoveLaws.{one-byte}
 use borrow.Author.Needs.{needs}
 use Rattle.moves.proofs.put8.Statement.{statement}
 use Rattle.moves.proofs.put8.Tie as tie
-use Rattle.moves.proofs.put8.Reads as reads
-use Rattle.moves.proofs.put8.Lts as lts
 
 slice-write-buf : tie.Need-slice-write-buf
 slice-write-buf c = search needs

@@ -3,11 +3,6 @@ use Rattle.moves.proofs.MoveLaws.{chunk-written}
 use borrow.Author.Needs.{needs}
 use Rattle.moves.proofs.put_chunk.Statement.{statement}
 use Rattle.moves.proofs.put_chunk.Tie as tie
-use Rattle.moves.proofs.put_chunk.Reads as reads
-use Rattle.moves.proofs.put_chunk.Lts as lts
-use Rattle.moves.proofs.clear.Reads as clear-reads
-use Rattle.moves.proofs.copy_in.Reads as copy-in-reads
-use Rattle.moves.proofs.put32.Reads as put32-reads
 
 put32-requires : tie.Need-put32-requires
 put32-requires c κs = search needs

@@ -3,9 +3,6 @@ use Rattle.moves.proofs.MoveLaws.{heading-written}
 use borrow.Author.Needs.{needs}
 use Rattle.moves.proofs.put_heading.Statement.{statement}
 use Rattle.moves.proofs.put_heading.Tie as tie
-use Rattle.moves.proofs.put_heading.Reads as reads
-use Rattle.moves.proofs.put_heading.Lts as lts
-use Rattle.moves.proofs.put_words.Reads as put-words-reads
 
 mul-put-words : tie.Need-mul-put-words
 mul-put-words c = search needs

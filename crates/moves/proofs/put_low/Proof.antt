@@ -10,8 +10,6 @@ use Rattle.moves.specs.Moves.{low4}
 use borrow.Author.Needs.{needs}
 use Rattle.moves.proofs.put_low.Statement.{statement}
 use Rattle.moves.proofs.put_low.Tie as tie
-use Rattle.moves.proofs.put_low.Reads as reads
-use Rattle.moves.proofs.put_low.Lts as lts
 
 cast-buf : tie.Need-cast-buf
 cast-buf c = search needs

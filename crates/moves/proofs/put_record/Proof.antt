@@ -4,12 +4,6 @@ use Rattle.moves.specs.Moves.{recordOf}
 use borrow.Author.Needs.{needs}
 use Rattle.moves.proofs.put_record.Statement.{statement}
 use Rattle.moves.proofs.put_record.Tie as tie
-use Rattle.moves.proofs.put_record.Reads as reads
-use Rattle.moves.proofs.put_record.Lts as lts
-use Rattle.moves.proofs.copy_in.Reads as copy-in-reads
-use Rattle.moves.proofs.put32.Reads as put32-reads
-use Rattle.moves.proofs.put8.Reads as put8-reads
-use Rattle.moves.proofs.put_words.Reads as put-words-reads
 
 cast-usage : tie.Need-cast-usage
 cast-usage c = search needs

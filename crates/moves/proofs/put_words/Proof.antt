@@ -3,9 +3,6 @@ use Rattle.moves.proofs.MoveLaws.{words}
 use borrow.Author.Needs.{needs}
 use Rattle.moves.proofs.put_words.Statement.{statement}
 use Rattle.moves.proofs.put_words.Tie as tie
-use Rattle.moves.proofs.put_words.Reads as reads
-use Rattle.moves.proofs.put_words.Lts as lts
-use Rattle.moves.proofs.put32.Reads as put32-reads
 
 put32-requires : tie.Need-put32-requires
 put32-requires c κs = search needs

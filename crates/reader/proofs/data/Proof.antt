@@ -6,9 +6,6 @@ use Prim.Native.Nat.{_+_, _-_}
 use borrow.Author.Needs.{needs}
 use Rattle.reader.proofs.data.Statement.{statement}
 use Rattle.reader.proofs.data.Tie as tie
-use Rattle.reader.proofs.data.Reads as reads
-use Rattle.reader.proofs.data.Lts as lts
-use Rattle.reader.proofs.lookup.Reads as lookup-reads
 
 add-end : tie.Need-add-end
 add-end c = omega (arith, part-in _ _ _ _ _ _ _ (sym (c .before .before .before .lookup .ensures) ∙ c .before .start .given .1))

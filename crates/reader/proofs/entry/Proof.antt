@@ -4,11 +4,6 @@ use Rattle.reader.proofs.AskLaws.{accepted, refused-as, entry-no, entry
 use borrow.Author.Needs.{needs}
 use Rattle.reader.proofs.entry.Statement.{statement}
 use Rattle.reader.proofs.entry.Tie as tie
-use Rattle.reader.proofs.entry.Reads as reads
-use Rattle.reader.proofs.entry.Lts as lts
-use Rattle.blorb.proofs.Usage.of_code.Reads as of-code-reads
-use Rattle.blorb.proofs.be32_at.Reads as be32-at-reads
-use Rattle.reader.proofs.read.Reads as read-reads
 
 read-requires : tie.Need-read-requires
 read-requires c κs = search needs

@@ -3,10 +3,6 @@ use Rattle.reader.proofs.PartLaws.{judged-good, judged-no, inspected-no
 use borrow.Author.Needs.{needs}
 use Rattle.reader.proofs.inspect.Statement.{statement}
 use Rattle.reader.proofs.inspect.Tie as tie
-use Rattle.reader.proofs.inspect.Reads as reads
-use Rattle.reader.proofs.inspect.Lts as lts
-use Rattle.reader.proofs.judge_file.Reads as judge-file-reads
-use Rattle.reader.proofs.parts.facts.Reads as facts-reads
 
 judge-file-requires : tie.Need-judge-file-requires
 judge-file-requires c κs = search needs

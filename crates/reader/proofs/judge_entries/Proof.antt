@@ -1,10 +1,6 @@
 use borrow.Author.Needs.{needs}
 use Rattle.reader.proofs.judge_entries.Statement.{statement}
 use Rattle.reader.proofs.judge_entries.Tie as tie
-use Rattle.reader.proofs.judge_entries.Reads as reads
-use Rattle.reader.proofs.judge_entries.Lts as lts
-use Rattle.reader.proofs.judge_in_turn.Reads as judge-in-turn-reads
-use Rattle.reader.proofs.straight.in_one_pass.Reads as in-one-pass-reads
 
 returns : tie.Need-returns
 returns c = rw (c .before .count .given .1) at (c .before .before .before .in-one-pass .ensures)

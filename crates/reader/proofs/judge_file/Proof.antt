@@ -6,10 +6,6 @@ use Rattle.reader.proofs.PartLaws.{unknown-is, entries-no, entries-good
 use borrow.Author.Needs.{needs}
 use Rattle.reader.proofs.judge_file.Statement.{statement}
 use Rattle.reader.proofs.judge_file.Tie as tie
-use Rattle.reader.proofs.judge_file.Reads as reads
-use Rattle.reader.proofs.judge_file.Lts as lts
-use Rattle.reader.proofs.judge_entries.Reads as judge-entries-reads
-use Rattle.index.proofs.optional.optional.Reads as optional-reads
 
 returns : tie.Need-returns
 returns c = unknown-is _ _ (c .if1 .taken)

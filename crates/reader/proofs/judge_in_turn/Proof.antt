@@ -11,16 +11,6 @@ use Rattle.reader.proofs.ReadLaws.{first-long, is-shaped, is-judged, or
 use borrow.Author.Needs.{needs}
 use Rattle.reader.proofs.judge_in_turn.Statement.{statement}
 use Rattle.reader.proofs.judge_in_turn.Tie as tie
-use Rattle.reader.proofs.judge_in_turn.Reads as reads
-use Rattle.reader.proofs.judge_in_turn.Lts as lts
-use Rattle.blorb.proofs.be32_at.Reads as be32-at-reads
-use Rattle.chunks.proofs.first.Reads as first-reads
-use Rattle.chunks.proofs.head.Reads as head-reads
-use Rattle.chunks.proofs.second_if.Reads as second-if-reads
-use Rattle.chunks.proofs.skip.Reads as skip-reads
-use Rattle.chunks.proofs.walk.Reads as walk-reads
-use Rattle.index.proofs.entries.entries.Reads as entries-reads
-use Rattle.index.proofs.entries.shape.Reads as shape-reads
 
 head-requires : tie.Need-head-requires
 head-requires c κs = search needs

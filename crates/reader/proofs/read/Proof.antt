@@ -3,9 +3,6 @@ use mathlib.Core.Path.{sym}
 use Rattle.reader.proofs.PartLaws.{judged-good, judged-no}
 use Rattle.reader.proofs.read.Statement.{statement}
 use Rattle.reader.proofs.read.Tie as tie
-use Rattle.reader.proofs.read.Reads as reads
-use Rattle.reader.proofs.read.Lts as lts
-use Rattle.reader.proofs.judge_file.Reads as judge-file-reads
 
 judge-file-requires : tie.Need-judge-file-requires
 judge-file-requires c κs = search needs

@@ -1,5 +1,4 @@
 -- By the definition.
-use Prim.Native.Nat.{_-_}
 use Rattle.repeats.specs.Marks.{bitsOf}
 use borrow.Author.Needs.{needs}
 use Rattle.repeats.proofs.bits_of.Statement.{statement}

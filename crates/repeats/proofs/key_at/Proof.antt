@@ -1,5 +1,5 @@
 -- Each arm reads what its layout says.
-use mathlib.Core.Path.{_≡_, ap, sym, _∙_}
+use mathlib.Core.Path.{ap, sym, _∙_}
 use borrow.Author.Needs.{needs}
 use denote.Ref.{now}
 use Rattle.repeats.specs.Source.{keyAt}

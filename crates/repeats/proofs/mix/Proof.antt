@@ -1,6 +1,5 @@
 -- Stirred twice.
 use mathlib.Core.Path.{ap, _∙_}
-use Prim.Native.Nat.{_-_}
 use Rattle.repeats.specs.Marks.{stirred, mixed}
 use borrow.Author.Needs.{needs}
 use Rattle.repeats.proofs.mix.Statement.{statement}

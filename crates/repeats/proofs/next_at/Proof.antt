@@ -1,5 +1,5 @@
 -- Each arm goes on by what its layout says; nothing wraps, since the entry lies in a slice.
-use mathlib.Core.Path.{_≡_, refl, ap, sym, _∙_}
+use mathlib.Core.Path.{ap, sym}
 use native.Mathlib.Omega.{arith}
 use borrow.Author.Needs.{needs}
 use denote.Ref.{now}

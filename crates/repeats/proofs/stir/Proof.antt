@@ -1,7 +1,7 @@
 -- The factor is small enough for no sum to wrap.
 use mathlib.Core.Path.{refl}
 use native.Mathlib.Omega.{arith}
-use Prim.Native.Nat.{_-_, _%_}
+use Prim.Native.Nat.{_%_}
 use Rattle.repeats.specs.Marks.{stirred}
 use Rattle.repeats.proofs.MarkLaws.{product-small}
 use borrow.Author.Needs.{needs}

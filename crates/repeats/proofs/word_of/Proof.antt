@@ -1,7 +1,7 @@
 -- By the definition; a remainder is below 896.
 use mathlib.Core.Path.{ap}
 use native.Mathlib.Omega.{arith}
-use Prim.Native.Nat.{ℕ, _-_, _/_, _%_}
+use Prim.Native.Nat.{ℕ, _/_, _%_}
 use Rattle.repeats.specs.Marks.{wordOf}
 use borrow.Author.Needs.{needs}
 use Rattle.repeats.proofs.word_of.Statement.{statement}

@@ -6,9 +6,6 @@ use Rattle.rewrite.proofs.AddBytes.{insertable-end, added-file}
 use borrow.Author.Needs.{needs}
 use Rattle.rewrite.proofs.add_bytes.Statement.{statement}
 use Rattle.rewrite.proofs.add_bytes.Tie as tie
-use Rattle.rewrite.proofs.add_bytes.Reads as reads
-use Rattle.rewrite.proofs.add_bytes.Lts as lts
-use Rattle.rewrite.proofs.insert_bytes.Reads as insert-bytes-reads
 
 insert-bytes-requires : tie.Need-insert-bytes-requires
 insert-bytes-requires c κs =

@@ -7,10 +7,6 @@ use Rattle.rewrite.specs.Rewriting.{closed}
 use borrow.Author.Needs.{needs}
 use Rattle.rewrite.proofs.close_gap.Statement.{statement}
 use Rattle.rewrite.proofs.close_gap.Tie as tie
-use Rattle.rewrite.proofs.close_gap.Reads as reads
-use Rattle.rewrite.proofs.close_gap.Lts as lts
-use Rattle.moves.proofs.clear.Reads as clear-reads
-use Rattle.moves.proofs.shift.shift_left.Reads as shift-left-reads
 
 add-shift-left : tie.Need-add-shift-left
 add-shift-left c = search needs

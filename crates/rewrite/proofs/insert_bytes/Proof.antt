@@ -8,13 +8,6 @@ use Rattle.rewrite.proofs.InsertBytes.{relocated-risen, insert-written}
 use borrow.Author.Needs.{needs}
 use Rattle.rewrite.proofs.insert_bytes.Statement.{statement}
 use Rattle.rewrite.proofs.insert_bytes.Tie as tie
-use Rattle.rewrite.proofs.insert_bytes.Reads as reads
-use Rattle.rewrite.proofs.insert_bytes.Lts as lts
-use Rattle.moves.proofs.move_starts.Reads as move-starts-reads
-use Rattle.moves.proofs.put_chunk.Reads as put-chunk-reads
-use Rattle.moves.proofs.put_heading.Reads as put-heading-reads
-use Rattle.moves.proofs.put_words.Reads as put-words-reads
-use Rattle.moves.proofs.shift.shift_right.Reads as shift-right-reads
 
 add-size : tie.Need-add-size
 add-size c = search needs

@@ -1,4 +1,3 @@
-use native.Mathlib.Omega.{arith}
 use mathlib.Core.Path.{refl}
 use denote.Ref.{now}
 use Rattle.moves.specs.declared.Move.{Move}
@@ -7,12 +6,6 @@ use Rattle.rewrite.proofs.InsertBytes.{enter-written}
 use borrow.Author.Needs.{needs}
 use Rattle.rewrite.proofs.insert_entry.Statement.{statement}
 use Rattle.rewrite.proofs.insert_entry.Tie as tie
-use Rattle.rewrite.proofs.insert_entry.Reads as reads
-use Rattle.rewrite.proofs.insert_entry.Lts as lts
-use Rattle.moves.proofs.move_starts.Reads as move-starts-reads
-use Rattle.moves.proofs.put_heading.Reads as put-heading-reads
-use Rattle.moves.proofs.put_words.Reads as put-words-reads
-use Rattle.moves.proofs.shift.shift_right.Reads as shift-right-reads
 
 mul-entry : tie.Need-mul-entry
 mul-entry c = search needs

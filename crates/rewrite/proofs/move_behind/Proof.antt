@@ -9,9 +9,6 @@ use Rattle.rewrite.proofs.ReplaceBytes.{relocated-behind, starts-kept}
 use borrow.Author.Needs.{needs}
 use Rattle.rewrite.proofs.move_behind.Statement.{statement}
 use Rattle.rewrite.proofs.move_behind.Tie as tie
-use Rattle.rewrite.proofs.move_behind.Reads as reads
-use Rattle.rewrite.proofs.move_behind.Lts as lts
-use Rattle.moves.proofs.move_starts.Reads as move-starts-reads
 
 returns : tie.Need-returns
 returns c =

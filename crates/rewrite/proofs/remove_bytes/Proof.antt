@@ -1,4 +1,3 @@
-use native.Mathlib.Omega.{arith}
 use mathlib.Core.Path.{_≡_, refl}
 use Prim.Native.Nat.{_+_, _-_}
 use lib.ListN.{replicate}
@@ -9,12 +8,6 @@ use Rattle.rewrite.proofs.RemoveBytes.{relocated-fallen, remove-written
 use borrow.Author.Needs.{needs}
 use Rattle.rewrite.proofs.remove_bytes.Statement.{statement}
 use Rattle.rewrite.proofs.remove_bytes.Tie as tie
-use Rattle.rewrite.proofs.remove_bytes.Reads as reads
-use Rattle.rewrite.proofs.remove_bytes.Lts as lts
-use Rattle.moves.proofs.clear.Reads as clear-reads
-use Rattle.moves.proofs.move_starts.Reads as move-starts-reads
-use Rattle.moves.proofs.put_heading.Reads as put-heading-reads
-use Rattle.moves.proofs.shift.shift_left.Reads as shift-left-reads
 
 cast-t10 : tie.Need-cast-t10
 cast-t10 c = search needs

@@ -10,12 +10,6 @@ use Rattle.rewrite.proofs.ReplaceBytes.{replace-written}
 use borrow.Author.Needs.{needs}
 use Rattle.rewrite.proofs.replace_bytes.Statement.{statement}
 use Rattle.rewrite.proofs.replace_bytes.Tie as tie
-use Rattle.rewrite.proofs.replace_bytes.Reads as reads
-use Rattle.rewrite.proofs.replace_bytes.Lts as lts
-use Rattle.moves.proofs.put_chunk.Reads as put-chunk-reads
-use Rattle.moves.proofs.put_heading.Reads as put-heading-reads
-use Rattle.rewrite.proofs.move_behind.Reads as move-behind-reads
-use Rattle.rewrite.proofs.resize.Reads as resize-reads
 
 add-new : tie.Need-add-new
 add-new c = search needs

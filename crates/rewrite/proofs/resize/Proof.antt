@@ -6,10 +6,6 @@ use Rattle.rewrite.proofs.ReplaceBytes.{resized-same}
 use borrow.Author.Needs.{needs}
 use Rattle.rewrite.proofs.resize.Statement.{statement}
 use Rattle.rewrite.proofs.resize.Tie as tie
-use Rattle.rewrite.proofs.resize.Reads as reads
-use Rattle.rewrite.proofs.resize.Lts as lts
-use Rattle.rewrite.proofs.close_gap.Reads as close-gap-reads
-use Rattle.moves.proofs.shift.shift_right.Reads as shift-right-reads
 
 returns : tie.Need-returns
 returns c = let a = c .before .before .args in resized-same (now (a .buf)) (a .at) (a .len) (a .old) (a .new) (c .if1 .taken)

@@ -1,5 +1,5 @@
 -- At each turn the first numbers are loaded; a store changes no length, so every place below it lies in the slice.
-use Prim.Native.Nat.{_+_, _*_, _-_, _≤_}
+use Prim.Native.Nat.{_*_, _-_, _≤_}
 use mathlib.Core.Path.{_≡_, refl}
 use native.Mathlib.Omega.{arith}
 use lib.ListN.{length, length-set}

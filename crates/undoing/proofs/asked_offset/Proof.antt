@@ -3,9 +3,6 @@ use Rattle.undoing.proofs.UndoAsked.{asked-none, asked-start}
 use borrow.Author.Needs.{needs}
 use Rattle.undoing.proofs.asked_offset.Statement.{statement}
 use Rattle.undoing.proofs.asked_offset.Tie as tie
-use Rattle.undoing.proofs.asked_offset.Reads as reads
-use Rattle.undoing.proofs.asked_offset.Lts as lts
-use Rattle.undoing.proofs.less.Reads as less-reads
 
 cast-less : tie.Need-cast-less
 cast-less c = search needs

@@ -6,10 +6,6 @@ use Rattle.undoing.proofs.UndoTests.{chunk-read}
 use borrow.Author.Needs.{needs}
 use Rattle.undoing.proofs.chunk_allowed.Statement.{statement}
 use Rattle.undoing.proofs.chunk_allowed.Tie as tie
-use Rattle.undoing.proofs.chunk_allowed.Reads as reads
-use Rattle.undoing.proofs.chunk_allowed.Lts as lts
-use Rattle.blorb.proofs.be32_at.Reads as be32-at-reads
-use Rattle.blorb.proofs.type_allowed.Reads as type-allowed-reads
 
 be32-at-requires : tie.Need-be32-at-requires
 be32-at-requires c κs = search needs

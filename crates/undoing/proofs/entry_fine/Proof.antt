@@ -5,10 +5,6 @@ use Rattle.undoing.specs.UndoPlan.{entryFine}
 use borrow.Author.Needs.{needs}
 use Rattle.undoing.proofs.entry_fine.Statement.{statement}
 use Rattle.undoing.proofs.entry_fine.Tie as tie
-use Rattle.undoing.proofs.entry_fine.Reads as reads
-use Rattle.undoing.proofs.entry_fine.Lts as lts
-use Rattle.judging.proofs.judge.number_fits.Reads as number-fits-reads
-use Rattle.undoing.proofs.known_usage.Reads as known-usage-reads
 
 enum-told : tie.Need-enum-told
 enum-told c = search needs

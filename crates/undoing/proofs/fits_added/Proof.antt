@@ -4,9 +4,6 @@ use lib.Dec.{eqb}
 use borrow.Author.Needs.{needs}
 use Rattle.undoing.proofs.fits_added.Statement.{statement}
 use Rattle.undoing.proofs.fits_added.Tie as tie
-use Rattle.undoing.proofs.fits_added.Reads as reads
-use Rattle.undoing.proofs.fits_added.Lts as lts
-use Rattle.undoing.proofs.chunk_size.Reads as chunk-size-reads
 
 cast-end : tie.Need-cast-end
 cast-end c = search needs

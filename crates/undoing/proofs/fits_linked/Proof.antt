@@ -3,8 +3,6 @@ use mathlib.Core.Path.{refl}
 use borrow.Author.Needs.{needs}
 use Rattle.undoing.proofs.fits_linked.Statement.{statement}
 use Rattle.undoing.proofs.fits_linked.Tie as tie
-use Rattle.undoing.proofs.fits_linked.Reads as reads
-use Rattle.undoing.proofs.fits_linked.Lts as lts
 
 cast-result : tie.Need-cast-result
 cast-result c = search needs

@@ -3,9 +3,6 @@ use lib.Dec.{eqb, leb}
 use borrow.Author.Needs.{needs}
 use Rattle.undoing.proofs.fits_removed.Statement.{statement}
 use Rattle.undoing.proofs.fits_removed.Tie as tie
-use Rattle.undoing.proofs.fits_removed.Reads as reads
-use Rattle.undoing.proofs.fits_removed.Lts as lts
-use Rattle.undoing.proofs.less.Reads as less-reads
 
 cast-result : tie.Need-cast-result
 cast-result c = search needs

@@ -3,10 +3,6 @@ use Rattle.undoing.proofs.UndoTests.{too-far, both-sides}
 use borrow.Author.Needs.{needs}
 use Rattle.undoing.proofs.in_order.Statement.{statement}
 use Rattle.undoing.proofs.in_order.Tie as tie
-use Rattle.undoing.proofs.in_order.Reads as reads
-use Rattle.undoing.proofs.in_order.Lts as lts
-use Rattle.undoing.proofs.starts_below.Reads as starts-below-reads
-use Rattle.undoing.proofs.starts_from.Reads as starts-from-reads
 
 returns : tie.Need-returns
 returns c = too-far _ _ _ _ _ (c .if1 .taken)

@@ -4,9 +4,6 @@ use Rattle.undoing.specs.UndoPlan.{frontIs}
 use borrow.Author.Needs.{needs}
 use Rattle.undoing.proofs.is_front.Statement.{statement}
 use Rattle.undoing.proofs.is_front.Tie as tie
-use Rattle.undoing.proofs.is_front.Reads as reads
-use Rattle.undoing.proofs.is_front.Lts as lts
-use Rattle.judging.proofs.judge.is_picture.Reads as is-picture-reads
 
 enum-known-front : tie.Need-enum-known-front
 enum-known-front c = search needs

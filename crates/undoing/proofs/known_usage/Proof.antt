@@ -3,9 +3,6 @@ use Rattle.blorb.proofs.UsageLaws.{known-is, known-not}
 use borrow.Author.Needs.{needs}
 use Rattle.undoing.proofs.known_usage.Statement.{statement}
 use Rattle.undoing.proofs.known_usage.Tie as tie
-use Rattle.undoing.proofs.known_usage.Reads as reads
-use Rattle.undoing.proofs.known_usage.Lts as lts
-use Rattle.blorb.proofs.Usage.of_code.Reads as of-code-reads
 
 of-code-requires : tie.Need-of-code-requires
 of-code-requires c κs = search needs

@@ -3,9 +3,6 @@ use Rattle.undoing.specs.UndoPlan.{numbersIn}
 use borrow.Author.Needs.{needs}
 use Rattle.undoing.proofs.last_numbers.Statement.{statement}
 use Rattle.undoing.proofs.last_numbers.Tie as tie
-use Rattle.undoing.proofs.last_numbers.Reads as reads
-use Rattle.undoing.proofs.last_numbers.Lts as lts
-use Rattle.undoing.proofs.journal.last_record.Reads as last-record-reads
 
 last-record-requires : tie.Need-last-record-requires
 last-record-requires c κs = search needs

@@ -4,10 +4,6 @@ use Rattle.blorb.specs.Tags.{RIdx, Rect}
 use borrow.Author.Needs.{needs}
 use Rattle.undoing.proofs.old_fine.Statement.{statement}
 use Rattle.undoing.proofs.old_fine.Tie as tie
-use Rattle.undoing.proofs.old_fine.Reads as reads
-use Rattle.undoing.proofs.old_fine.Lts as lts
-use Rattle.blorb.proofs.type_allowed.Reads as type-allowed-reads
-use Rattle.undoing.proofs.is_front.Reads as is-front-reads
 
 cast-type-allowed : tie.Need-cast-type-allowed
 cast-type-allowed c = search needs

@@ -2,12 +2,6 @@ use Rattle.undoing.proofs.UndoTests.{added-not, added-fits}
 use borrow.Author.Needs.{needs}
 use Rattle.undoing.proofs.plan_added.Statement.{statement}
 use Rattle.undoing.proofs.plan_added.Tie as tie
-use Rattle.undoing.proofs.plan_added.Reads as reads
-use Rattle.undoing.proofs.plan_added.Lts as lts
-use Rattle.undoing.proofs.chunk_size.Reads as chunk-size-reads
-use Rattle.undoing.proofs.fits_added.Reads as fits-added-reads
-use Rattle.undoing.proofs.is_front.Reads as is-front-reads
-use Rattle.undoing.proofs.less.Reads as less-reads
 
 enum-known-target : tie.Need-enum-known-target
 enum-known-target c = search needs

@@ -14,13 +14,6 @@ use Rattle.undoing.proofs.UndoAsked.{
 use borrow.Author.Needs.{needs}
 use Rattle.undoing.proofs.plan_fitting.Statement.{statement}
 use Rattle.undoing.proofs.plan_fitting.Tie as tie
-use Rattle.undoing.proofs.plan_fitting.Reads as reads
-use Rattle.undoing.proofs.plan_fitting.Lts as lts
-use Rattle.undoing.proofs.plan_added.Reads as plan-added-reads
-use Rattle.undoing.proofs.plan_linked.Reads as plan-linked-reads
-use Rattle.undoing.proofs.plan_removed.Reads as plan-removed-reads
-use Rattle.undoing.proofs.plan_replaced.Reads as plan-replaced-reads
-use Rattle.undoing.proofs.plan_unlisted.Reads as plan-unlisted-reads
 
 plan-added-requires : tie.Need-plan-added-requires
 plan-added-requires c κs = search needs

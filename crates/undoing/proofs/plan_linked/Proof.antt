@@ -3,11 +3,6 @@ use Rattle.undoing.proofs.UndoTests.{linked-not, linked-fits}
 use borrow.Author.Needs.{needs}
 use Rattle.undoing.proofs.plan_linked.Statement.{statement}
 use Rattle.undoing.proofs.plan_linked.Tie as tie
-use Rattle.undoing.proofs.plan_linked.Reads as reads
-use Rattle.undoing.proofs.plan_linked.Lts as lts
-use Rattle.undoing.proofs.fits_linked.Reads as fits-linked-reads
-use Rattle.undoing.proofs.is_front.Reads as is-front-reads
-use Rattle.undoing.proofs.less.Reads as less-reads
 
 enum-known-target : tie.Need-enum-known-target
 enum-known-target c = search needs

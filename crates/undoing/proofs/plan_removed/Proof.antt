@@ -3,14 +3,6 @@ use Rattle.undoing.proofs.UndoTests.{removed-not, removed-fits}
 use borrow.Author.Needs.{needs}
 use Rattle.undoing.proofs.plan_removed.Statement.{statement}
 use Rattle.undoing.proofs.plan_removed.Tie as tie
-use Rattle.undoing.proofs.plan_removed.Reads as reads
-use Rattle.undoing.proofs.plan_removed.Lts as lts
-use Rattle.blorb.proofs.type_allowed.Reads as type-allowed-reads
-use Rattle.undoing.proofs.chunk_size.Reads as chunk-size-reads
-use Rattle.undoing.proofs.entry_fine.Reads as entry-fine-reads
-use Rattle.undoing.proofs.fits_removed.Reads as fits-removed-reads
-use Rattle.undoing.proofs.in_order.Reads as in-order-reads
-use Rattle.undoing.proofs.less.Reads as less-reads
 
 add-to : tie.Need-add-to
 add-to c = search needs

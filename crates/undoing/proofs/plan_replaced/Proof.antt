@@ -3,12 +3,6 @@ use Rattle.undoing.proofs.UndoTests.{replaced-none, replaced-not, repla
 use borrow.Author.Needs.{needs}
 use Rattle.undoing.proofs.plan_replaced.Statement.{statement}
 use Rattle.undoing.proofs.plan_replaced.Tie as tie
-use Rattle.undoing.proofs.plan_replaced.Reads as reads
-use Rattle.undoing.proofs.plan_replaced.Lts as lts
-use Rattle.undoing.proofs.chunk_size.Reads as chunk-size-reads
-use Rattle.undoing.proofs.fits_replaced.Reads as fits-replaced-reads
-use Rattle.undoing.proofs.less.Reads as less-reads
-use Rattle.undoing.proofs.old_fine.Reads as old-fine-reads
 
 enum-known-target : tie.Need-enum-known-target
 enum-known-target c = search needs

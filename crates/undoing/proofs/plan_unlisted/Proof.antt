@@ -3,12 +3,6 @@ use Rattle.undoing.proofs.UndoTests.{unlisted-none, begins-in, unlisted
 use borrow.Author.Needs.{needs}
 use Rattle.undoing.proofs.plan_unlisted.Statement.{statement}
 use Rattle.undoing.proofs.plan_unlisted.Tie as tie
-use Rattle.undoing.proofs.plan_unlisted.Reads as reads
-use Rattle.undoing.proofs.plan_unlisted.Lts as lts
-use Rattle.undoing.proofs.chunk_allowed.Reads as chunk-allowed-reads
-use Rattle.undoing.proofs.entry_fine.Reads as entry-fine-reads
-use Rattle.undoing.proofs.in_order.Reads as in-order-reads
-use Rattle.undoing.proofs.less.Reads as less-reads
 
 returns : tie.Need-returns
 returns c = unlisted-none (c .before .before .args .profile) (c .before .before .args .facts) (now (c .before .before .args .s)) (c .before .before .args .r)

@@ -3,9 +3,6 @@ use Rattle.undoing.proofs.UndoTests.{none-before, one-before}
 use borrow.Author.Needs.{needs}
 use Rattle.undoing.proofs.starts_below.Statement.{statement}
 use Rattle.undoing.proofs.starts_below.Tie as tie
-use Rattle.undoing.proofs.starts_below.Reads as reads
-use Rattle.undoing.proofs.starts_below.Lts as lts
-use Rattle.blorb.proofs.be32_at.Reads as be32-at-reads
 
 returns : tie.Need-returns
 returns c = none-before _ _ _ (c .if1 .taken)

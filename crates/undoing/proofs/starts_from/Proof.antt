@@ -3,9 +3,6 @@ use Rattle.undoing.proofs.UndoTests.{none-behind, one-behind}
 use borrow.Author.Needs.{needs}
 use Rattle.undoing.proofs.starts_from.Statement.{statement}
 use Rattle.undoing.proofs.starts_from.Tie as tie
-use Rattle.undoing.proofs.starts_from.Reads as reads
-use Rattle.undoing.proofs.starts_from.Lts as lts
-use Rattle.blorb.proofs.be32_at.Reads as be32-at-reads
 
 returns : tie.Need-returns
 returns c = none-behind _ _ _ _ (c .if1 .taken)

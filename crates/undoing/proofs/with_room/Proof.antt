@@ -2,8 +2,6 @@ use Rattle.undoing.proofs.UndoTests.{no-room, room-for, room-not}
 use borrow.Author.Needs.{needs}
 use Rattle.undoing.proofs.with_room.Statement.{statement}
 use Rattle.undoing.proofs.with_room.Tie as tie
-use Rattle.undoing.proofs.with_room.Reads as reads
-use Rattle.undoing.proofs.with_room.Lts as lts
 
 enum-known-plan : tie.Need-enum-known-plan
 enum-known-plan c = search needs

@@ -1,6 +1,5 @@
 -- Below 194 no first byte stands; from there to 223 the table asks only for a tail byte.
 use mathlib.Core.Path.{_≡_, sym, _∙_}
-use Prim.Native.Nat.{_+_}
 use native.Mathlib.Omega.{arith}
 use borrow.Author.Tests.{lt-ltb}
 use denote.Ref.{now}

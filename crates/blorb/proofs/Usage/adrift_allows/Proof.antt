@@ -4,10 +4,6 @@ use Rattle.blorb.proofs.UsageLaws.{adrift-pict, adrift-snd, adrift-data
 use borrow.Author.Needs.{needs}
 use Rattle.blorb.proofs.Usage.adrift_allows.Statement.{statement}
 use Rattle.blorb.proofs.Usage.adrift_allows.Tie as tie
-use Rattle.blorb.proofs.Usage.adrift_allows.Reads as reads
-use Rattle.blorb.proofs.Usage.adrift_allows.Lts as lts
-use Rattle.blorb.proofs.gif_type.Reads as gif-type-reads
-use Rattle.blorb.proofs.wav_type.Reads as wav-type-reads
 
 enum-told : tie.Need-enum-told
 enum-told c = search needs

@@ -3,10 +3,6 @@ use Rattle.blorb.proofs.UsageLaws.{allows-plain, allows-else}
 use borrow.Author.Needs.{needs}
 use Rattle.blorb.proofs.Usage.allows.Statement.{statement}
 use Rattle.blorb.proofs.Usage.allows.Tie as tie
-use Rattle.blorb.proofs.Usage.allows.Reads as reads
-use Rattle.blorb.proofs.Usage.allows.Lts as lts
-use Rattle.blorb.proofs.Usage.also_allows.Reads as also-allows-reads
-use Rattle.blorb.proofs.Usage.plain_allows.Reads as plain-allows-reads
 
 returns : tie.Need-returns
 returns c = allows-plain _ _ _ (sym (c .before .plain-allows .ensures) ∙ c .if1 .taken)

@@ -1,8 +1,6 @@
 use Rattle.blorb.proofs.UsageLaws.{code-pict, code-snd, code-data, code-exec, code-none}
 use Rattle.blorb.proofs.Usage.of_code.Statement.{statement}
 use Rattle.blorb.proofs.Usage.of_code.Tie as tie
-use Rattle.blorb.proofs.Usage.of_code.Reads as reads
-use Rattle.blorb.proofs.Usage.of_code.Lts as lts
 
 returns : tie.Need-returns
 returns c = code-pict _ (c .if1 .taken)

@@ -1,16 +1,9 @@
 -- Told the usage, only its own part of the definition is left, and that is the callee's answer.
-use Rattle.blorb.specs.declared.Usage.{Usage}
 use mathlib.Core.Path.{sym, _∙_}
 use Rattle.blorb.proofs.UsageLaws.{plain-pict, plain-data, plain-exec}
 use borrow.Author.Needs.{needs}
 use Rattle.blorb.proofs.Usage.plain_allows.Statement.{statement}
 use Rattle.blorb.proofs.Usage.plain_allows.Tie as tie
-use Rattle.blorb.proofs.Usage.plain_allows.Reads as reads
-use Rattle.blorb.proofs.Usage.plain_allows.Lts as lts
-use Rattle.blorb.proofs.data_type.Reads as data-type-reads
-use Rattle.blorb.proofs.exec_type.Reads as exec-type-reads
-use Rattle.blorb.proofs.pict_type.Reads as pict-type-reads
-use Rattle.blorb.proofs.sound_type.Reads as sound-type-reads
 
 enum-told : tie.Need-enum-told
 enum-told c = search needs

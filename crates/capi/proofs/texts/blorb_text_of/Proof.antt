@@ -5,7 +5,6 @@ use denote.Ref.{now}
 use borrow.Author.Needs.{needs}
 use Rattle.blorb.specs.Bytes.{rd32}
 use Rattle.capi.specs.TextNumbers.{toldNumbers}
-use Rattle.descriptions.specs.declared.Told.{Told}
 use Rattle.descriptions.specs.declared.Told.the-variants.{Text}
 use Rattle.capi.proofs.texts.blorb_text_of.Statement.{statement}
 use Rattle.capi.proofs.texts.blorb_text_of.Tie as tie

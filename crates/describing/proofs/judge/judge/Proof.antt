@@ -1,5 +1,5 @@
 -- The rows up to the first bad text are asked for a repeated pair: one there comes first, else the bad text does.
-use Prim.Native.Nat.{ℕ, _+_, _<_}
+use Prim.Native.Nat.{ℕ, _<_}
 use mathlib.Core.Path.{refl, sym, _∙_}
 use native.Mathlib.Omega.{arith}
 use lib.ListN.{getD}

@@ -2,9 +2,6 @@ use mathlib.Core.Path.{sym, _∙_}
 use borrow.Author.Needs.{needs}
 use Rattle.index.proofs.entries.begins_behind.Statement.{statement}
 use Rattle.index.proofs.entries.begins_behind.Tie as tie
-use Rattle.index.proofs.entries.begins_behind.Reads as reads
-use Rattle.index.proofs.entries.begins_behind.Lts as lts
-use Rattle.chunks.proofs.begins.Reads as begins-reads
 
 begins-requires : tie.Need-begins-requires
 begins-requires c κs = search needs

@@ -3,10 +3,6 @@ use Rattle.index.proofs.IndexLaws.{find-at, find-none}
 use borrow.Author.Needs.{needs}
 use Rattle.index.proofs.entries.find.Statement.{statement}
 use Rattle.index.proofs.entries.find.Tie as tie
-use Rattle.index.proofs.entries.find.Reads as reads
-use Rattle.index.proofs.entries.find.Lts as lts
-use Rattle.blorb.proofs.be32_at.Reads as be32-at-reads
-use Rattle.index.proofs.entries.find_place.Reads as find-place-reads
 
 find-place-requires : tie.Need-find-place-requires
 find-place-requires c κs = search needs

@@ -9,9 +9,6 @@ use Rattle.index.specs.Entries.{place, pairPlace}
 use Rattle.index.proofs.IndexLaws.{place-hit, place-next, place-end}
 use Rattle.index.proofs.entries.find_place.Statement.{statement}
 use Rattle.index.proofs.entries.find_place.Tie as tie
-use Rattle.index.proofs.entries.find_place.Reads as reads
-use Rattle.index.proofs.entries.find_place.Lts as lts
-use Rattle.blorb.proofs.be32_at.Reads as be32-at-reads
 
 abbrev Inv-loop : tie.InvT-loop
 Inv-loop s count code number i₀ i = (i ≤ count) × (i + pairPlace code number (entriesIn (count - i) (drop (place i) s)) ≡ pairPlace code number

@@ -6,14 +6,6 @@ use Rattle.index.proofs.EntryLaws.{unstarted, by-12, by-14, by-15, by-g
 use borrow.Author.Needs.{needs}
 use Rattle.index.proofs.entries.judge.Statement.{statement}
 use Rattle.index.proofs.entries.judge.Tie as tie
-use Rattle.index.proofs.entries.judge.Reads as reads
-use Rattle.index.proofs.entries.judge.Lts as lts
-use Rattle.blorb.proofs.Usage.of_code.Reads as of-code-reads
-use Rattle.blorb.proofs.be32_at.Reads as be32-at-reads
-use Rattle.index.proofs.entries.begins_behind.Reads as begins-behind-reads
-use Rattle.index.proofs.entries.numbered.Reads as numbered-reads
-use Rattle.index.proofs.entries.typed.Reads as typed-reads
-use Rattle.index.proofs.entries.unstarted.Reads as unstarted-reads
 
 add-be32-at : tie.Need-add-be32-at
 add-be32-at c = search needs

@@ -9,10 +9,6 @@ use Rattle.index.proofs.EntryLaws.{chunk-at}
 use borrow.Author.Needs.{needs}
 use Rattle.index.proofs.entries.plainly_typed.Statement.{statement}
 use Rattle.index.proofs.entries.plainly_typed.Tie as tie
-use Rattle.index.proofs.entries.plainly_typed.Reads as reads
-use Rattle.index.proofs.entries.plainly_typed.Lts as lts
-use Rattle.blorb.proofs.Usage.plain_allows.Reads as plain-allows-reads
-use Rattle.blorb.proofs.be32_at.Reads as be32-at-reads
 
 add-from : tie.Need-add-from
 add-from c = search needs

@@ -5,9 +5,6 @@ use Rattle.blorb.proofs.NumberLaws.{key-eqb}
 use borrow.Author.Needs.{needs}
 use Rattle.index.proofs.entries.same_pair.Statement.{statement}
 use Rattle.index.proofs.entries.same_pair.Tie as tie
-use Rattle.index.proofs.entries.same_pair.Reads as reads
-use Rattle.index.proofs.entries.same_pair.Lts as lts
-use Rattle.index.proofs.entries.pair_key.Reads as pair-key-reads
 
 mul-pair-key : tie.Need-mul-pair-key
 mul-pair-key c = search needs

@@ -4,9 +4,6 @@ use Rattle.index.proofs.IndexLaws.{shape-short, shape-room, shape-other
 use borrow.Author.Needs.{needs}
 use Rattle.index.proofs.entries.shape.Statement.{statement}
 use Rattle.index.proofs.entries.shape.Tie as tie
-use Rattle.index.proofs.entries.shape.Reads as reads
-use Rattle.index.proofs.entries.shape.Lts as lts
-use Rattle.blorb.proofs.be32_at.Reads as be32-at-reads
 
 be32-at-requires : tie.Need-be32-at-requires
 be32-at-requires c κs = let i = fine _ 12 (c .before .pre .0) (c .before .pre .1) in omega (arith, i .header)

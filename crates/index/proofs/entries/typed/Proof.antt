@@ -7,8 +7,6 @@ use Rattle.index.proofs.EntryLaws.{typed-plain, typed-else}
 use borrow.Author.Needs.{needs}
 use Rattle.index.proofs.entries.typed.Statement.{statement}
 use Rattle.index.proofs.entries.typed.Tie as tie
-use Rattle.index.proofs.entries.typed.Reads as reads
-use Rattle.index.proofs.entries.typed.Lts as lts
 
 returns : tie.Need-returns
 returns c =

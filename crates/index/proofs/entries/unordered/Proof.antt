@@ -3,8 +3,6 @@ use mathlib.Core.Path.{refl}
 use borrow.Author.Needs.{needs}
 use Rattle.index.proofs.entries.unordered.Statement.{statement}
 use Rattle.index.proofs.entries.unordered.Tie as tie
-use Rattle.index.proofs.entries.unordered.Reads as reads
-use Rattle.index.proofs.entries.unordered.Lts as lts
 
 returns : tie.Need-returns
 returns c = refl

@@ -3,10 +3,6 @@ use Rattle.index.proofs.EntryLaws.{unstarted-12, unstarted-13}
 use borrow.Author.Needs.{needs}
 use Rattle.index.proofs.entries.unstarted.Statement.{statement}
 use Rattle.index.proofs.entries.unstarted.Tie as tie
-use Rattle.index.proofs.entries.unstarted.Reads as reads
-use Rattle.index.proofs.entries.unstarted.Lts as lts
-use Rattle.blorb.proofs.Usage.of_code.Reads as of-code-reads
-use Rattle.blorb.proofs.be32_at.Reads as be32-at-reads
 
 be32-at-requires : tie.Need-be32-at-requires
 be32-at-requires c κs = search needs

@@ -7,10 +7,6 @@ use Rattle.index.proofs.OptionalLaws.{front-none, front-rect, front-the
 use borrow.Author.Needs.{needs}
 use Rattle.index.proofs.optional.frontispiece.Statement.{statement}
 use Rattle.index.proofs.optional.frontispiece.Tie as tie
-use Rattle.index.proofs.optional.frontispiece.Reads as reads
-use Rattle.index.proofs.optional.frontispiece.Lts as lts
-use Rattle.blorb.proofs.be32_at.Reads as be32-at-reads
-use Rattle.index.proofs.entries.find.Reads as find-reads
 
 add-be32-at : tie.Need-add-be32-at
 add-be32-at c = search needs

@@ -8,14 +8,8 @@ use Prim.Native.Nat.{_-_}
 use lib.ListN.{length}
 use Rattle.index.specs.Optional.{pictured, rulesFrom, optionalFault}
 use Rattle.index.proofs.OptionalLaws.{rules-end, rules-next, rules-stop}
-use Rattle.index.proofs.optional.or_is.Reads as or-is-reads
 use Rattle.index.proofs.optional.optional.Statement.{statement}
 use Rattle.index.proofs.optional.optional.Tie as tie
-use Rattle.index.proofs.optional.optional.Reads as reads
-use Rattle.index.proofs.optional.optional.Lts as lts
-use Rattle.blorb.proofs.be32_at.Reads as be32-at-reads
-use Rattle.chunks.proofs.skip.Reads as skip-reads
-use Rattle.index.proofs.optional.optional_chunk.Reads as optional-chunk-reads
 
 abbrev Inv-loop : tie.InvT-loop
 Inv-loop s count at₀ reln₀ fspc₀ at reln fspc = (walkFrom s at ≡ accept) × (rulesFrom (pictured s count) reln fspc at (chunksFrom s at) ≡ optionalFault s count)

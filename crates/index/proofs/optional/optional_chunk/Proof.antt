@@ -6,11 +6,6 @@ use Rattle.index.proofs.OptionalLaws.{single-length, rule-none, rule-re
 use borrow.Author.Needs.{needs}
 use Rattle.index.proofs.optional.optional_chunk.Statement.{statement}
 use Rattle.index.proofs.optional.optional_chunk.Tie as tie
-use Rattle.index.proofs.optional.optional_chunk.Reads as reads
-use Rattle.index.proofs.optional.optional_chunk.Lts as lts
-use Rattle.blorb.proofs.be32_at.Reads as be32-at-reads
-use Rattle.index.proofs.optional.frontispiece.Reads as frontispiece-reads
-use Rattle.index.proofs.optional.single.Reads as single-reads
 
 be32-at-requires : tie.Need-be32-at-requires
 be32-at-requires c κs = omega (arith, fine _ _ (c .before .pre .1) (c .before .pre .2) .header)

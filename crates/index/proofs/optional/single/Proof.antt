@@ -4,9 +4,6 @@ use Rattle.index.proofs.OptionalLaws.{single-17, single-18, single-good
 use borrow.Author.Needs.{needs}
 use Rattle.index.proofs.optional.single.Statement.{statement}
 use Rattle.index.proofs.optional.single.Tie as tie
-use Rattle.index.proofs.optional.single.Reads as reads
-use Rattle.index.proofs.optional.single.Lts as lts
-use Rattle.blorb.proofs.be32_at.Reads as be32-at-reads
 
 returns : tie.Need-returns
 returns c = single-17 _ _ (c .before .before .pre .0) (c .before .before .pre .1) _ _ (c .if1 .taken)

@@ -4,9 +4,6 @@ use borrow.Author.Tests.{lt-ltb, le-ltb}
 use borrow.Author.Needs.{needs}
 use Rattle.moves.proofs.Move.start.Statement.{statement}
 use Rattle.moves.proofs.Move.start.Tie as tie
-use Rattle.moves.proofs.Move.start.Reads as reads
-use Rattle.moves.proofs.Move.start.Lts as lts
-use Rattle.moves.proofs.less.Reads as less-reads
 
 cast-if1 : tie.Need-cast-if1
 cast-if1 c = search needs

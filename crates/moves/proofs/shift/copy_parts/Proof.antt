@@ -8,10 +8,6 @@ use denote.Ref.{now}
 use Rattle.moves.proofs.ShiftLaws as laws
 use Rattle.moves.proofs.shift.copy_parts.Statement.{statement}
 use Rattle.moves.proofs.shift.copy_parts.Tie as tie
-use Rattle.moves.proofs.shift.copy_parts.Reads as reads
-use Rattle.moves.proofs.shift.copy_parts.Lts as lts
-use Rattle.moves.proofs.shift.copy_part.Reads as copy-part-reads
-use Rattle.moves.proofs.shift.part_of.Reads as part-of-reads
 
 abbrev Inv-loop : tie.InvT-loop
 Inv-loop buf₀ at d i₀ buf i = (i ≤ length d) × (length buf ≡ length buf₀) × (buf ≡ paste buf₀ at d i)

@@ -8,8 +8,6 @@ use denote.Ref.{now}
 use Rattle.moves.proofs.ShiftLaws as laws
 use Rattle.moves.proofs.shift.put_bytes.Statement.{statement}
 use Rattle.moves.proofs.shift.put_bytes.Tie as tie
-use Rattle.moves.proofs.shift.put_bytes.Reads as reads
-use Rattle.moves.proofs.shift.put_bytes.Lts as lts
 
 abbrev Inv-loop : tie.InvT-loop
 Inv-loop buf₀ at d n i₀ buf i = (i ≤ n) × (length buf ≡ length buf₀) × (buf ≡ paste buf₀ at d i)

@@ -7,10 +7,6 @@ use Rattle.moves.specs.Shift.{slid}
 use Rattle.moves.proofs.ShiftLaws as laws
 use Rattle.moves.proofs.shift.shift_right.Statement.{statement}
 use Rattle.moves.proofs.shift.shift_right.Tie as tie
-use Rattle.moves.proofs.shift.shift_right.Reads as reads
-use Rattle.moves.proofs.shift.shift_right.Lts as lts
-use Rattle.moves.proofs.shift.move_part.Reads as move-part-reads
-use Rattle.moves.proofs.shift.part_of.Reads as part-of-reads
 
 abbrev Inv-loop : tie.InvT-loop
 Inv-loop buf₀ at len k i₀ buf i = laws.Right buf₀ at len k buf i

@@ -2,9 +2,6 @@ use Rattle.chunks.proofs.StartLaws.{before-base}
 use borrow.Author.Needs.{needs}
 use Rattle.reader.proofs.parts.begins_at.Statement.{statement}
 use Rattle.reader.proofs.parts.begins_at.Tie as tie
-use Rattle.reader.proofs.parts.begins_at.Reads as reads
-use Rattle.reader.proofs.parts.begins_at.Lts as lts
-use Rattle.chunks.proofs.begins.Reads as begins-reads
 
 returns : tie.Need-returns
 returns c = before-base _ _ _ (c .if1 .taken)

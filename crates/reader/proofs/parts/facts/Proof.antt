@@ -2,11 +2,6 @@ use Rattle.reader.proofs.PartLaws.{facts-are}
 use borrow.Author.Needs.{needs}
 use Rattle.reader.proofs.parts.facts.Statement.{statement}
 use Rattle.reader.proofs.parts.facts.Tie as tie
-use Rattle.reader.proofs.parts.facts.Reads as reads
-use Rattle.reader.proofs.parts.facts.Lts as lts
-use Rattle.reader.proofs.parts.begins_at.Reads as begins-at-reads
-use Rattle.reader.proofs.parts.front_if.Reads as front-if-reads
-use Rattle.reader.proofs.parts.target.Reads as target-reads
 
 target-requires : tie.Need-target-requires
 target-requires c κs = search needs

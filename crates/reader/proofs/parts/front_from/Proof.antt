@@ -11,10 +11,6 @@ use Rattle.chunks.proofs.ChunkLaws.{fine, walked}
 use Rattle.reader.proofs.FrontLaws.{front-end, front-room, front-hit, front-next}
 use Rattle.reader.proofs.parts.front_from.Statement.{statement}
 use Rattle.reader.proofs.parts.front_from.Tie as tie
-use Rattle.reader.proofs.parts.front_from.Reads as reads
-use Rattle.reader.proofs.parts.front_from.Lts as lts
-use Rattle.blorb.proofs.be32_at.Reads as be32-at-reads
-use Rattle.chunks.proofs.skip.Reads as skip-reads
 
 abbrev Inv-loop : tie.InvT-loop
 Inv-loop s from at₀ at = (walkFrom s at ≡ accept) × Fronts (chunksFrom s at) × (frontFrom at (chunksFrom s at) ≡ frontFrom from (chunksFrom s from))

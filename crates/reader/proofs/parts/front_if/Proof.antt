@@ -4,9 +4,6 @@ use Rattle.reader.proofs.FrontLaws.{front-is, front-ordinary, passed-fr
 use borrow.Author.Needs.{needs}
 use Rattle.reader.proofs.parts.front_if.Statement.{statement}
 use Rattle.reader.proofs.parts.front_if.Tie as tie
-use Rattle.reader.proofs.parts.front_if.Reads as reads
-use Rattle.reader.proofs.parts.front_if.Lts as lts
-use Rattle.reader.proofs.parts.front_from.Reads as front-from-reads
 
 returns : tie.Need-returns
 returns c = front-ordinary _ _ (c .before .before .pre .1 (c .if1 .taken))

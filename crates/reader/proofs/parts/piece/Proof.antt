@@ -3,10 +3,6 @@ use Rattle.reader.proofs.PartLaws.{entry-room, piece-is}
 use borrow.Author.Needs.{needs}
 use Rattle.reader.proofs.parts.piece.Statement.{statement}
 use Rattle.reader.proofs.parts.piece.Tie as tie
-use Rattle.reader.proofs.parts.piece.Reads as reads
-use Rattle.reader.proofs.parts.piece.Lts as lts
-use Rattle.blorb.proofs.be32_at.Reads as be32-at-reads
-use Rattle.reader.proofs.parts.start_again.Reads as start-again-reads
 
 mul-be32-at : tie.Need-mul-be32-at
 mul-be32-at c = search needs

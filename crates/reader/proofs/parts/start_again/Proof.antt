@@ -9,9 +9,6 @@ use Rattle.index.specs.Entries.{place, startAgain}
 use Rattle.reader.proofs.PartLaws.{again-hit, again-next, again-end}
 use Rattle.reader.proofs.parts.start_again.Statement.{statement}
 use Rattle.reader.proofs.parts.start_again.Tie as tie
-use Rattle.reader.proofs.parts.start_again.Reads as reads
-use Rattle.reader.proofs.parts.start_again.Lts as lts
-use Rattle.blorb.proofs.be32_at.Reads as be32-at-reads
 
 abbrev Inv-loop : tie.InvT-loop
 Inv-loop s count i start j₀ j = (j ≤ count) × (startAgain start i j (entriesIn (count - j) (drop (place j) s)) ≡ startAgain start i 0

@@ -3,10 +3,6 @@ use Rattle.reader.proofs.PartLaws.{target-there, target-none}
 use borrow.Author.Needs.{needs}
 use Rattle.reader.proofs.parts.target.Statement.{statement}
 use Rattle.reader.proofs.parts.target.Tie as tie
-use Rattle.reader.proofs.parts.target.Reads as reads
-use Rattle.reader.proofs.parts.target.Lts as lts
-use Rattle.index.proofs.entries.find_place.Reads as find-place-reads
-use Rattle.reader.proofs.parts.piece.Reads as piece-reads
 
 find-place-requires : tie.Need-find-place-requires
 find-place-requires c κs = search needs

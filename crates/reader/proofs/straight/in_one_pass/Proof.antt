@@ -1,16 +1,10 @@
 -- The head and the index's length are tested here, the rest by the pass over chunks and entries.
-use native.Mathlib.Omega.{arith}
 use mathlib.Core.Path.{sym, ap, _∙_}
 use Rattle.chunks.specs.Walk.{verdictOf}
 use Rattle.reader.proofs.StraightLaws.{straight-told}
 use borrow.Author.Needs.{needs}
 use Rattle.reader.proofs.straight.in_one_pass.Statement.{statement}
 use Rattle.reader.proofs.straight.in_one_pass.Tie as tie
-use Rattle.reader.proofs.straight.in_one_pass.Reads as reads
-use Rattle.reader.proofs.straight.in_one_pass.Lts as lts
-use Rattle.blorb.proofs.be32_at.Reads as be32-at-reads
-use Rattle.chunks.proofs.head.Reads as head-reads
-use Rattle.reader.proofs.straight.side_by_side.Reads as side-by-side-reads
 
 returns-7 : tie.Need-returns-7
 returns-7 c = straight-told _ _ _ _ (sym (c .before .before .before .before .before .before .before .before .before .before .before .head .ensures)

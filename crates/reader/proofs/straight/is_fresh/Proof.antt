@@ -1,16 +1,12 @@
 -- A number not below all of its usage repeats none of them; else the entries before it are looked at.
 use native.Mathlib.Omega.{arith}
-use mathlib.Core.Path.{_≡_, sym, _∙_}
+use mathlib.Core.Path.{sym, _∙_}
 use borrow.Author.Tests.{not-true}
 use denote.Ref.{now}
 use Rattle.index.proofs.EntryLaws.{fresh}
 use borrow.Author.Needs.{needs}
 use Rattle.reader.proofs.straight.is_fresh.Statement.{statement}
 use Rattle.reader.proofs.straight.is_fresh.Tie as tie
-use Rattle.reader.proofs.straight.is_fresh.Reads as reads
-use Rattle.reader.proofs.straight.is_fresh.Lts as lts
-use Rattle.blorb.proofs.be32_at.Reads as be32-at-reads
-use Rattle.reader.proofs.straight.repeats.Reads as repeats-reads
 
 returns : tie.Need-returns
 returns c = λ e base.

@@ -1,7 +1,7 @@
 -- Each chunk that is passed over has no fault and is no index, so the walk has come one chunk further.
 use borrow.Author.Needs.{needs}
 use native.Mathlib.Omega.{arith}
-use mathlib.Core.Path.{_≡_, refl, sym, ap, _∙_}
+use mathlib.Core.Path.{_≡_, sym, ap, _∙_}
 use Prim.Native.Nat.{_+_, _-_, _≤_}
 use denote.Ref.{now}
 use lib.ListN.{length, drop}
@@ -12,12 +12,6 @@ use Rattle.chunks.proofs.ChunkLaws.{chunk-good-header}
 use Rattle.reader.proofs.StraightLaws.{came-none, came-next}
 use Rattle.reader.proofs.straight.pass_over.Statement.{statement}
 use Rattle.reader.proofs.straight.pass_over.Tie as tie
-use Rattle.reader.proofs.straight.pass_over.Reads as reads
-use Rattle.reader.proofs.straight.pass_over.Lts as lts
-use Rattle.blorb.proofs.be32_at.Reads as be32-at-reads
-use Rattle.chunks.proofs.chunk.Reads as chunk-reads
-use Rattle.chunks.proofs.is_ordinary.Reads as is-ordinary-reads
-use Rattle.chunks.proofs.skip.Reads as skip-reads
 
 abbrev Inv-loop : tie.InvT-loop
 Inv-loop s from to at₀ ordinary₀ at ordinary = CameTo s from at ordinary

@@ -10,9 +10,6 @@ use Rattle.index.specs.Entries.{usageAt, numberAt, place, earlier}
 use Rattle.index.proofs.EntryLaws.{pair-none, pair-more, pair-hit}
 use Rattle.reader.proofs.straight.repeats.Statement.{statement}
 use Rattle.reader.proofs.straight.repeats.Tie as tie
-use Rattle.reader.proofs.straight.repeats.Reads as reads
-use Rattle.reader.proofs.straight.repeats.Lts as lts
-use Rattle.index.proofs.entries.same_pair.Reads as same-pair-reads
 
 abbrev Inv-loop : tie.InvT-loop
 Inv-loop s j i₀ i = (i ≤ j) × ((base : ℕ) → pairIn (usageAt s (place j)) (numberAt s (place j)) (earlier s base i) ≡ false)

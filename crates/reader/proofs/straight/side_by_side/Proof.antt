@@ -2,7 +2,7 @@
 -- remembered is allowed whatever comes, so an entry like it suits too.
 use borrow.Author.Needs.{needs}
 use native.Mathlib.Omega.{arith}
-use Prim.Native.Nat.{ℕ, _+_, _-_, _≤_, _<_}
+use Prim.Native.Nat.{ℕ, _-_, _≤_}
 use mathlib.Core.Path.{_≡_, refl, sym, ap, _∙_}
 use mathlib.Core.Bool.{_&&_}
 use denote.Ref.{now}
@@ -10,21 +10,12 @@ use lib.ListN.{length, length-set}
 use borrow.Author.Tests.{not-false}
 use Rattle.blorb.specs.Verdict.{accept}
 use Rattle.chunks.specs.Walk.{walkFrom}
-use Rattle.index.specs.Entries.{usageAt, numberAt, startAt, place, Below, slotOf}
+use Rattle.index.specs.Entries.{place, Below, slotOf}
 use Rattle.reader.specs.Straight.{Stands, Remembered, SoFar}
 use Rattle.index.proofs.EntryLaws.{topped, below-next}
 use Rattle.reader.proofs.StraightLaws.{came-none, came-then, came-end, sofar-none, sofar-next, sofar-end}
 use Rattle.reader.proofs.straight.side_by_side.Statement.{statement}
 use Rattle.reader.proofs.straight.side_by_side.Tie as tie
-use Rattle.reader.proofs.straight.side_by_side.Reads as reads
-use Rattle.reader.proofs.straight.side_by_side.Lts as lts
-use Rattle.blorb.proofs.be32_at.Reads as be32-at-reads
-use Rattle.index.proofs.entries.slot.Reads as slot-reads
-use Rattle.reader.proofs.straight.above.Reads as above-reads
-use Rattle.reader.proofs.straight.is_fresh.Reads as is-fresh-reads
-use Rattle.reader.proofs.straight.pass_over.Reads as pass-over-reads
-use Rattle.reader.proofs.straight.step_to.Reads as step-to-reads
-use Rattle.reader.proofs.straight.suits_like.Reads as suits-like-reads
 
 abbrev Inv-loop : tie.InvT-loop
 Inv-loop s profile count tops₀ found₀ at₀ ordinary₀ usage₀ kind₀ j₀ tops found at ordinary usage kind j =

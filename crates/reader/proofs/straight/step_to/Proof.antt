@@ -1,24 +1,16 @@
 -- The entry's chunk is the one before, or the walk comes to it over good chunks and it is good itself.
 use native.Mathlib.Omega.{arith}
-use Prim.Native.Nat.{ℕ, _+_, _≤_}
+use Prim.Native.Nat.{_+_, _≤_}
 use mathlib.Core.Path.{_≡_, sym, ap, _∙_}
 use denote.Ref.{now}
 use lib.ListN.{length, drop}
 use Rattle.blorb.specs.Verdict.{accept, chunkFault}
 use Rattle.chunks.specs.Walk.{verdictOf}
-use Rattle.reader.specs.Straight.{CameTo}
 use Rattle.chunks.proofs.ChunkLaws.{chunk-good-header}
 use Rattle.reader.proofs.StraightLaws.{step-same, step-on}
 use borrow.Author.Needs.{needs}
 use Rattle.reader.proofs.straight.step_to.Statement.{statement}
 use Rattle.reader.proofs.straight.step_to.Tie as tie
-use Rattle.reader.proofs.straight.step_to.Reads as reads
-use Rattle.reader.proofs.straight.step_to.Lts as lts
-use Rattle.blorb.proofs.be32_at.Reads as be32-at-reads
-use Rattle.chunks.proofs.chunk.Reads as chunk-reads
-use Rattle.chunks.proofs.is_ordinary.Reads as is-ordinary-reads
-use Rattle.chunks.proofs.skip.Reads as skip-reads
-use Rattle.reader.proofs.straight.pass_over.Reads as pass-over-reads
 
 returns : tie.Need-returns
 returns c = λ base q s. step-same _ _ _ _ _ q (c .if1 .taken) s
@@ -41,8 +33,10 @@ skip-requires c κs = header (c .before .before)
 
 returns-6 : tie.Need-returns-6
 returns-6 c = λ base q s.
-    step-on _ base _ _ _ _ _ q _ _ (rw (c .before .before .before .before .before .before .before .before .before .if2 .left) at
-    (c .before .before .before .before .before .before .before .before .before .before .before .pass-over .ensures))
+    let walk = c .before .before .before .before .before .before .before .before .before .before .before .pass-over in
+    let a = c .before .before .before .before .before .before .before .before .before .before .before .before .before .before .args in
+    let there : walk .result .at ≡ a .start = c .before .before .before .before .before .before .before .before .before .if2 .left in
+    step-on _ base _ _ _ _ _ q _ _ (rw there at (walk .ensures))
     (c .before .before .before .before .before .before .before .before .if3 .left) (good (c .before .before .before .before .before))
     (c .before .before .before .before .be32-at .ensures .0) (c .before .before .before .if4 .left)
     (c .before .is-ordinary .ensures) (c .before .before .skip .ensures) s

@@ -16,13 +16,6 @@ use Rattle.reader.proofs.StraightLaws.{suits-not, suits-good}
 use borrow.Author.Needs.{needs}
 use Rattle.reader.proofs.straight.suits.Statement.{statement}
 use Rattle.reader.proofs.straight.suits.Tie as tie
-use Rattle.reader.proofs.straight.suits.Reads as reads
-use Rattle.reader.proofs.straight.suits.Lts as lts
-use Rattle.blorb.proofs.Usage.also_allows.Reads as also-allows-reads
-use Rattle.blorb.proofs.Usage.of_code.Reads as of-code-reads
-use Rattle.blorb.proofs.be32_at.Reads as be32-at-reads
-use Rattle.index.proofs.entries.numbered.Reads as numbered-reads
-use Rattle.index.proofs.entries.plainly_typed.Reads as plainly-typed-reads
 
 -- an entry of an allowed type suits where its number does
 allowed : (c : tie.After-known-told) (n : ℕ) (r : Bool) →

@@ -1,18 +1,12 @@
 -- An entry like the remembered one suits; of any other it is asked, and it is remembered where every one like it suits too.
 use borrow.Author.Needs.{needs}
 use native.Mathlib.Omega.{arith}
-use mathlib.Core.Path.{_≡_, sym, _∙_}
-use mathlib.Core.Bool.{true}
+use mathlib.Core.Path.{sym, _∙_}
 use borrow.Author.Tests.{not-false}
 use Rattle.chunks.proofs.ChunkLaws.{whole}
 use Rattle.reader.proofs.StraightLaws.{suits-again, suits-lasting}
 use Rattle.reader.proofs.straight.suits_like.Statement.{statement}
 use Rattle.reader.proofs.straight.suits_like.Tie as tie
-use Rattle.reader.proofs.straight.suits_like.Reads as reads
-use Rattle.reader.proofs.straight.suits_like.Lts as lts
-use Rattle.blorb.proofs.be32_at.Reads as be32-at-reads
-use Rattle.reader.proofs.straight.lasts.Reads as lasts-reads
-use Rattle.reader.proofs.straight.suits.Reads as suits-reads
 
 be32-at-requires-2 : tie.Need-be32-at-requires-2
 be32-at-requires-2 c κs = omega (arith, whole _ _ (c .before .before .pre .1) (c .before .before .pre .2) .header)

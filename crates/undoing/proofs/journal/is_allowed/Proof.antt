@@ -1,8 +1,6 @@
 use borrow.Author.Tests.{eq-eqb, ne-eqb}
 use Rattle.undoing.proofs.journal.is_allowed.Statement.{statement}
 use Rattle.undoing.proofs.journal.is_allowed.Tie as tie
-use Rattle.undoing.proofs.journal.is_allowed.Reads as reads
-use Rattle.undoing.proofs.journal.is_allowed.Lts as lts
 
 returns : tie.Need-returns
 returns c = rw (eq-eqb _ _ (c .if1 .taken))

@@ -5,11 +5,6 @@ use Rattle.undoing.proofs.LastRead.{is-bad, other-length, not-allowed, 
 use borrow.Author.Needs.{needs}
 use Rattle.undoing.proofs.journal.last_record.Statement.{statement}
 use Rattle.undoing.proofs.journal.last_record.Tie as tie
-use Rattle.undoing.proofs.journal.last_record.Reads as reads
-use Rattle.undoing.proofs.journal.last_record.Lts as lts
-use Rattle.blorb.proofs.be32_at.Reads as be32-at-reads
-use Rattle.undoing.proofs.journal.is_allowed.Reads as is-allowed-reads
-use Rattle.undoing.proofs.journal.record_at.Reads as record-at-reads
 
 returns : tie.Need-returns
 returns c = is-bad _ (short-part _ _ (c .before .before .pre) (c .if1 .taken))

@@ -4,9 +4,6 @@ use Rattle.undoing.specs.LastRecord.{recordAt}
 use borrow.Author.Needs.{needs}
 use Rattle.undoing.proofs.journal.record_at.Statement.{statement}
 use Rattle.undoing.proofs.journal.record_at.Tie as tie
-use Rattle.undoing.proofs.journal.record_at.Reads as reads
-use Rattle.undoing.proofs.journal.record_at.Lts as lts
-use Rattle.blorb.proofs.be32_at.Reads as be32-at-reads
 
 shared-slice-read-t4 : tie.Need-shared-slice-read-t4
 shared-slice-read-t4 c = search needs
