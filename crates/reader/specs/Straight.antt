@@ -2,17 +2,17 @@
 use Prim.Native.Nat.{ℕ, _-_, _≤_, _<_}
 use mathlib.Core.Path.{_≡_}
 use mathlib.Core.List.{List}
-use mathlib.Core.Bool.{Bool, true, _&&_, not}
+use mathlib.Core.Bool.{Bool, true, false, _&&_, not}
 use lib.ListN.{length, drop}
 use lib.Dec.{eqb}
 use Rattle.blorb.specs.Format.{isStart, chunkOf}
 use Rattle.blorb.specs.Usages.{codeOf}
 use Rattle.blorb.specs.Rules.{allows}
-use Rattle.blorb.specs.Verdict.{accept, chunkFault, secondIndex, knownUsage}
+use Rattle.blorb.specs.Verdict.{accept, chunkFault, secondIndex, knownUsage, pairIn}
 use Rattle.blorb.specs.declared.Usage.the-variants.{Exec}
 use Rattle.chunks.specs.Walk.{chunksFrom, walkFrom, Reached}
 use Rattle.chunks.specs.Ordinary.{allOrdinary, Along}
-use Rattle.index.specs.Entries.{startAt, place, entryFault, entriesFrom, Before}
+use Rattle.index.specs.Entries.{usageAt, numberAt, startAt, place, entryFault, entriesFrom, earlier, Before}
 use Rattle.reader.specs.Passed.{JudgesEntries}
 use Rattle.reader.specs.declared.Judgement.the-variants as judgement
 use Rattle.reader.specs.declared.straight.Fit.{Fit}
@@ -63,6 +63,10 @@ Remembered profile usage kind = usage < 4294967296 → Allowed profile usage kin
 abbrev pub Fitted : (profile : ℕ) → Fit → List ℕ → ℕ → Type 0
 Fitted profile (Suited usage kind) f p = Suits profile true f p × Remembered profile usage kind
 Fitted profile Unfit f p = Unit {0}
+
+-- none of the first i entries has the pair of entry j
+abbrev pub FreshTo : List ℕ → (base j i : ℕ) → Type 0
+FreshTo f base j i = pairIn (usageAt f (place j)) (numberAt f (place j)) (earlier f base i) ≡ false
 
 -- of an accepted walk: what the first j of count entries leave to judge
 pub record SoFar (profile : ℕ) (f : List ℕ) (base count j found at : ℕ) : Type 0 where

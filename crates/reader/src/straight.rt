@@ -11,9 +11,9 @@ ghost use lib.Dec.{eqb};
 ghost use Rattle.blorb.specs.Tags.{Rect, FORM};
 ghost use Rattle.blorb.specs.Usages.{codeOf};
 ghost use Rattle.blorb.specs.declared.Usage.the-variants.{Exec};
-ghost use Rattle.blorb.specs.Verdict.{accept, chunkFault, pairIn};
-ghost use Rattle.index.specs.Entries.{usageAt, numberAt, startAt, place, earlier, Topped};
-ghost use Rattle.reader.specs.Straight.{CameTo, Suits, Remembered, Fitted, Stands, Stepped, Alongside, Straightly};
+ghost use Rattle.blorb.specs.Verdict.{accept, chunkFault};
+ghost use Rattle.index.specs.Entries.{startAt, place, Topped};
+ghost use Rattle.reader.specs.Straight.{CameTo, Suits, Remembered, Fitted, Stands, Stepped, FreshTo, Alongside, Straightly};
 
 // How far a walk came; `ordinary` is true only where it met ordinary chunks alone.
 pub struct Came {
@@ -139,12 +139,22 @@ fn suits_like(s: &[u8], profile: u32, p: usize, start: usize, usage: u64, kind: 
     Fit::Suited(usage, kind)
 }
 
-// Whether an entry before entry j has its usage and number.
-fn repeats(s: &[u8], j: usize) -> bool
-    requires { ⌜ (j < 4096) × (place j + 8 ≤ length (now s)) ⌝ }
-    ensures { λ r. ⌜ ((base : ℕ) → r ≡ pairIn (usageAt (now (s .entry)) (place j)) (numberAt (now (s .entry)) (place j)) (earlier (now (s .entry)) base j)) ⌝ }
+// Whether one of the four entries from i on has the usage and number of entry j: no only where none has.
+fn in_four(s: &[u8], i: usize, j: usize) -> bool
+    requires { ⌜ (i < 4096) × (place i + 44 ≤ length (now s)) × (place j + 8 ≤ length (now s)) ⌝ }
+    ensures { λ r. ⌜ (r ≡ false → (base : ℕ) → FreshTo (now (s .entry)) base j i → FreshTo (now (s .entry)) base j (i + 4)) ⌝ }
 {
-    let mut i: usize = 0;
+    entries::same_pair(s, i, j)
+        | (entries::same_pair(s, i + 1, j)
+            | (entries::same_pair(s, i + 2, j) | entries::same_pair(s, i + 3, j)))
+}
+
+// Whether one of the entries from `from` to entry j has its usage and number: no only where none has.
+fn in_rest(s: &[u8], from: usize, j: usize) -> bool
+    requires { ⌜ (from ≤ j) × (j < 4096) × (place j + 8 ≤ length (now s)) ⌝ }
+    ensures { λ r. ⌜ (r ≡ false → (base : ℕ) → FreshTo (now (s .entry)) base j from → FreshTo (now (s .entry)) base j j) ⌝ }
+{
+    let mut i = from;
     while i < j {
         if entries::same_pair(s, i, j) {
             return true;
@@ -154,11 +164,26 @@ fn repeats(s: &[u8], j: usize) -> bool
     false
 }
 
+// Whether an entry before entry j has its usage and number: no only where none has. Four are asked in a turn: how long a turn for one would take depends
+// on where the linker puts it.
+fn repeats(s: &[u8], j: usize) -> bool
+    requires { ⌜ (j < 4096) × (place j + 8 ≤ length (now s)) ⌝ }
+    ensures { λ r. ⌜ (r ≡ false → (base : ℕ) → FreshTo (now (s .entry)) base j j) ⌝ }
+{
+    let mut i: usize = 0;
+    while i + 3 < j {
+        if in_four(s, i, j) {
+            return true;
+        }
+        i += 4;
+    }
+    in_rest(s, i, j)
+}
+
 // Whether no entry before entry j has its usage and number; all of its usage have numbers below `top`.
 fn is_fresh(s: &[u8], j: usize, top: u64) -> bool
     requires { ⌜ (j < 4096) × (place j + 8 ≤ length (now s)) × Topped (now s) j top ⌝ }
-    ensures { λ r. ⌜ (r ≡ true → (base : ℕ) → pairIn (usageAt (now (s .entry)) (place j)) (numberAt (now (s .entry)) (place j))
-        (earlier (now (s .entry)) base j) ≡ false) ⌝ }
+    ensures { λ r. ⌜ (r ≡ true → (base : ℕ) → FreshTo (now (s .entry)) base j j) ⌝ }
 {
     if top <= blorb::be32_at(s, 24 + 12 * j + 4) {
         return true;

@@ -1,6 +1,5 @@
 -- A number not below all of its usage repeats none of them; else the entries before it are looked at.
 use native.Mathlib.Omega.{arith}
-use mathlib.Core.Path.{sym, _∙_}
 use borrow.Author.Tests.{not-true}
 use denote.Ref.{now}
 use Rattle.index.proofs.EntryLaws.{fresh}
@@ -15,7 +14,7 @@ returns c = λ e base.
     (omega arith)
 
 returns-2 : tie.Need-returns-2
-returns-2 c = λ e base. sym (c .repeats .ensures base) ∙ not-true (c .repeats .result) e
+returns-2 c = λ e. c .repeats .ensures (not-true (c .repeats .result) e)
 
 pub is-fresh-spec : {M : Type 1} → statement M
 is-fresh-spec =

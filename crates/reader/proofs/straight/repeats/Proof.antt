@@ -1,18 +1,16 @@
--- The entries before it are looked at from the first on; the first with the same pair ends the search.
+-- The entries before it are looked at from the first on, four at a time and the last ones singly.
 use borrow.Author.Needs.{needs}
 use native.Mathlib.Omega.{arith}
-use mathlib.Core.Path.{_≡_, sym, ap, _∙_}
-use mathlib.Core.Bool.{false}
+use mathlib.Core.Path.{_≡_}
 use Prim.Native.Nat.{ℕ, _-_, _≤_}
 use denote.Ref.{now}
-use Rattle.blorb.specs.Verdict.{pairIn}
-use Rattle.index.specs.Entries.{usageAt, numberAt, place, earlier}
-use Rattle.index.proofs.EntryLaws.{pair-none, pair-more, pair-hit}
+use Rattle.index.proofs.EntryLaws.{pair-none}
+use Rattle.reader.specs.Straight.{FreshTo}
 use Rattle.reader.proofs.straight.repeats.Statement.{statement}
 use Rattle.reader.proofs.straight.repeats.Tie as tie
 
 abbrev Inv-loop : tie.InvT-loop
-Inv-loop s j i₀ i = (i ≤ j) × ((base : ℕ) → pairIn (usageAt s (place j)) (numberAt s (place j)) (earlier s base i) ≡ false)
+Inv-loop s j i₀ i = (i ≤ j) × ((base : ℕ) → FreshTo s base j i)
 
 abbrev μ-loop : tie.MeasureT-loop
 μ-loop s j i₀ i = j - i
@@ -20,36 +18,14 @@ abbrev μ-loop : tie.MeasureT-loop
 loop-holds : tie.Need-loop-holds Inv-loop μ-loop
 loop-holds c = (omega arith, λ base. pair-none (now (c .before .args .s)) base (c .before .args .j))
 
-same-pair-requires : tie.Need-same-pair-requires Inv-loop μ-loop
-same-pair-requires c κs = search needs
-
 returns : tie.Need-returns Inv-loop μ-loop
-returns c = λ base.
-    sym (pair-hit (now (c .before .before .before .before .before .args .s)) base (c .before .before .before .loop .i)
-    (c .before .before .before .before .before .args .j) (c .before .before .before .before .before .args .j) (c .before .before .loop-test .taken)
-    (sym (c .before .same-pair .ensures) ∙ c .if1 .taken))
-
-add-i : tie.Need-add-i Inv-loop μ-loop
-add-i c = search needs
-
-loop-less : tie.Need-loop-less Inv-loop μ-loop
-loop-less c = search needs
+returns c = λ e. absurd (let z : _≡_ {A = ℕ} 0 1 = cc in omega arith)
 
 loop-again : tie.Need-loop-again Inv-loop μ-loop
-loop-again c = (
-  omega arith,
-  λ base.
-      pair-more (now (c .before .before .before .before .before .args .s)) base (c .before .before .before .loop .i)
-      (c .before .before .before .before .before .args .j) (c .before .before .before .loop .inv .1 base) (sym (c .before .same-pair .ensures)
-      ∙ c .if1 .left),
-)
+loop-again c = (omega arith, λ base. c .before .in-four .ensures (c .if1 .left) base (c .before .before .before .loop .inv .1 base))
 
 returns-2 : tie.Need-returns-2 Inv-loop μ-loop
-returns-2 c = λ base.
-    let a = c .before .before .before .args in
-    let e : c .before .loop .i ≡ a .j = omega (arith, c .before .loop .inv .0) in
-    sym (ap (λ (i : ℕ). pairIn (usageAt (now (a .s)) (place (a .j))) (numberAt (now (a .s)) (place (a .j))) (earlier (now (a .s)) base i)) (sym e)
-    ∙ c .before .loop .inv .1 base)
+returns-2 c = λ e base. c .in-rest .ensures e base (c .before .before .loop .inv .1 base)
 
 pub repeats-spec : {M : Type 1} → statement M
 repeats-spec =
@@ -58,9 +34,11 @@ repeats-spec =
     Inv-loop
     μ-loop
     loop-holds
-    same-pair-requires
+    (λ c. search needs)
+    (λ c κs. search needs)
     returns
-    add-i
-    loop-less
+    (λ c. search needs)
+    (λ c. search needs)
     loop-again
+    (λ c κs. search needs)
     returns-2)
