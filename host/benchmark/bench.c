@@ -179,6 +179,23 @@ static void table_by_bytes(void)
     }
 }
 
+static void table_of_longest(void)
+{
+    static const char *const flaws[FLAWS]
+        = {"none", "the last entry has the pair before it", "the last entry starts at no chunk", "the last chunk is an index"};
+
+    printf("| %-37s | %7s | %9s | %5s | %7s |\n", "Flaw", "Refusal", "Archive", "/ (a)", "/ (b)");
+    puts("|---|--:|--:|--:|--:|");
+    for (unsigned i = 0; i < FLAWS; i++) {
+        struct sample s = make_crowded((enum flaw)i);
+        time_question(&s, READ, &edit_times);
+        printf("| %-37s | %7u | %9s | %5.2f | %7.2f |\n", flaws[i], (unsigned)blorb_read(s.file, s.length, BLORB_PLAIN).refusal,
+               shown(edit_times.least[0]), edit_times.least[0] / edit_times.least[1], edit_times.least[0] / edit_times.least[2]);
+        fflush(stdout);
+        free_sample(&s);
+    }
+}
+
 static int print_times(void)
 {
     time_clock();
@@ -190,6 +207,8 @@ static int print_times(void)
     table_by_entries();
     puts("\n## Growth with the bytes\n");
     table_by_bytes();
+    puts("\n## Longest readings\n");
+    table_of_longest();
     puts("\n## Finding tables\n");
     print_tables();
     puts("\n## Finding tables in columns");

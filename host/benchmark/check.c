@@ -365,6 +365,21 @@ static bool edit_and_back(struct trio *t, const struct sample *s, const struct e
         && memcmp(t->file[0], s->file, s->length) == 0;
 }
 
+/* The readings of the fullest files, one for each flaw, and the number that each is refused with. */
+static bool crowded(enum flaw flaw)
+{
+    static const uint64_t expected[FLAWS] = {0, 16, 13, 9};
+    struct sample s = make_crowded(flaw);
+    struct trio t = trio_of(s.file, s.length, s.room, JOURNAL_ROOM);
+    bool good = same_read(&t) && blorb_read(s.file, s.length, BLORB_PLAIN).refusal == expected[flaw];
+
+    if (!good)
+        printf("check: the reading of a full file failed (%u)\n", (unsigned)flaw);
+    free_trio(&t);
+    free_sample(&s);
+    return good;
+}
+
 /* The calls that are measured on a sample: adds and links, or all others; of a refused one the questions only. */
 static bool measured(struct sample s, bool adds)
 {
@@ -409,6 +424,8 @@ bool check_all(uint64_t seed, unsigned cases)
         good = some_case();
     for (unsigned i = 0; good && i < SAMPLES; i++)
         good = measured(sample(i), false) && measured(sample_to_add(i), true);
+    for (unsigned i = 0; good && i < FLAWS; i++)
+        good = crowded((enum flaw)i);
     good = good && all_seen();
     printf("check: seed %llu, %u generated files, %llu calls on each of the three, %s\n", (unsigned long long)seed, cases,
            (unsigned long long)calls, good ? "the same answers and bytes, every refusal seen" : "FAILED");

@@ -107,6 +107,32 @@ struct sample make_pair(const char *name, size_t first, size_t second)
     return s;
 }
 
+struct sample make_crowded(enum flaw flaw)
+{
+    enum { COUNT = BLORB_MAX_ENTRIES };
+    size_t front = entry_at(COUNT), chunks = (BLORB_MAX_SIZE - front) / 8, apart = chunks / COUNT;
+    struct sample s = begun("", COUNT, 8 * chunks);
+    uint8_t *last = s.file + entry_at(COUNT - 1);
+
+    s.order = FALLING;
+    s.length = front + 8 * chunks;
+    for (size_t i = 0; i < chunks; i++)
+        put32(s.file + front + 8 * i, tag("BINA"));
+    for (size_t i = 0; i < COUNT; i++) {
+        put32(s.file + entry_at(i), tag("Data"));
+        put32(s.file + entry_at(i) + 4, (uint32_t)(COUNT - i));
+        put32(s.file + entry_at(i) + 8, (uint32_t)(front + 8 * apart * i));
+    }
+    if (flaw == PAIR_AGAIN)
+        put32(last + 4, 2);
+    if (flaw == NO_CHUNK)
+        put32(last + 8, (uint32_t)s.length - 4);
+    if (flaw == SECOND_INDEX)
+        put32(s.file + s.length - 8, tag("RIdx"));
+    finish(&s);
+    return s;
+}
+
 static const struct {
     const char *name;
     size_t count, size;

@@ -53,6 +53,12 @@ struct sample sample_to_add(unsigned i);
 struct sample make_sample(const char *name, size_t count, size_t size, enum order order);
 /* A file of two resources with these data lengths. */
 struct sample make_pair(const char *name, size_t first, size_t second);
+/*
+ * A file of the greatest size with as much in it as one can hold: 4,096 entries whose numbers fall, on some of two million chunks without data, the last of
+ * them near its end. What is wrong with it shows late: in the last entry or the last chunk.
+ */
+enum flaw { NO_FLAW, PAIR_AGAIN, NO_CHUNK, SECOND_INDEX, FLAWS };
+struct sample make_crowded(enum flaw flaw);
 void free_sample(struct sample *s);
 
 /* The edits that are measured on a sample. */
