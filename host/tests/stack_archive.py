@@ -6,8 +6,8 @@ pointer that moves by an amount that is not in the code (alloca); a C function c
 reading or grouping call runs; and a call that takes more than the header's constant of its group.
 
 A call's figure is the bytes below its caller's stack pointer: return address, saved registers and locals on the deepest way down, up to the
-return address of a call of memmove or memset. What these two take by themselves belongs to the C library. The functions of NESTED count LEVELS times: the
-largest distance at which one calls another for all levels but the last, and the deepest of them for that.
+return address of a call of memmove or memset. What these two take by themselves belongs to the C library. The functions of NESTED count LEVELS times,
+each by the largest distance at which it calls one of them, and the one that goes deepest in full on the last level.
 """
 import argparse
 import re
@@ -306,10 +306,11 @@ def deepest(functions, nested):
         if again := [one for one in above if one == name or {one, name} <= nested]:
             raise Breach("recursion: " + " calls ".join([*above[above.index(again[0]):], name]))
         if name not in depths and name in nested:
-            step = max((RETURN + depth for one in nested for depth, callee in functions[one].calls if callee in nested), default=0)
-            last, way = max(once(one, above) for one in sorted(nested))
+            steps = {one: max((RETURN + depth for depth, callee in functions[one].calls if callee in nested), default=0) for one in nested}
+            level = sum(steps.values())
+            last, way = max((below - steps[one], path) for one in sorted(nested) for below, path in [once(one, above)])
             for one in nested:
-                depths[one] = (LEVELS - 1) * step + last, [f"{LEVELS} levels of up to {step}", *way] if step > 0 else way
+                depths[one] = LEVELS * level + last, [f"{LEVELS} levels of up to {level}", *way] if level > 0 else way
         elif name not in depths:
             depths[name] = once(name, above)
         return depths[name]

@@ -2,7 +2,7 @@
 
 For each call its function in C, None where it has none, and in the source, None where it is plain C (host/library), which the source's check does not
 read. Of every call but the grouping ones: nothing that it runs may recurse. What the grouping calls run may recurse through the functions of `NESTED`
-alone, which are on the stack at most `LEVELS` times in all, whatever the file says (that is proved: the levels that are left fall at each call). The
+alone, each of which is on the stack at most `LEVELS` times, whatever the file says (that is proved: the levels that are left fall at each nesting). The
 reading and grouping calls may besides hold no array of over 64 bytes; those of the group "lists" mark the rows of a list in one larger array. `LIMITS`
 names the group's constant in include/blorb.h, which the stack of its calls may not exceed.
 """
@@ -46,7 +46,7 @@ SMALL = ("reading", "grouping")
 # Of the reading and grouping calls without a function in C those that the archive must have all the same, for its code to be looked at: every edit runs it.
 KEPT = ("reader::inspect",)
 MOST_ARRAY = 64           # bytes of an array that a call of these groups may hold
-NESTED = frozenset({"groups::readers::form_in", "groups::readers::group_in"})
+NESTED = frozenset({"groups::readers::form_in", "groups::readers::members_in"})
 LEVELS = 16
 # Bytes of arrays that a call may hold at once, if the compiler left all of them in.
 MOST_IN_SOURCE = {"reading": 4096, "building": 4096, "grouping": 4096, "lists": 7680, "editing": 4096}

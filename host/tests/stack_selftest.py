@@ -88,7 +88,7 @@ SOURCE = [
 ]
 
 # What may recurse in a planted grouping call.
-MAY_RECURSE = frozenset({"one::step", "one::deep::below", "step"})
+MAY_RECURSE = frozenset({"one::step", "one::deep::below", "step", "held"})
 
 CODE = """
 typedef unsigned char byte;
@@ -96,6 +96,8 @@ typedef unsigned long u64;
 u64 strange(u64);
 void *memmove(void *, const void *, u64);
 u64 blorb_read(const byte *, u64, u64 (*)(u64));
+static u64 step(const byte *, u64, u64 (*)(u64));
+static __attribute__((noinline, noipa)) u64 held(const byte *s, u64 n, u64 (*f)(u64)) { volatile byte t[8]; t[n % 8] = s[0]; return t[1] ^ step(s, n, f) * 3; }
 static __attribute__((noinline, noipa)) u64 step(const byte *s, u64 n, u64 (*f)(u64)) { @BODY@ }
 u64 blorb_read(const byte *s, u64 n, u64 (*f)(u64)) { u64 a = step(s, n, f); return a * 3 + s[n]; }
 """
@@ -125,6 +127,7 @@ ARCHIVE = [
     ("the same in a reading call", NESTS.replace("@N@", "8"), "reading", ("recursion",)),
     ("the same in an editing call", NESTS.replace("@N@", "8"), "editing", ("recursion",)),
     ("16 levels of it, more than the header allows", NESTS.replace("@N@", "60"), "grouping", ("header allows",)),
+    ("16 levels of two that call each other, more than the header allows", NESTS.replace("@N@", "8").replace("step", "held"), "grouping", ("header allows",)),
     ("another one in its cycle", "return n < 2 ? 1 : s[n] ^ blorb_read(s, n - 2, f) * 3;", "grouping", ("recursion",)),
     ("an array of 72 bytes in a grouping call", NUMBERS.replace("@N@", "9"), "grouping", ("array of", "in bulk")),
 ]

@@ -46,7 +46,6 @@ fromHere T = scan (T .base) (T .n) (T .rows) (members (T .f) (T .p) (18 - T .lef
 pub record Next (T : Turn) (k : ℕ) (r : List ℕ) (x : ℕ) (y : Place) : Type 0 where
   pub counted : k ≤ x
   pub on : T .at < x
-  pub stands : y ≡ behind (T .p) (kindAt (T .f) (T .at))
   pub same : scan (T .base) k r (members (T .f) y (18 - T .left) (T .end) x) ≡ fromHere T
 
 module _ (T : Turn) where
@@ -60,7 +59,7 @@ module _ (T : Turn) where
   next-by k r x y e a b =
       let g = good-in (T .f) (T .p) (18 - T .left) (T .end) (T .at) (T .base) (T .n) (T .rows) k r e in
       let on = turn-good (T .f) (T .p) (18 - T .left) (T .end) (T .at) (T .base) (T .n) (T .rows) (T .on) (T .inside) k r e in
-      record { counted = rw a (g .2 (T .counted)); on = omega (arith, a); stands = b; same = rw (a, b) on }
+      record { counted = rw a (g .2 (T .counted)); on = omega (arith, a); same = rw (a, b) on }
 
   pub passed-on : (x : ℕ) (y : Place) → judged T ≡ Passed x y → Next T (T .n) (T .rows) x y
   passed-on x y e =

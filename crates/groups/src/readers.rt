@@ -126,7 +126,7 @@ fn next_member(s: &[u8], place: Place, depth: usize, end: usize, at: usize) -> M
     }
 }
 
-// The FORM at `at`, whose data ends at `end`: its row, then its members. left: how many of the 16 levels are left, its own among them.
+// The FORM reader: the row of the FORM at `at`, whose data ends at `end`, then its members. left: how many of the 16 levels are left, its own among them.
 fn form_in(
     s: &[u8],
     rows: &mut [u32],
@@ -140,40 +140,11 @@ fn form_in(
     ensures { λ r. ⌜ outcome r (now (rows .exit)) ≡ scan base n (now (rows .entry)) (formShows (now (s .entry)) (17 - left) (18 - left) end at) ⌝ }
 {
     put_form(s, rows, base, n, at, 17 - left);
-    let mut i = at + 12;
-    let mut k = n + 1;
-    let depth = 18 - left;
-    while i < end {
-        match next_member(s, Place::InForm, depth, end, i) {
-            Member::Refused { number, place } => {
-                return Scan::Refused { number, place };
-            }
-            Member::Passed(next, _) => {
-                i = next;
-            }
-            Member::Form(close, next, _) => {
-                let inner = form_in(s, rows, base, k, close, i, left - 1);
-                let Scan::Fine(forms) = inner else {
-                    return inner;
-                };
-                k = forms;
-                i = next;
-            }
-            Member::Group(place, close, next, _) => {
-                let inner = group_in(s, rows, base, k, place, close, i + 12, left - 1);
-                let Scan::Fine(forms) = inner else {
-                    return inner;
-                };
-                k = forms;
-                i = next;
-            }
-        }
-    }
-    Scan::Fine(k)
+    members_in(s, rows, base, n + 1, Place::InForm, end, at + 12, left)
 }
 
-// The members of a LIST or CAT, from `at` to `end`. left: how many of the 16 levels are left, the group's own among them.
-fn group_in(
+// The group reader: the members of a FORM, LIST or CAT from `at` to `end`. left: how many of the 16 levels are left, the holder's own among them.
+fn members_in(
     s: &[u8],
     rows: &mut [u32],
     base: usize,
@@ -209,7 +180,7 @@ fn group_in(
                 p = after;
             }
             Member::Group(inside, close, next, after) => {
-                let inner = group_in(s, rows, base, k, inside, close, i + 12, left - 1);
+                let inner = members_in(s, rows, base, k, inside, close, i + 12, left - 1);
                 let Scan::Fine(forms) = inner else {
                     return inner;
                 };
@@ -231,7 +202,7 @@ fn top_in(s: &[u8], rows: &mut [u32], base: usize) -> Scan
         Member::Refused { number, place } => Scan::Refused { number, place },
         Member::Passed(_, _) => Scan::Fine(0),
         Member::Form(close, _, _) => form_in(s, rows, base, 0, close, 0, 16),
-        Member::Group(place, close, _, _) => group_in(s, rows, base, 0, place, close, 12, 16),
+        Member::Group(place, close, _, _) => members_in(s, rows, base, 0, place, close, 12, 16),
     }
 }
 

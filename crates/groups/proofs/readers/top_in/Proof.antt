@@ -21,8 +21,8 @@ form-in-requires c κs =
     let o = member-form (now (a .s)) Top 1 (length (now (a .s))) 0 (a .base) 0 (now (a .rows)) _ _ _ told .1 in
     omega (arith, o .low, o .high)
 
-group-in-requires : tie.Need-group-in-requires
-group-in-requires c κs =
+members-in-requires : tie.Need-members-in-requires
+members-in-requires c κs =
     let a = c .before .before .before .before .before .before .before .args in
     let v = c .before .before .place .given in
     let told : memberAt (now (a .s)) Top 1 (length (now (a .s))) 0 ≡ OfGroup (v .0 .0) (v .0 .1 .0) (v .0 .1 .1 .0) (v .0 .1 .1 .1 .0)
@@ -63,7 +63,7 @@ returns-4 c =
     let told : memberAt (now (a .s)) Top 1 (length (now (a .s))) 0 ≡ OfGroup (v .0 .0) (v .0 .1 .0) (v .0 .1 .1 .0) (v .0 .1 .1 .1 .0)
     = sym (c .before .before .before .before .before .before .before .member-at .ensures) ∙ v .1 in
     let g = member-group (now (a .s)) Top 1 (length (now (a .s))) 0 (a .base) 0 (now (a .rows)) _ _ _ _ told in
-    c .before .before .group-in .ensures ∙ rw (g .1 .closes) (g .0)
+    c .before .before .members-in .ensures ∙ rw (g .1 .closes) (g .0)
 
 pub top-in-spec : {M : Type 1} → statement M
 top-in-spec =
@@ -75,7 +75,7 @@ top-in-spec =
     (λ c. search needs)
     form-in-requires
     (λ c. search needs)
-    group-in-requires
+    members-in-requires
     returns
     returns-2
     (λ c. search needs)
