@@ -11,7 +11,7 @@ ghost use Prim.Native.Nat.{_+_, _-_, _≤_};
 ghost use lib.ListN.{length, drop};
 ghost use Rattle.blorb.specs.Bytes.{rd32};
 ghost use Rattle.chunks.specs.Walk.{verdictOf};
-ghost use Rattle.members.specs.declared.Place.the-variants.{InForm, InProp};
+ghost use Rattle.members.specs.declared.Place.the-variants.{InProp};
 ghost use Rattle.members.specs.Faults.{sizeAt};
 ghost use Rattle.groups.specs.Events.{members};
 ghost use Rattle.groups.specs.Files.{firstFault, eventsOf};
