@@ -1,25 +1,28 @@
 -- Laws of the rows that are right from the first on: told by the entries that do not stand behind the last of them.
 use mathlib.Core.Path.{_≡_, refl, ap, sym, _∙_}
-use Prim.Native.Nat.{ℕ, zero, suc, _+_, _*_, _≤_, _<_}
-use mathlib.Core.List.{List, [], _∷_, List·Memᴰ, List·Permᴰ, List·Permᴰ·nil, List·Permᴰ·cons, List·Permᴰ·swap, List·Permᴰ·trans}
+use Prim.Native.Nat.{ℕ, zero, suc, _+_, _*_, _-_, _≤_, _<_}
+use mathlib.Core.List.{List, [], _∷_, List·Memᴰ, List·Permᴰ, List·Permᴰ·nil, List·Permᴰ·cons, List·Permᴰ·swap, List·Permᴰ·trans, Permᴰ·symm}
+use mathlib.Core.Logic.{⊎-elim}
 use mathlib.Core.Bool.{Bool, true, false, not}
 use native.Mathlib.Omega.{arith}
 use native.Mathlib.Numerals.{add-one}
 use native.Mathlib.Nat.{not-suc-le-zero}
 use lib.ListN.{length, getD, take, drop, drop-of-length-le}
 use lib.Seq.{drop-cons, length-take-le, getD-take}
+use borrow.Author.Tests.{ltb-true}
 use Rattle.blorb.specs.Bytes.{rd32}
 use Rattle.blorb.specs.Format.{Entry, entryIn, entriesIn}
 use Rattle.blorb.specs.All.{All}
 use Rattle.blorb.proofs.AllLaws.{all-take}
+use Rattle.blorb.proofs.NumberLaws.{below?}
 use Rattle.blorb.proofs.EntryList.{length-entriesIn, entry-getD}
 use Rattle.rows.specs.Rows.{rowIn, rowsBy}
 use Rattle.rows.specs.Order.{before, sorted, Below, Rising}
 use Rattle.rows.specs.Bridging.{NoTwice, Within, one, upto, Alike}
 use Rattle.rows.specs.Halving.{rowOf, noRow}
-use Rattle.rows.proofs.OrderLaws.{before-trans, key-before, key-not, more}
+use Rattle.rows.proofs.OrderLaws.{before-trans, key-before, key-not, ltb-key, more, rising-at}
 use Rattle.rows.proofs.SortLaws.{sorted-perm, sorted-rising, perm-mem, perm-length, mem-at, at-mem, rising-same}
-use Rattle.rows.proofs.RowLaws.{length-listed, getD-listed}
+use Rattle.rows.proofs.RowLaws.{length-listed, getD-listed, row-by, row-there}
 use Rattle.table.proofs.CheckLaws.{Held, entry-read}
 
 rising-take : (i : ℕ) (es : List Entry) → Rising es → Rising (take i es)
@@ -98,6 +101,26 @@ module _ (f t : List ℕ) (count rows step gap i : ℕ) where
     drop-next =
         drop-cons (entriesIn count (drop 24 f)) j noRow (omega (arith, length-entriesIn count (drop 24 f)))
         ∙ rw (add-one j, entry-getD f count j 24 noRow h, ← entry-read f (24 + 12 * j))
+
+    -- where the first low rows are right, an entry that stands before the last of them is one of them
+    pub known-held : (low : ℕ) → 0 < low → low ≤ i → i ≤ rows → NoTwice (entriesIn count (drop 24 f)) → Alike (rowsBy t rows step gap)
+        (sorted (entriesIn count (drop 24 f))) low
+        → (k s : ℕ) → getD t ((low - 1) * step + gap) 0 < 4294967296 → s ≡ getD t ((low - 1) * step) 0 * 4294967296 + getD t ((low - 1) * step + gap) 0
+        → k ≡ rd32 (drop (24 + 12 * j) f) * 4294967296 + rd32 (drop (24 + 12 * j + 4) f) → rd32 (drop (24 + 12 * j + 4) f) < 4294967296 → k < s
+        → Held f (rowsBy t i step gap) j
+    known-held low lo li lr once alike k s hs es ek hk l =
+        let E : List Entry = entriesIn count (drop 24 f) in
+        let S : List Entry = sorted (entriesIn count (drop 24 f)) in
+        let m = mem-at noRow S (perm-mem (Permᴰ·symm (sorted-perm E)) (at-mem noRow E j (omega (arith, length-entriesIn count (drop 24 f))))) in
+        let e : rowOf S (m .0) ≡ entryIn (drop (24 + 12 * j) f) = m .2 ∙ entry-getD f count j 24 noRow h in
+        ⊎-elim
+        (λ b. row-there t i step gap (m .0) _ (omega arith) (sym (row-by t rows step gap (m .0) (omega arith)) ∙ alike (m .0) b ∙ e))
+        (λ b.
+        let r : Below (rowOf S (low - 1)) (rowOf S (m .0)) = rising-at S noRow (low - 1) (m .0) (sorted-rising E once) (omega arith) (m .1) in
+        let x : rowOf S (low - 1) ≡ rowIn t step gap (low - 1) = sym (alike (low - 1) (omega arith)) ∙ row-by t rows step gap (low - 1) (omega arith) in
+        let g : s < k = ltb-true s k (rw (es, ek) (ltb-key _ _ _ _ hs hk ∙ rw (x, e ∙ sym (entry-read f (24 + 12 * j))) at r)) in
+        absurd (omega arith))
+        (below? (m .0) low)
 
     module _ (u n k s : ℕ) (hu : n < 4294967296) (es : s ≡ u * 4294967296 + n)
         (ek : k ≡ rd32 (drop (24 + 12 * j) f) * 4294967296 + rd32 (drop (24 + 12 * j + 4) f))

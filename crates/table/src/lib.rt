@@ -2,10 +2,10 @@
 // three columns (02, P10), turned into rows and back.
 use reader::Reading;
 ghost use mathlib.Core.Path.{_≡_};
-ghost use Prim.Native.Nat.{_+_, _*_, _/_, _≤_, _<_, min};
+ghost use Prim.Native.Nat.{_+_, _*_, _-_, _/_, _≤_, _<_, min};
 ghost use mathlib.Core.List.{_++_, List·Memᴰ};
 ghost use mathlib.Core.Bool.{true, _&&_};
-ghost use lib.ListN.{length, drop};
+ghost use lib.ListN.{length, getD, drop};
 ghost use lib.Dec.{eqb};
 ghost use Rattle.blorb.specs.Bytes.{rd32};
 ghost use Rattle.blorb.specs.Format.{entryIn};
@@ -193,8 +193,22 @@ fn smaller(a: usize, b: usize) -> usize
     if a < b { a } else { b }
 }
 
+// The pair of the last of the first `rows` rows, or 0 where there is none.
+fn last_key(t: &[u32], rows: usize, step: usize, gap: usize) -> u64
+    requires { ⌜ Fits (length (now t)) rows step gap ⌝ }
+    ensures { λ r. ⌜ (0 < rows → (r ≡ getD (now (t .entry)) ((rows - 1) * step) 0 * 4294967296 + getD (now (t .entry)) ((rows - 1) * step + gap) 0)
+        × (getD (now (t .entry)) ((rows - 1) * step + gap) 0 < 4294967296)) × (0 < r → 0 < rows) ⌝ }
+{
+    if rows == 0 {
+        return 0;
+    }
+    let at = (rows - 1) * step;
+    rows::key_at(t, at, at + gap)
+}
+
 // Whether the first `i` rows are right: told only where it is true. They rise, as many entries as they are do not stand behind the last of them,
-// and each of those is one of them.
+// and each of those is one of them. The first `low` rows are known to be right: an entry before the last of them is one of them and is not looked up,
+// so at most i - low + 2 are.
 fn front(
     file: &[u8],
     count: usize,
@@ -202,10 +216,11 @@ fn front(
     rows: usize,
     step: usize,
     gap: usize,
+    low: usize,
     i: usize,
 ) -> bool
     requires { ⌜ (count ≤ 4096) × (place count ≤ length (now file)) × Fits (length (now t)) rows step gap × NoTwice (firstEntries count (now file))
-        × (i ≤ rows) × (i ≤ count) ⌝ }
+        × (i ≤ rows) × (i ≤ count) × (low ≤ i) × Alike (rowsBy (now t) rows step gap) (sorted (firstEntries count (now file))) low ⌝ }
     ensures { λ r. ⌜ (r ≡ true → Alike (rowsBy (now (t .entry)) rows step gap) (sorted (firstEntries count (now (file .entry)))) i) ⌝ }
 {
     if i == 0 {
@@ -214,14 +229,20 @@ fn front(
     if !rows::rises(t, i, step, gap) {
         return false;
     }
-    let at = (i - 1) * step;
-    let last = rows::key_at(t, at, at + gap);
+    let last = last_key(t, i, step, gap);
+    let known = last_key(t, low, step, gap);
     let mut next = [0usize; 8];
     let mut n: usize = 0;
     let mut j: usize = 0;
     'entries: while j < count {
         let p = 24 + 12 * j;
-        if last < entry_key(file, p) {
+        let k = entry_key(file, p);
+        if last < k {
+            j += 1;
+            continue 'entries;
+        }
+        if k < known {
+            n += 1;
             j += 1;
             continue 'entries;
         }
@@ -255,7 +276,7 @@ fn aligned(
     let mut high = most + 1;
     while low + 1 < high {
         let mid = (low + high) / 2;
-        if front(file, count, t, rows, step, gap, mid) {
+        if front(file, count, t, rows, step, gap, low, mid) {
             low = mid;
         } else {
             high = mid;

@@ -21,7 +21,9 @@ loop-holds : tie.Need-loop-holds Inv-loop μ-loop
 loop-holds c = (omega arith, omega arith, λ k l. absurd (omega arith))
 
 front-requires : tie.Need-front-requires Inv-loop μ-loop
-front-requires c κs = let p = c .before .before .before .before .pre in (p .0, p .1, p .2, p .3, omega arith, omega arith)
+front-requires c κs =
+    let p = c .before .before .before .before .pre in
+    (p .0, p .1, p .2, p .3, omega arith, omega arith, omega arith, c .before .loop .inv .2)
 
 loop-again : tie.Need-loop-again Inv-loop μ-loop
 loop-again c = (omega arith, omega arith, c .before .front .ensures (c .if1 .taken))
