@@ -214,7 +214,11 @@ typedef struct blorb_read_answer {
     uint64_t count;  /* entries in its index */
 } blorb_read_answer;
 
-/* Is this an accepted file, and how many entries has it? The file's refusals. */
+/*
+ * Is this an accepted file, and how many entries has it? The file's refusals. The time is proportional to the chunks, of which 16 MiB can hold two million,
+ * and to the square of the entries where their numbers do not rise. The longest readings found take 8 ms of an accepted file and 21 ms of one that is
+ * refused at its end (docs/BENCHMARK.md). Every call that takes a Blorb file begins with such a reading, and none judges it twice.
+ */
 blorb_read_answer blorb_read(const uint8_t *file, size_t size, uint32_t profile);
 
 /* Of a refused call: usage, number and start 0. */
@@ -277,8 +281,8 @@ blorb_aiff_answer blorb_aiff_length(const uint8_t *bytes, size_t size);
  * no entry's chunk behind it. A table is refused with 35 for every file with other entries.
  *
  * Measured times (docs/BENCHMARK.md), of 4,096 entries of one usage: where their numbers rise from entry to entry, blorb_read takes 14 us, and
- * besides that a build takes 5 us, the check of a good table 12 us and a check that refuses with 35 up to 0.2 ms. Where the numbers do not rise it
- * is 2.5 ms for blorb_read, and besides that 0.2 ms, 0.3 ms and up to 3.2 ms.
+ * besides that a build takes 5 us, the check of a good table 12 us and a check that refuses with 35 up to 0.12 ms. Where the numbers do not rise it
+ * is 1.8 ms for blorb_read, and besides that 0.2 ms, 0.3 ms and up to 0.5 ms.
  */
 
 /* Of a refused call: rows 0. */

@@ -12,7 +12,7 @@ ghost use Rattle.blorb.specs.Tags.{Rect, FORM};
 ghost use Rattle.blorb.specs.Usages.{codeOf};
 ghost use Rattle.blorb.specs.declared.Usage.the-variants.{Exec};
 ghost use Rattle.blorb.specs.Verdict.{accept, chunkFault};
-ghost use Rattle.index.specs.Entries.{startAt, place, Topped};
+ghost use Rattle.index.specs.Entries.{numberAt, startAt, place, Topped};
 ghost use Rattle.reader.specs.Straight.{CameTo, Suits, Remembered, Fitted, Stands, Stepped, FreshTo, Alongside, Straightly};
 
 // How far a walk came; `ordinary` is true only where it met ordinary chunks alone.
@@ -181,11 +181,11 @@ fn repeats(s: &[u8], j: usize) -> bool
 }
 
 // Whether no entry before entry j has its usage and number; all of its usage have numbers below `top`.
-fn is_fresh(s: &[u8], j: usize, top: u64) -> bool
-    requires { ⌜ (j < 4096) × (place j + 8 ≤ length (now s)) × Topped (now s) j top ⌝ }
+fn is_fresh(s: &[u8], j: usize, number: u64, top: u64) -> bool
+    requires { ⌜ (j < 4096) × (place j + 8 ≤ length (now s)) × (numberAt (now s) (place j) ≡ number) × Topped (now s) j top ⌝ }
     ensures { λ r. ⌜ (r ≡ true → (base : ℕ) → FreshTo (now (s .entry)) base j j) ⌝ }
 {
-    if top <= blorb::be32_at(s, 24 + 12 * j + 4) {
+    if top <= number {
         return true;
     }
     !repeats(s, j)
@@ -224,11 +224,12 @@ fn side_by_side(s: &[u8], profile: u32, count: usize) -> Straight
             return Straight::Unsure;
         };
         let k = entries::slot(blorb::be32_at(s, p));
+        let number = blorb::be32_at(s, p + 4);
         let top = tops[k];
-        if !is_fresh(s, j, top) {
+        if !is_fresh(s, j, number, top) {
             return Straight::Unsure;
         }
-        tops[k] = above(top, blorb::be32_at(s, p + 4));
+        tops[k] = above(top, number);
         found = start;
         at = behind;
         ordinary = ordinary & also;

@@ -9,9 +9,9 @@ use Rattle.reader.proofs.straight.is_fresh.Tie as tie
 
 returns : tie.Need-returns
 returns c = λ e base.
-    let a = c .before .before .before .args in
-    fresh (now (a .s)) base (a .j) (a .top) (c .before .before .before .pre .2) (omega (arith, c .before .be32-at .ensures .0, c .if1 .taken)) (a .j)
-    (omega arith)
+    let a = c .before .before .args in
+    let p = c .before .before .pre in
+    fresh (now (a .s)) base (a .j) (a .top) (p .3) (omega (arith, p .2, c .if1 .taken)) (a .j) (omega arith)
 
 returns-2 : tie.Need-returns-2
 returns-2 c = λ e. c .repeats .ensures (not-true (c .repeats .result) e)
@@ -20,10 +20,6 @@ pub is-fresh-spec : {M : Type 1} → statement M
 is-fresh-spec =
     tie.close
     (tie.spec
-    (λ c. search needs)
-    (λ c. search needs)
-    (λ c. search needs)
-    (λ c κs. search needs)
     returns
     (λ c κs. search needs)
     returns-2)

@@ -106,6 +106,12 @@ be32-at-requires-2 c κs = search needs
 slot-requires : tie.Need-slot-requires Inv-loop μ-loop
 slot-requires c κs = search needs
 
+add-be32-at-2 : tie.Need-add-be32-at-2 Inv-loop μ-loop
+add-be32-at-2 c = search needs
+
+be32-at-requires-3 : tie.Need-be32-at-requires-3 Inv-loop μ-loop
+be32-at-requires-3 c κs = search needs
+
 mul-top : tie.Need-mul-top Inv-loop μ-loop
 mul-top c = search needs
 
@@ -114,20 +120,18 @@ array-read-top c = search needs
 
 is-fresh-requires : tie.Need-is-fresh-requires Inv-loop μ-loop
 is-fresh-requires c κs =
-    let d = c .before .before in
+    let d = c .before .before .before in
     let a = d .before .before .before .before .before .before .before .before .before .before .before .before in
     let l = d .before .before .before .before .before .before .before .before .before .before .loop in
-    let q = c .slot .ensures .0 ∙ ap slotOf (c .before .be32-at2 .ensures .0) in
-    (omega (arith, a .pre .0), omega (arith, a .pre .1), topped (now (a .args .s)) (l .tops) (l .j) (c .slot .result) (l .inv .3) q)
+    let q = c .before .slot .ensures .0 ∙ ap slotOf (c .before .before .be32-at2 .ensures .0) in (
+      omega (arith, a .pre .0),
+      omega (arith, a .pre .1),
+      sym (c .be32-at3 .ensures .0),
+      topped (now (a .args .s)) (l .tops) (l .j) (c .before .slot .result) (l .inv .3) q,
+    )
 
 returns-3 : tie.Need-returns-3 Inv-loop μ-loop
 returns-3 c = search needs
-
-add-be32-at-2 : tie.Need-add-be32-at-2 Inv-loop μ-loop
-add-be32-at-2 c = search needs
-
-be32-at-requires-3 : tie.Need-be32-at-requires-3 Inv-loop μ-loop
-be32-at-requires-3 c κs = search needs
 
 above-requires : tie.Need-above-requires Inv-loop μ-loop
 above-requires c κs = search needs
@@ -156,13 +160,13 @@ loop-again c =
     let t = st .0 .chunk (b .ensures .1) in
     let fit = rw (d .before .new-usage .given .1) at (d .before .before .before .suits-like .ensures) in
     let good = fit .0 refl base (rw (b .ensures .0) at (t .0 .begins)) in
-    let fresh = c .before .before .before .is-fresh .ensures (not-false (c .before .before .before .is-fresh .result) (c .before .before .if1 .left)) base in
+    let fresh = c .before .before .is-fresh .ensures (not-false (c .before .before .is-fresh .result) (c .before .if1 .left)) base in
     let q = c .before .before .before .before .slot .ensures .0 ∙ ap slotOf (c .before .before .before .before .before .be32-at2 .ensures .0) in (
       omega arith,
       simp length-set (l .inv .1),
       st .0,
       below-next s (l .tops) (l .j) _ _ (l .inv .3) q (omega (arith, c .before .before .before .before .slot .ensures .1, l .inv .1)) (omega
-          (arith, c .before .be32-at3 .ensures .0, c .above .ensures .0)) (c .above .ensures .1),
+          (arith, c .before .before .before .be32-at3 .ensures .0, c .above .ensures .0)) (c .above .ensures .1),
       (λ w. sofar-next _ s base (a .count) (l .j) _ _ (b .result) _ w
           (d .before .before .before .before .before .before .before .before .before .loop-test .taken) good fresh (sym (b .ensures .0))
           (b .ensures .1) (st .1) (t .1) (l .inv .4 w)),
@@ -205,12 +209,12 @@ side-by-side-spec =
     returns-2
     be32-at-requires-2
     slot-requires
+    add-be32-at-2
+    be32-at-requires-3
     mul-top
     array-read-top
     is-fresh-requires
     returns-3
-    add-be32-at-2
-    be32-at-requires-3
     above-requires
     mul-tops
     array-write-tops
