@@ -93,7 +93,7 @@ enum {
     BLORB_STACK_READING = 768,  /* at most, for every call but those below; 712 as compiled */
     BLORB_STACK_EDITING = 1024, /* at most, for editing; 744 as compiled */
     BLORB_STACK_GROUPS = 6144,  /* at most, for group files of 16 levels; 4792 as compiled */
-    BLORB_STACK_LISTS = 8192    /* at most, for scaled pictures and spoken descriptions, which mark the rows of a list; 8056 as compiled */
+    BLORB_STACK_LISTS = 8192    /* at most, for scaled pictures and spoken descriptions, which mark the rows of a list; 8152 as compiled */
 };
 
 /* Usages and types as numbers: the four bytes, the first one highest. */
@@ -280,8 +280,8 @@ blorb_aiff_answer blorb_aiff_length(const uint8_t *bytes, size_t size);
  * old table stale, unless it is a replacement, or the undo of one, that moves no start: one whose chunk keeps its size, padding counted, or has
  * no entry's chunk behind it. A table is refused with 35 for every file with other entries.
  *
- * Measured times (docs/BENCHMARK.md), of 4,096 entries of one usage: where their numbers rise from entry to entry, blorb_read takes 14 us, and
- * besides that a build takes 5 us, the check of a good table 12 us and a check that refuses with 35 up to 0.12 ms. Where the numbers do not rise it
+ * Measured times (docs/BENCHMARK.md), of 4,096 entries of one usage: where their numbers rise from entry to entry, blorb_read takes 15 us, and
+ * besides that a build takes 5 us, the check of a good table 12 us and a check that refuses with 35 up to 0.1 ms. Where the numbers do not rise it
  * is 1.8 ms for blorb_read, and besides that 0.2 ms, 0.3 ms and up to 0.5 ms.
  */
 

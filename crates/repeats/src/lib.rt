@@ -520,13 +520,24 @@ fn first_repeat(
     First::Nothing
 }
 
+// The search in a file. Its marks are made only where they are needed: clearing them takes longer than a short list that rises.
+fn first_in_file(s: &[u8], layout: Layout, base: usize, n: usize) -> First
+    requires { ⌜ Inside (source layout (now s) [] base) n ⌝ }
+    ensures { λ r. ⌜ r ≡ firstRepeat (key (source layout (now (s .entry)) [] base)) n ⌝ }
+{
+    if n <= rising(s, &[], layout, base, n).end {
+        return First::Nothing;
+    }
+    let mut marks = [0u64; 896];
+    first_repeat(s, &[], layout, base, n, &mut marks)
+}
+
 // The first of n rows of `step` bytes from `base` on whose first number an earlier row has.
 pub fn in_rows(s: &[u8], step: usize, base: usize, n: usize) -> First
     requires { ⌜ (4 ≤ step) × (base + step * n ≤ length (now s)) ⌝ }
     ensures { λ r. ⌜ r ≡ firstRepeat (rowKey (now (s .entry)) step base) n ⌝ }
 {
-    let mut marks = [0u64; 896];
-    first_repeat(s, &[], Layout::Rows(step), base, n, &mut marks)
+    first_in_file(s, Layout::Rows(step), base, n)
 }
 
 // The first of n entries from `base` on, each with a text behind it, whose pair of numbers an earlier entry has.
@@ -534,8 +545,7 @@ pub fn in_entries(s: &[u8], base: usize, n: usize) -> First
     requires { ⌜ EntriesInside (now s) base n ⌝ }
     ensures { λ r. ⌜ r ≡ firstRepeat (entryKey (now (s .entry)) base) n ⌝ }
 {
-    let mut marks = [0u64; 896];
-    first_repeat(s, &[], Layout::Entries, base, n, &mut marks)
+    first_in_file(s, Layout::Entries, base, n)
 }
 
 // The first of n rows of four numbers whose first two an earlier row has. The caller lends the marks: it may have used the array for something else before.
