@@ -62,15 +62,21 @@ static size_t pass_over(const uint8_t *file, size_t size, size_t at, size_t to, 
     return at;
 }
 
-/* The way from `*at`, behind the last entry's chunk, to the chunk at `start`; `*at` becomes where the one behind that begins. */
-static bool step_to(const uint8_t *file, size_t size, size_t *at, size_t start, bool *ordinary)
+/*
+ * The way from `*at`, behind the last entry's chunk `found`, to the chunk at `start`; `*at` becomes where the one behind that begins. The chunk is read
+ * before it is known that the walk comes to it. That it is no index and none of rule 7's chunks is left to rule 5.
+ */
+static bool step_to(const uint8_t *file, size_t size, uint64_t found, size_t *at, size_t start, bool *ordinary)
 {
-    if (pass_over(file, size, *at, start, ordinary) != start || start >= size)
+    size_t behind;
+
+    if (start >= size || chunk_whole(file, size, start, &behind).refusal != 0)
         return false;
-    if (chunk_whole(file, size, start, at).refusal != 0 || get32(file + start) == RIDX)
+    if (start == found)
+        return true;
+    if (start != *at && pass_over(file, size, *at, start, ordinary) != start)
         return false;
-    if (special(get32(file + start)))
-        *ordinary = false;
+    *at = behind;
     return true;
 }
 
@@ -105,7 +111,7 @@ static bool side_by_side(const uint8_t *file, size_t size, uint32_t profile, str
     for (size_t j = 0; j < r->count; j++) {
         size_t e = entry_at(j), start = get32(file + e + 8);
         uint64_t *top = top_of(tops, file + e);
-        if (start != found && !step_to(file, size, &at, start, &r->ordinary))
+        if (!step_to(file, size, found, &at, start, &r->ordinary))
             return false;
         if (!suits(file, profile, e, start, &last) || repeats(file, j, *top))
             return false;
@@ -304,12 +310,12 @@ blorb_lookup_answer plain_lookup(const uint8_t *file, size_t size, uint32_t prof
     return (blorb_lookup_answer){0, 0, get32(file + at), at + skipped, 8 + (uint64_t)get32(file + at + 4) - skipped};
 }
 
+/* Whether an entry other than entry i has its start: in chunk order it would stand beside it. */
 static bool start_again(const uint8_t *file, size_t count, size_t i, uint32_t start)
 {
-    for (size_t j = 0; j < count; j++)
-        if (j != i && get32(file + entry_at(j) + 8) == start)
-            return true;
-    return false;
+    if (i + 1 < count && get32(file + entry_at(i + 1) + 8) == start)
+        return true;
+    return i > 0 && get32(file + entry_at(i - 1) + 8) == start;
 }
 
 static void find_front(const uint8_t *file, size_t size, struct facts *f)

@@ -15,4 +15,5 @@ pub mod Profiles
 pub mod Exactly
 pub mod Parts
 pub mod UsageLaws
+pub mod AllowedTypes
 pub mod ShownLaws

@@ -1,19 +1,19 @@
 -- Rule 7 (17 to 19) after an edit.
-use mathlib.Core.Path.{_≡_, refl, ap, _∙_}
+use mathlib.Core.Path.{_≡_, refl, _∙_}
 use Prim.Native.Nat.{ℕ, _+_}
 use mathlib.Core.List.{List, [], _∷_, _++_}
-use mathlib.Core.Bool.{Bool, true, false, cond, _&&_, not, and-false}
+use mathlib.Core.Bool.{Bool, true, false, cond, _&&_, not}
 use native.Mathlib.Omega.{arith}
 use lib.ListN.{length, getD, List·getD-append}
 use lib.Dec.{eqb}
-use borrow.Author.Tests.{eqb-true}
 use Rattle.blorb.specs.Bytes.{rd32}
 use Rattle.blorb.specs.Format.{Ref, Chunk, size}
 use Rattle.blorb.specs.Verdict.{Verdict, accept, noChunk}
-use Rattle.blorb.specs.Tags.{Pict, Snd, Data, Exec, Rect, RelN, Fspc}
-use Rattle.blorb.specs.Rules.{allows, plainAllows, adriftAllows, oneOf, picture, single, chunkRule, chunkRules, optional}
+use Rattle.blorb.specs.Tags.{Pict, Rect, RelN, Fspc}
+use Rattle.blorb.specs.Rules.{allows, picture, single, chunkRule, chunkRules, optional}
 use Rattle.blorb.specs.All.{All}
 use Rattle.blorb.specs.Sound.{RefOk}
+use Rattle.blorb.proofs.AllowedTypes.{allowed-not}
 use Rattle.blorb.proofs.Checks.{then-accept, check-accept, pass, accepts, holds-last, or-map, then-end}
 
 -- a picture that is there stays there
@@ -86,27 +86,5 @@ optional-added at at′ rs cs x c ok p h =
     (rules-kept rs (rs ++ (x ∷ [])) cs (cs ++ (c ∷ [])) [] at at′ cs (λ n e. picture-more n cs c rs x ok e) h)
 
 -- what rule 5 allows is neither 'RelN' nor 'Fspc'
-not-allowed : (profile u : ℕ) (b : List ℕ)
-    → (allows profile u (record { type = RelN; body = b }) ≡ false) × (allows profile u (record { type = Fspc; body = b }) ≡ false)
-unfolding allows plainAllows adriftAllows oneOf
-not-allowed profile u b = (
-  rw (and-false (eqb u Pict), and-false (eqb u Snd), and-false (eqb u Data), and-false (eqb u Exec), and-false (eqb profile 1)),
-  rw (and-false (eqb u Pict), and-false (eqb u Snd), and-false (eqb u Data), and-false (eqb u Exec), and-false (eqb profile 1)),
-)
-
-other-type : (profile t u : ℕ) (c : Chunk) → allows profile u (record { type = t; body = c .body }) ≡ false → allows profile u c ≡ true
-    → eqb (c .type) t ≡ false
-other-type profile t u c bad h = go (eqb (c .type) t) refl
-  where
-    go : (b : Bool) → eqb (c .type) t ≡ b → b ≡ false
-    go false e = refl
-    go true e =
-        let q : allows profile u c ≡ false = ap (λ (z : ℕ). allows profile u (record { type = z; body = c .body })) (eqb-true (c .type) t e) ∙ bad in
-        cc
-
 pub allowed-plain : (profile u : ℕ) (c : Chunk) → allows profile u c ≡ true → Plain c
-allowed-plain profile u c h = record {
-  no-release = other-type profile RelN u c (not-allowed profile u (c .body) .0) h;
-  no-front = other-type profile Fspc u
-      c (not-allowed profile u (c .body) .1) h;
-}
+allowed-plain profile u c h = let n = allowed-not profile u c h in record { no-release = n .1; no-front = n .2 }

@@ -1,10 +1,9 @@
 -- The parts of an inspection: from the offsets of a file that the reader has passed to its model.
 use mathlib.Core.Path.{_≡_, refl, sym, ap, _∙_}
-use Prim.Native.Nat.{ℕ, zero, suc, _+_, _-_, _≤_, _<_}
+use Prim.Native.Nat.{ℕ, zero, suc, _+_, _≤_, _<_}
 use mathlib.Core.List.{List, [], _∷_, map}
-use mathlib.Core.Bool.{Bool, true, false, cond, _&&_, _||_, not}
+use mathlib.Core.Bool.{Bool, true, false, cond, _&&_, _||_}
 use native.Mathlib.Omega.{arith}
-use native.Mathlib.Numerals.{add-one}
 use native.Mathlib.Nat.{not-suc-le-zero, le-of-suc-le-suc}
 use lib.ListN.{length, getD, drop, length-map}
 use lib.Seq.{drop-drop}
@@ -53,36 +52,6 @@ getD-map-in g (x ∷ l) (suc i) d z h = getD-map-in g l i d z (le-of-suc-le-suc 
 pub refs-count : (f : List ℕ) (count : ℕ) → length (modelAt f count .refs) ≡ count
 refs-count f count = simp (length-map, length-entriesIn)
 
--- another entry with the same start: the loop, by the numbers that the code has read
-module _ (f : List ℕ) (x i : ℕ) where
-  again-on : (k j : ℕ) → startAgain x i j (entriesIn (suc k) (drop (place j) f))
-      ≡ (not (eqb j i) && eqb (startAt f (place j)) x) || startAgain x i (suc j) (entriesIn k (drop (place (suc j)) f))
-  unfolding startAgain entriesIn entryIn
-  again-on k j =
-      let q : place j + 12 ≡ place (suc j) = omega arith in
-      rw (drop-drop 8 (place j) f, drop-drop 12 (place j) f, q)
-
-  pub again-end : (j : ℕ) → startAgain x i j (entriesIn 0 (drop (place j) f)) ≡ false
-  unfolding startAgain entriesIn
-  again-end j = refl
-
-  module _ (count j a : ℕ) (h : j < count) (ea : a ≡ startAt f (place j)) where
-    again-turn : startAgain x i j (entriesIn (count - j) (drop (place j) f))
-        ≡ (not (eqb j i) && eqb a x) || startAgain x i (j + 1) (entriesIn (count - (j + 1)) (drop (place (j + 1)) f))
-    again-turn =
-        let left : count - j ≡ suc (count - (j + 1)) = omega arith in
-        let more : suc j ≡ j + 1 = sym (add-one j) in
-        ap (λ (k : ℕ). startAgain x i j (entriesIn k (drop (place j) f))) left ∙ again-on (count - (j + 1)) j
-        ∙ ap (λ (k : ℕ). (not (eqb j i) && eqb (startAt f (place j)) x) || startAgain x i k (entriesIn (count - (j + 1)) (drop (place k) f))) more
-        ∙ rw ea refl
-
-    pub again-hit : not (eqb j i) && eqb a x ≡ true → true ≡ startAgain x i j (entriesIn (count - j) (drop (place j) f))
-    again-hit e = sym (again-turn ∙ rw e)
-
-    pub again-next : not (eqb j i) && eqb a x ≡ false
-        → startAgain x i (j + 1) (entriesIn (count - (j + 1)) (drop (place (j + 1)) f)) ≡ startAgain x i j (entriesIn (count - j) (drop (place j) f))
-    again-next e = sym (again-turn ∙ rw e)
-
 -- two starts are the same exactly if their chunks are
 same-place : (a b at : ℕ) (cs : List Chunk) → isStart a at cs ≡ true → isStart b at cs ≡ true → eqb a b ≡ eqb (placeOf a at cs) (placeOf b at cs)
 same-place a b at cs ha hb = go (eqb a b) refl
@@ -125,7 +94,7 @@ module _ (f : List ℕ) (count i : ℕ) (g : Passed f count) (h : i < count) whe
   abbrev nothing : Entry
   nothing = record { usage = 0; number = 0; start = 0 }
 
-  start-of : getD (entriesIn count (drop 24 f)) i nothing .start ≡ startAt f (place i)
+  pub start-of : getD (entriesIn count (drop 24 f)) i nothing .start ≡ startAt f (place i)
   unfolding entryIn
   start-of = ap (λ (e : Entry). e .start) (entry-getD f count i 24 nothing h) ∙ ap rd32 (drop-drop 8 (place i) f)
 

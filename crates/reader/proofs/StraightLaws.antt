@@ -3,22 +3,24 @@
 use mathlib.Core.Path.{_≡_, refl, sym, ap, _∙_}
 use Prim.Native.Nat.{ℕ, _+_, _*_, _-_, _%_, _≤_, _<_}
 use mathlib.Core.List.{List}
-use mathlib.Core.Bool.{Bool, true, false, _&&_, _||_, not, and-true, and-assoc}
+use mathlib.Core.Bool.{Bool, true, false, _&&_, _||_, not, and-true}
 use native.Mathlib.Omega.{arith}
 use lib.ListN.{length, drop}
 use lib.Dec.{eqb}
 use borrow.Author.Tests.{eq-eqb, ne-eqb, eqb-true, eqb-false, not-true}
 use Rattle.blorb.specs.Tags.{RIdx, Rect, FORM}
 use Rattle.blorb.specs.Bytes.{rd32}
-use Rattle.blorb.specs.Format.{chunkOf, chunkIn, isStart}
+use Rattle.blorb.specs.Format.{Chunk, chunkOf, chunkIn, isStart}
 use Rattle.blorb.specs.Rules.{plainAllows, allows}
 use Rattle.blorb.specs.Usages.{codeOf, usageOf}
 use Rattle.blorb.specs.Verdict.{accept, headFault, chunkFault, secondIndex, pairIn}
 use Rattle.blorb.specs.declared.Usage.{Usage}
 use Rattle.blorb.specs.declared.Usage.the-variants.{Exec}
 use Rattle.blorb.specs.declared.Known.the-variants.{Is}
+use Rattle.blorb.proofs.AllowedTypes.{allowed-not}
 use Rattle.blorb.proofs.Checks.{pass, holds-last, then-accept, check-accept, and-both}
 use Rattle.reader.specs.declared.Judgement.the-variants as judgement
+use Rattle.reader.specs.declared.straight.Next.the-variants.{At}
 use Rattle.reader.specs.declared.straight.Step.the-variants.{To}
 use Rattle.reader.specs.declared.straight.Straight.{Straight}
 use Rattle.reader.specs.declared.straight.Straight.the-variants.{Good, Unsure}
@@ -26,8 +28,8 @@ use Rattle.chunks.specs.Walk.{chunkFrom, chunksFrom, walkFrom, skipAt}
 use Rattle.chunks.specs.Ordinary.{ordinaryType, allOrdinary}
 use Rattle.index.specs.Entries.{usageAt, numberAt, startAt, place, typedAt, entryFault, earlier, entriesFrom}
 use Rattle.reader.specs.Passed.{JudgesEntries}
-use Rattle.reader.specs.Straight.{CameTo, ChunkAt, Stands, Stepped, Suits, Allowed, Remembered, SoFar, Alongside, Straightly}
-use Rattle.chunks.proofs.ChunkLaws.{whole, walk-end, walk-next, chunk-even, ordinary-end, second-end, along-next, first-good}
+use Rattle.reader.specs.Straight.{CameTo, ChunkAt, Stands, Over, Stepped, Suits, Allowed, Remembered, SoFar, Alongside, Straightly}
+use Rattle.chunks.proofs.ChunkLaws.{whole, walk-end, walk-next, chunk-even, ordinary-end, ordinary-not, second-end, along-next, first-good}
 use Rattle.index.proofs.EntryLaws.{by-good, judged-at, entries-next, entries-end, before-next, before-none}
 use Rattle.index.proofs.IndexLaws.{shape-good}
 use Rattle.reader.proofs.ReadLaws.{is-judged, read-rest}
@@ -82,20 +84,24 @@ came-begins f base x p c h good =
 
 -- to the chunk of the last entry again
 pub step-same : (f : List ℕ) (base found at start : ℕ) (q : Bool) → start ≡ found → Stands f base found at q → Stepped (To at true) f base found at start q
-step-same f base found at start q e s = ((λ l. rw (e, and-true q) s), λ n. absurd (n e))
+step-same f base found at start q e s = ((λ l. (rw e (s .chunk (rw (← e) l) .0), λ o. rw (e, and-true q) s)), λ n. absurd (n e))
 
 -- to another one
-pub step-on : (f : List ℕ) (base found at start n t : ℕ) (q p o : Bool) → CameTo f at start p → start < length f → chunkFault start (drop start f) ≡ accept
-    → t ≡ rd32 (drop start f) → (t ≡ RIdx → ⊥) → o ≡ ordinaryType t → n ≡ skipAt f start → Stands f base found at q → Stepped (To n
-    (p && o)) f base found at start q
-step-on f base found at start n t q p o c h good et no-index eo en s =
+pub step-on : (f : List ℕ) (base found at start n : ℕ) (q p : Bool) → CameTo f at start p → Over (At n) f start → Stands f base found at q
+    → Stepped (To n p) f base found at start q
+step-on f base found at start n q p c v s =
     let there = came-then f base at start q p (s .came) c in
-    let i = whole f start h good in
-    let l : start ≤ n = omega (arith, i .past, i .next) in (
-      (λ z. record {
-        came = rw (and-assoc q p o) at (came-next f base start n t (q && p) o h good et no-index eo en there);
-        chunk = λ y. (came-begins f base start (q && p) there h good, l);
-      }),
+    let i = whole f start (v .0) (v .1) in
+    let l : start ≤ n = omega (arith, i .past, i .next, v .2) in
+    let here = came-begins f base start (q && p) there (v .0) (v .1) in (
+      (λ z. (
+        here,
+        λ o. record {
+          came = rw (and-true (q && p)) at (came-next f base start n _ (q && p) true (v .0) (v .1) refl (eqb-false _ _
+              (ordinary-not (rd32 (drop start f)) o .0)) (sym o) (v .2) there);
+          chunk = λ y. (here, l);
+        },
+      )),
       λ z. c .past,
     )
 
@@ -105,6 +111,9 @@ pub came-end : (f : List ℕ) (base at : ℕ) (p : Bool) → at ≡ length f →
 came-end f base at p e c =
     let l : length f ≤ at = omega arith in
     (sym (c .along .rest) ∙ walk-end f at l, sym (c .second) ∙ second-end f at l, λ o. sym (c .along .ordinary o) ∙ ordinary-end f at l)
+
+allowed-ordinary : (profile u : ℕ) (c : Chunk) → allows profile u c ≡ true → ordinaryType (c .type) ≡ true
+allowed-ordinary profile u c h = let n = allowed-not profile u c h in rw (n .0, n .1, n .2)
 
 -- 12, 14 and 15 by the numbers that the code has read
 pub suits-good : (profile : ℕ) (f : List ℕ) (p u x n : ℕ) (k : Usage) → u ≡ usageAt f p → usageOf u ≡ Is k → x ≡ startAt f p
@@ -148,6 +157,14 @@ module _ (profile : ℕ) (f : List ℕ) (p x u t : ℕ) (eu : u ≡ usageAt f p)
         typed = λ body. same-typed profile u t body _ (not-true _ (q .0)) (not-true _ (r .0)) ∙ sym typed-is ∙ y;
         numbered = r .1;
       }
+
+-- what rule 5 allows is an ordinary chunk
+pub good-ordinary : (profile : ℕ) (f : List ℕ) (base p x : ℕ) → startAt f p ≡ x → entryFault profile f base p ≡ accept → ordinaryType (rd32 (drop x f)) ≡ true
+unfolding entryFault chunkIn
+good-ordinary profile f base p x ex e =
+    let a = then-accept _ _ e in
+    let y = check-accept _ _ _ (then-accept _ _ (then-accept _ _ (a .1) .1) .0) in
+    allowed-ordinary profile (usageAt f p) (chunkFrom f x) (rw ex at y)
 
 -- before the first entry
 pub sofar-none : (profile : ℕ) (f : List ℕ) (base count found : ℕ) → (found < 4294967296 → ⊥) → SoFar profile f base count 0 found base

@@ -5,18 +5,23 @@ use mathlib.Core.List.{List}
 use mathlib.Core.Bool.{Bool, true, false, _&&_, not}
 use lib.ListN.{length, drop}
 use lib.Dec.{eqb}
+use Rattle.blorb.specs.Bytes.{rd32}
 use Rattle.blorb.specs.Format.{isStart, chunkOf}
 use Rattle.blorb.specs.Usages.{codeOf}
 use Rattle.blorb.specs.Rules.{allows}
 use Rattle.blorb.specs.Verdict.{accept, chunkFault, secondIndex, knownUsage, pairIn}
 use Rattle.blorb.specs.declared.Usage.the-variants.{Exec}
-use Rattle.chunks.specs.Walk.{chunksFrom, walkFrom, Reached}
-use Rattle.chunks.specs.Ordinary.{allOrdinary, Along}
+use Rattle.chunks.specs.Walk.{chunksFrom, walkFrom, skipAt, Reached}
+use Rattle.chunks.specs.Ordinary.{ordinaryType, allOrdinary, Along}
 use Rattle.index.specs.Entries.{usageAt, numberAt, startAt, place, entryFault, entriesFrom, earlier, Before}
 use Rattle.reader.specs.Passed.{JudgesEntries}
 use Rattle.reader.specs.declared.Judgement.the-variants as judgement
 use Rattle.reader.specs.declared.straight.Fit.{Fit}
 use Rattle.reader.specs.declared.straight.Fit.the-variants.{Suited, Unfit}
+use Rattle.reader.specs.declared.straight.Pair.{Pair}
+use Rattle.reader.specs.declared.straight.Pair.the-variants.{New, Repeated}
+use Rattle.reader.specs.declared.straight.Next.{Next}
+use Rattle.reader.specs.declared.straight.Next.the-variants.{At, Faulty}
 use Rattle.reader.specs.declared.straight.Step.{Step}
 use Rattle.reader.specs.declared.straight.Step.the-variants.{To, Away}
 use Rattle.reader.specs.declared.straight.Straight.{Straight}
@@ -40,10 +45,16 @@ pub record Stands (f : List ℕ) (base found at : ℕ) (p : Bool) : Type 0 where
   pub came : CameTo f base at p
   pub chunk : found < 4294967296 → ChunkAt f base found × (found ≤ at)
 
--- the walk has gone on to the chunk at start, or there is nothing to say
+-- a good chunk begins at start, and behind it the next
+abbrev pub Over : Next → List ℕ → ℕ → Type 0
+Over (At behind) f start = (start < length f) × (chunkFault start (drop start f) ≡ accept) × (behind ≡ skipAt f start)
+Over Faulty f start = Unit {0}
+
+-- the walk has gone on to the chunk at start, and over it if its type is an ordinary one, or there is nothing to say
 abbrev pub Stepped : Step → List ℕ → ℕ → ℕ → ℕ → ℕ → Bool → Type 0
 Stepped (To behind ordinary) f base found at start q =
-    (start < 4294967296 → Stands f base start behind (q && ordinary)) × ((start ≡ found → ⊥) → at ≤ start)
+    (start < 4294967296 → ChunkAt f base start × (ordinaryType (rd32 (drop start f)) ≡ true → Stands f base start behind (q && ordinary)))
+    × ((start ≡ found → ⊥) → at ≤ start)
 Stepped Away f base found at start q = Unit {0}
 
 -- 12, 14 and 15 are ruled out, so that only 13 is left to judge
@@ -67,6 +78,11 @@ Fitted profile Unfit f p = Unit {0}
 -- none of the first i entries has the pair of entry j
 abbrev pub FreshTo : List ℕ → (base j i : ℕ) → Type 0
 FreshTo f base j i = pairIn (usageAt f (place j)) (numberAt f (place j)) (earlier f base i) ≡ false
+
+-- and entry j's number is below `above`, as all numbers of its usage are that were below top
+abbrev pub Freshly : Pair → List ℕ → (j number top : ℕ) → Type 0
+Freshly (New above) f j number top = ((base : ℕ) → FreshTo f base j j) × (number < above) × (top ≤ above)
+Freshly Repeated f j number top = Unit {0}
 
 -- of an accepted walk: what the first j of count entries leave to judge
 pub record SoFar (profile : ℕ) (f : List ℕ) (base count j found at : ℕ) : Type 0 where

@@ -12,23 +12,24 @@ ghost use Rattle.blorb.specs.Verdict.{accept};
 ghost use Rattle.blorb.specs.Format.{entriesIn, isStart};
 ghost use Rattle.chunks.specs.Ordinary.{allOrdinary};
 ghost use Rattle.chunks.specs.Walk.{chunksFrom, walkFrom};
-ghost use Rattle.index.specs.Entries.{place, startAgain};
+ghost use Rattle.index.specs.Entries.{place, startAt, startAgain};
 ghost use Rattle.reader.specs.Inspecting.{pieceOf, targetOf, frontOf, factsOf};
 ghost use Rattle.reader.specs.Passed.{Passed, modelAt, Fronts, frontFrom};
 
-// Whether an entry other than entry `i` has this start.
+// Whether an entry other than entry `i` has its start. Entries stand in the order of their chunks, so it would stand beside it.
 fn start_again(s: &[u8], count: usize, i: usize, start: u64) -> bool
-    requires { ⌜ (count ≤ 4096) × (place count ≤ length (now s)) ⌝ }
+    requires { ⌜ Passed (now s) count × (i < count) × (start ≡ startAt (now s) (place i)) ⌝ }
     ensures { λ r. ⌜ r ≡ startAgain start i 0 (entriesIn count (drop 24 (now (s .entry)))) ⌝ }
 {
-    let mut j: usize = 0;
-    while j < count {
-        if (j != i) & (blorb::be32_at(s, 24 + 12 * j + 8) == start) {
+    if i + 1 < count {
+        if blorb::be32_at(s, 24 + 12 * (i + 1) + 8) == start {
             return true;
         }
-        j += 1;
     }
-    false
+    if i == 0 {
+        return false;
+    }
+    blorb::be32_at(s, 24 + 12 * (i - 1) + 8) == start
 }
 
 // Entry `i` and its chunk.

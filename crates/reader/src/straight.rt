@@ -13,7 +13,7 @@ ghost use Rattle.blorb.specs.Usages.{codeOf};
 ghost use Rattle.blorb.specs.declared.Usage.the-variants.{Exec};
 ghost use Rattle.blorb.specs.Verdict.{accept, chunkFault};
 ghost use Rattle.index.specs.Entries.{numberAt, startAt, place, Topped};
-ghost use Rattle.reader.specs.Straight.{CameTo, Suits, Remembered, Fitted, Stands, Stepped, FreshTo, Alongside, Straightly};
+ghost use Rattle.reader.specs.Straight.{CameTo, Suits, Remembered, Fitted, Stands, Over, Stepped, FreshTo, Freshly, Alongside, Straightly};
 
 // How far a walk came; `ordinary` is true only where it met ordinary chunks alone.
 pub struct Came {
@@ -21,7 +21,13 @@ pub struct Came {
     pub ordinary: bool,
 }
 
-// The way to an entry's chunk: where the chunk behind it begins, and whether only ordinary chunks were met.
+// Where the chunk behind a good one begins.
+pub enum Next {
+    At(usize),
+    Faulty,
+}
+
+// The way to an entry's chunk: where the chunk behind it begins, and whether only ordinary chunks were met before it.
 pub enum Step {
     To(usize, bool),
     Away,
@@ -31,6 +37,12 @@ pub enum Step {
 pub enum Fit {
     Suited(u64, u64),
     Unfit,
+}
+
+// A pair that no earlier entry has, with a number above all of its usage so far.
+pub enum Pair {
+    New(u64),
+    Repeated,
 }
 
 // `Unsure`: the file has to be judged in turn.
@@ -65,10 +77,35 @@ fn pass_over(s: &[u8], from: usize, to: usize) -> Came
     Came { at, ordinary }
 }
 
-// The way from `at`, behind the last entry's chunk `found`, to the chunk at `start`.
+// Where the chunk behind the one at `start` begins. That it is no index, 'RelN' or 'Fspc' is left to rule 5.
+fn over(s: &[u8], start: usize) -> Next
+    requires { ⌜ start < 4294967296 ⌝ }
+    ensures { λ r. ⌜ Over r (now (s .entry)) start ⌝ }
+{
+    if s.len() < start + 8 {
+        return Next::Faulty;
+    }
+    if let Check::Refused {
+        number: _,
+        place: _,
+    } = chunks::chunk(s, start) {
+        return Next::Faulty;
+    }
+    Next::At(chunks::skip(s, start))
+}
+
+// The way from `at`, behind the last entry's chunk `found`, to the chunk at `start` and over it. The chunk is read before it is known that the walk comes
+// to it: so its header is fetched at once, and does not wait for the lengths of the chunks before.
 fn step_to(s: &[u8], found: usize, at: usize, start: usize) -> Step
+    requires { ⌜ start < 4294967296 ⌝ }
     ensures { λ r. ⌜ ((base : ℕ) (q : Bool) → Stands (now (s .entry)) base found at q → Stepped r (now (s .entry)) base found at start q) ⌝ }
 {
+    let Next::At(behind) = over(s, start) else {
+        return Step::Away;
+    };
+    if start == at {
+        return Step::To(behind, true);
+    }
     if start == found {
         return Step::To(at, true);
     }
@@ -76,23 +113,7 @@ fn step_to(s: &[u8], found: usize, at: usize, start: usize) -> Step
     if came.at != start {
         return Step::Away;
     }
-    if s.len() <= start {
-        return Step::Away;
-    }
-    if let Check::Refused {
-        number: _,
-        place: _,
-    } = chunks::chunk(s, start) {
-        return Step::Away;
-    }
-    let kind = blorb::be32_at(s, start);
-    if kind == blorb::RIDX {
-        return Step::Away;
-    }
-    Step::To(
-        chunks::skip(s, start),
-        came.ordinary & chunks::is_ordinary(kind),
-    )
+    Step::To(behind, came.ordinary)
 }
 
 // Whether the entry at `p`, whose chunk begins at `start`, gives no cause for 12, 14 and 15. The plain types are tested first: most entries have one.
@@ -180,26 +201,18 @@ fn repeats(s: &[u8], j: usize) -> bool
     in_rest(s, i, j)
 }
 
-// Whether no entry before entry j has its usage and number; all of its usage have numbers below `top`.
-fn is_fresh(s: &[u8], j: usize, number: u64, top: u64) -> bool
-    requires { ⌜ (j < 4096) × (place j + 8 ≤ length (now s)) × (numberAt (now s) (place j) ≡ number) × Topped (now s) j top ⌝ }
-    ensures { λ r. ⌜ (r ≡ true → (base : ℕ) → FreshTo (now (s .entry)) base j j) ⌝ }
+// Whether no entry before entry j has its pair; the numbers of its usage so far are below `top`.
+fn new_pair(s: &[u8], j: usize, number: u64, top: u64) -> Pair
+    requires { ⌜ (j < 4096) × (place j + 8 ≤ length (now s)) × (numberAt (now s) (place j) ≡ number) × (number < 4294967296) × Topped (now s) j top ⌝ }
+    ensures { λ r. ⌜ Freshly r (now (s .entry)) j number top ⌝ }
 {
     if top <= number {
-        return true;
+        return Pair::New(number + 1);
     }
-    !repeats(s, j)
-}
-
-// A number above `number` and not below `top`.
-fn above(top: u64, number: u64) -> u64
-    requires { ⌜ number < 4294967296 ⌝ }
-    ensures { λ r. ⌜ (number < r) × (top ≤ r) ⌝ }
-{
-    if number < top {
-        return top;
+    if repeats(s, j) {
+        return Pair::Repeated;
     }
-    number + 1
+    Pair::New(top)
 }
 
 // The entries with their chunks, which stand from the index's end on, and the chunks behind the last of them.
@@ -226,10 +239,10 @@ fn side_by_side(s: &[u8], profile: u32, count: usize) -> Straight
         let k = entries::slot(blorb::be32_at(s, p));
         let number = blorb::be32_at(s, p + 4);
         let top = tops[k];
-        if !is_fresh(s, j, number, top) {
+        let Pair::New(new_top) = new_pair(s, j, number, top) else {
             return Straight::Unsure;
-        }
-        tops[k] = above(top, number);
+        };
+        tops[k] = new_top;
         found = start;
         at = behind;
         ordinary = ordinary & also;

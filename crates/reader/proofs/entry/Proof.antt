@@ -5,15 +5,6 @@ use borrow.Author.Needs.{needs}
 use Rattle.reader.proofs.entry.Statement.{statement}
 use Rattle.reader.proofs.entry.Tie as tie
 
-read-requires : tie.Need-read-requires
-read-requires c κs = search needs
-
-enum-known-number : tie.Need-enum-known-number
-enum-known-number c = search needs
-
-enum-known-count : tie.Need-enum-known-count
-enum-known-count c = search needs
-
 returns : tie.Need-returns
 returns c = entry-22 _ _ _ _ (accepted _ _ _ _ (sym (c .before .before .before .before .read .ensures) ∙ c .before .before .count .given .1)) (c .if1 .taken)
 
@@ -28,15 +19,6 @@ add-p c = let g = (accepted _ _ _ _ (sym (c .before .before .before .before .rea
 be32-at-requires : tie.Need-be32-at-requires
 be32-at-requires c κs = let g = (accepted _ _ _ _ (sym (c .before .before .before .before .read .ensures) ∙ c .before .before .count .given .1)) in
     omega (arith, g .passed .judged .room, c .if1 .left)
-
-of-code-requires : tie.Need-of-code-requires
-of-code-requires c κs = search needs
-
-enum-known-usage : tie.Need-enum-known-usage
-enum-known-usage c = search needs
-
-enum-told : tie.Need-enum-told
-enum-told c = search needs
 
 returns-2 : tie.Need-returns-2
 returns-2 c = entry-unknown _ _ _ _ (accepted _ _ _ _ (sym (c .before .before .before .before .before .before .before .before .read .ensures)
@@ -53,9 +35,6 @@ be32-at-requires-2 c κs = let g = (accepted _ _ _ _ (sym (c .before .before .be
     ∙ c .before .before .before .before .before .before .before .count .given .1)) in
     omega (arith, g .passed .judged .room, c .before .before .before .before .before .if1 .left)
 
-cast-number : tie.Need-cast-number
-cast-number c = search needs
-
 add-be32-at-2 : tie.Need-add-be32-at-2
 add-be32-at-2 c = let g = (accepted _ _ _ _ (sym (c .before .before .before .before .before .before .before .before .before .before .read .ensures)
     ∙ c .before .before .before .before .before .before .before .before .count .given .1)) in
@@ -65,9 +44,6 @@ be32-at-requires-3 : tie.Need-be32-at-requires-3
 be32-at-requires-3 c κs = let g = (accepted _ _ _ _ (sym (c .before .before .before .before .before .before .before .before .before .before .read .ensures)
     ∙ c .before .before .before .before .before .before .before .before .count .given .1)) in
     omega (arith, g .passed .judged .room, c .before .before .before .before .before .before .if1 .left)
-
-cast-start : tie.Need-cast-start
-cast-start c = search needs
 
 returns-3 : tie.Need-returns-3
 returns-3 c = entry-no _ _ _ _ _ (refused-as _ _ _ _ (sym (c .before .before .before .read .ensures) ∙ c .before .number .given .1))
@@ -84,22 +60,22 @@ pub entry-spec : {M : Type 1} → statement M
 entry-spec =
     tie.close
     (tie.spec
-    read-requires
-    enum-known-number
-    enum-known-count
+    (λ c κs. search needs)
+    (λ c. search needs)
+    (λ c. search needs)
     returns
     mul-p
     add-p
     be32-at-requires
-    of-code-requires
-    enum-known-usage
-    enum-told
+    (λ c κs. search needs)
+    (λ c. search needs)
+    (λ c. search needs)
     returns-2
     add-be32-at
     be32-at-requires-2
-    cast-number
+    (λ c. search needs)
     add-be32-at-2
     be32-at-requires-3
-    cast-start
+    (λ c. search needs)
     returns-3
     returns-4)

@@ -4,15 +4,6 @@ use borrow.Author.Needs.{needs}
 use Rattle.reader.proofs.inspect.Statement.{statement}
 use Rattle.reader.proofs.inspect.Tie as tie
 
-judge-file-requires : tie.Need-judge-file-requires
-judge-file-requires c κs = search needs
-
-enum-known-number : tie.Need-enum-known-number
-enum-known-number c = search needs
-
-enum-known-count : tie.Need-enum-known-count
-enum-known-count c = search needs
-
 facts-requires : tie.Need-facts-requires
 facts-requires c κs =
     let j = judged-good _ _ _ _ _ (c .before .before .before .judge-file .ensures) (c .before .count .given .1) in
@@ -29,9 +20,9 @@ pub inspect-spec : {M : Type 1} → statement M
 inspect-spec =
     tie.close
     (tie.spec
-    judge-file-requires
-    enum-known-number
-    enum-known-count
+    (λ c κs. search needs)
+    (λ c. search needs)
+    (λ c. search needs)
     facts-requires
     returns
     returns-2)

@@ -12,46 +12,22 @@ use borrow.Author.Needs.{needs}
 use Rattle.reader.proofs.judge_in_turn.Statement.{statement}
 use Rattle.reader.proofs.judge_in_turn.Tie as tie
 
-head-requires : tie.Need-head-requires
-head-requires c κs = search needs
-
-enum-known-number : tie.Need-enum-known-number
-enum-known-number c = search needs
-
 returns : tie.Need-returns
 returns c = read-1 _ _ _ _ (sym (c .before .before .before .head .ensures) ∙ ap verdictOf (c .before .number .given .1))
-
-enum-told : tie.Need-enum-told
-enum-told c = search needs
-
-walk-requires : tie.Need-walk-requires
-walk-requires c κs = search needs
-
-enum-known-fault : tie.Need-enum-known-fault
-enum-known-fault c = search needs
 
 returns-2 : tie.Need-returns-2
 returns-2 c = read-2 _ _ (sym (c .before .before .before .before .before .before .head .ensures)
     ∙ ap verdictOf (c .before .before .before .before .enum-told .given .1)) _ _ (sym (c .before .before .before .walk .ensures .0)
     ∙ ap verdictOf (c .before .fault .given .1))
 
-enum-told-2 : tie.Need-enum-told-2
-enum-told-2 c = search needs
-
 first-requires : tie.Need-first-requires
 first-requires c κs = (sym (c .before .before .walk .ensures .0) ∙ ap verdictOf (c .enum-told2 .given .1))
-
-enum-known-number-2 : tie.Need-enum-known-number-2
-enum-known-number-2 c = search needs
 
 returns-3 : tie.Need-returns-3
 returns-3 c = read-3 _ _ (sym (c .before .before .before .before .before .before .before .before .before .head .ensures)
     ∙ ap verdictOf (c .before .before .before .before .before .before .before .enum-told .given .1))
     (sym (c .before .before .before .before .before .before .walk .ensures .0) ∙ ap verdictOf (c .before .before .before .before .enum-told2 .given .1)) _ _
     (sym (c .before .before .before .first .ensures) ∙ ap verdictOf (c .before .number2 .given .1))
-
-enum-told-3 : tie.Need-enum-told-3
-enum-told-3 c = search needs
 
 skip-requires : tie.Need-skip-requires
 skip-requires c κs = fine _ 12 (first-long _ (sym (c .before .before .first .ensures) ∙ ap verdictOf (c .enum-told3 .given .1)))
@@ -66,9 +42,6 @@ second-if-requires c κs = (
       x)) (c .skip .ensures) ∙ c .before .before .before .before .before .before .walk .ensures .1 e,
 )
 
-enum-known-number-3 : tie.Need-enum-known-number-3
-enum-known-number-3 c = search needs
-
 returns-4 : tie.Need-returns-4
 returns-4 c = read-4 _ _ (sym (c .before .before .before .before .before .before .before .before .before .before .before .before .before .head .ensures)
     ∙ ap verdictOf (c .before .before .before .before .before .before .before .before .before .before .before .enum-told .given .1))
@@ -78,9 +51,6 @@ returns-4 c = read-4 _ _ (sym (c .before .before .before .before .before .before
     ∙ ap verdictOf (c .before .before .before .before .before .enum-told3 .given .1)) _ (c .before .before .before .before .skip .ensures) _ _
     (sym (c .before .before .before .second-if .ensures) ∙ ap verdictOf (c .before .number3 .given .1))
 
-enum-told-4 : tie.Need-enum-told-4
-enum-told-4 c = search needs
-
 shape-requires : tie.Need-shape-requires
 shape-requires c κs = (
   first-long _ (sym (c .before .before .before .before .before .before .first .ensures)
@@ -88,9 +58,6 @@ shape-requires c κs = (
   (sym (c .before .before .before .before .before .before .before .before .before .walk .ensures .0)
       ∙ ap verdictOf (c .before .before .before .before .before .before .before .enum-told2 .given .1)),
 )
-
-enum-known-number-4 : tie.Need-enum-known-number-4
-enum-known-number-4 c = search needs
 
 returns-5 : tie.Need-returns-5
 returns-5 c = read-5 _ _ (sym (c .before .before .before .before .before .before .before .before .before .before .before .before .before .before .before
@@ -103,9 +70,6 @@ returns-5 c = read-5 _ _ (sym (c .before .before .before .before .before .before
     (c .before .before .before .before .before .before .before .skip .ensures) (sym (c .before .before .before .before .before .before .second-if .ensures)
     ∙ ap verdictOf (c .before .before .before .before .enum-told4 .given .1)) _ _ (sym (c .before .before .before .shape .ensures)
     ∙ ap verdictOf (c .before .number4 .given .1))
-
-enum-told-5 : tie.Need-enum-told-5
-enum-told-5 c = search needs
 
 be32-at-requires : tie.Need-be32-at-requires
 be32-at-requires c κs = omega (
@@ -126,9 +90,6 @@ entries-requires c κs = let s =
     (sym (c .before .before .before .shape .ensures) ∙ ap verdictOf (c .before .enum-told5 .given .1)) _ (c .be32-at .ensures .0) in
     (s .few, s .room, s .walks)
 
-enum-known-number-5 : tie.Need-enum-known-number-5
-enum-known-number-5 c = search needs
-
 returns-6 : tie.Need-returns-6
 returns-6 c = read-6 _ _ (sym (c .before .before .before .before .before .before .before .before .before .before .before .before .before .before .before
     .before .before .before .before .before .head .ensures)
@@ -144,9 +105,6 @@ returns-6 c = read-6 _ _ (sym (c .before .before .before .before .before .before
     (sym (c .before .before .before .before .before .before .before .shape .ensures)
     ∙ ap verdictOf (c .before .before .before .before .before .enum-told5 .given .1)) _ (c .before .before .before .before .be32-at .ensures .0) _ _
     (sym (c .before .before .before .entries .ensures) ∙ ap verdictOf (c .before .number5 .given .1))
-
-enum-told-6 : tie.Need-enum-told-6
-enum-told-6 c = search needs
 
 returns-7 : tie.Need-returns-7
 returns-7 c = (
@@ -190,30 +148,30 @@ pub judge-in-turn-spec : {M : Type 1} → statement M
 judge-in-turn-spec =
     tie.close
     (tie.spec
-    head-requires
-    enum-known-number
+    (λ c κs. search needs)
+    (λ c. search needs)
     returns
-    enum-told
-    walk-requires
-    enum-known-fault
+    (λ c. search needs)
+    (λ c κs. search needs)
+    (λ c. search needs)
     returns-2
-    enum-told-2
+    (λ c. search needs)
     first-requires
-    enum-known-number-2
+    (λ c. search needs)
     returns-3
-    enum-told-3
+    (λ c. search needs)
     skip-requires
     second-if-requires
-    enum-known-number-3
+    (λ c. search needs)
     returns-4
-    enum-told-4
+    (λ c. search needs)
     shape-requires
-    enum-known-number-4
+    (λ c. search needs)
     returns-5
-    enum-told-5
+    (λ c. search needs)
     be32-at-requires
     entries-requires
-    enum-known-number-5
+    (λ c. search needs)
     returns-6
-    enum-told-6
+    (λ c. search needs)
     returns-7)

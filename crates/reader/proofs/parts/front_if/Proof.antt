@@ -8,12 +8,6 @@ use Rattle.reader.proofs.parts.front_if.Tie as tie
 returns : tie.Need-returns
 returns c = front-ordinary _ _ (c .before .before .pre .1 (c .if1 .taken))
 
-mul-front-from : tie.Need-mul-front-from
-mul-front-from c = search needs
-
-add-front-from : tie.Need-add-front-from
-add-front-from c = search needs
-
 front-from-requires : tie.Need-front-from-requires
 front-from-requires c κs = (c .before .before .pre .0 .short, c .before .before .pre .0 .judged .walks, passed-fronts _ _ (c .before .before .pre .0))
 
@@ -22,4 +16,4 @@ returns-2 c = c .front-from .ensures ∙ front-is _ _
 
 pub front-if-spec : {M : Type 1} → statement M
 front-if-spec =
-    tie.close (tie.spec returns mul-front-from add-front-from front-from-requires returns-2)
+    tie.close (tie.spec returns (λ c. search needs) (λ c. search needs) front-from-requires returns-2)

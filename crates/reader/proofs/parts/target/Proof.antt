@@ -4,12 +4,6 @@ use borrow.Author.Needs.{needs}
 use Rattle.reader.proofs.parts.target.Statement.{statement}
 use Rattle.reader.proofs.parts.target.Tie as tie
 
-find-place-requires : tie.Need-find-place-requires
-find-place-requires c κs = search needs
-
-piece-requires : tie.Need-piece-requires
-piece-requires c κs = search needs
-
 returns : tie.Need-returns
 returns c = target-there (now (c .before .before .before .before .args .s)) _ _ _ _ (c .before .before .find-place .ensures) (c .before .if1 .taken) _
     (c .piece .ensures)
@@ -18,4 +12,4 @@ returns-2 : tie.Need-returns-2
 returns-2 c = target-none (now (c .before .before .before .args .s)) _ _ _ _ (c .before .find-place .ensures) (c .if1 .left)
 
 pub target-spec : {M : Type 1} → statement M
-target-spec = tie.close (tie.spec find-place-requires piece-requires returns returns-2)
+target-spec = tie.close (tie.spec (λ c κs. search needs) (λ c κs. search needs) returns returns-2)

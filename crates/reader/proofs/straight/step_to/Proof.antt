@@ -1,60 +1,44 @@
--- The entry's chunk is the one before, or the walk comes to it over good chunks and it is good itself.
-use native.Mathlib.Omega.{arith}
-use Prim.Native.Nat.{_+_, _≤_}
-use mathlib.Core.Path.{_≡_, sym, ap, _∙_}
+-- The entry's chunk is the next one, or the one of the last entry again, or the walk comes to it over good chunks.
+use mathlib.Core.Path.{_≡_}
+use mathlib.Core.Bool.{true}
+use Rattle.reader.specs.Straight.{Over}
+use Rattle.reader.specs.declared.straight.Next.the-variants.{At}
 use denote.Ref.{now}
-use lib.ListN.{length, drop}
-use Rattle.blorb.specs.Verdict.{accept, chunkFault}
-use Rattle.chunks.specs.Walk.{verdictOf}
-use Rattle.chunks.proofs.ChunkLaws.{chunk-good-header}
-use Rattle.reader.proofs.StraightLaws.{step-same, step-on}
 use borrow.Author.Needs.{needs}
+use Rattle.reader.proofs.StraightLaws.{came-none, step-same, step-on}
 use Rattle.reader.proofs.straight.step_to.Statement.{statement}
 use Rattle.reader.proofs.straight.step_to.Tie as tie
 
-returns : tie.Need-returns
-returns c = λ base q s. step-same _ _ _ _ _ q (c .if1 .taken) s
+-- a good chunk begins at start
+good : (c : tie.After-known-told) → Over (At (c .before .behind .given .0 .0)) (now (c .before .before .before .before .before .args .s))
+    (c .before .before .before .before .before .args .start)
+good c = rw (c .before .behind .given .1) at (c .before .before .before .over .ensures)
 
--- the chunk has no fault
-good : (c : tie.After-enum-told2) → chunkFault (c .before .before .before .before .before .before .before .before .before .args .start) (drop
-    (c .before .before .before .before .before .before .before .before .before .args .start) (now
-    (c .before .before .before .before .before .before .before .before .before .args .s))) ≡ accept
-good c = sym (c .before .before .chunk .ensures) ∙ ap verdictOf (c .enum-told2 .given .1)
+returns-2 : tie.Need-returns-2
+returns-2 c = λ base q s.
+    let a = c .before .before .before .before .before .before .args in
+    step-on (now (a .s)) base _ (a .at) (a .start) _ q true (rw (c .if1 .taken) (came-none _ _)) (good (c .before)) s
 
-header : (c : tie.After-enum-told2) → c .before .before .before .before .before .before .before .before .before .args .start + 8 ≤ length (now
-    (c .before .before .before .before .before .before .before .before .before .args .s))
-header c = chunk-good-header _ _ (c .before .before .before .if3 .left) (good c)
+returns-3 : tie.Need-returns-3
+returns-3 c = λ base q s. step-same _ _ _ _ _ q (c .if2 .taken) s
 
-be32-at-requires : tie.Need-be32-at-requires
-be32-at-requires c κs = omega (arith, header c)
-
-skip-requires : tie.Need-skip-requires
-skip-requires c κs = header (c .before .before)
-
-returns-6 : tie.Need-returns-6
-returns-6 c = λ base q s.
-    let walk = c .before .before .before .before .before .before .before .before .before .before .before .pass-over in
-    let a = c .before .before .before .before .before .before .before .before .before .before .before .before .before .before .args in
-    let there : walk .result .at ≡ a .start = c .before .before .before .before .before .before .before .before .before .if2 .left in
-    step-on _ base _ _ _ _ _ q _ _ (rw there at (walk .ensures))
-    (c .before .before .before .before .before .before .before .before .if3 .left) (good (c .before .before .before .before .before))
-    (c .before .before .before .before .be32-at .ensures .0) (c .before .before .before .if4 .left)
-    (c .before .is-ordinary .ensures) (c .before .before .skip .ensures) s
+returns-5 : tie.Need-returns-5
+returns-5 c = λ base q s.
+    let walk = c .before .before .pass-over in
+    let a = c .before .before .before .before .before .before .before .before .before .before .args in
+    let there : walk .result .at ≡ a .start = c .if3 .left in
+    step-on _ base _ _ _ _ q _ (rw there at (walk .ensures)) (good (c .before .before .before .before .before)) s
 
 pub step-to-spec : {M : Type 1} → statement M
 step-to-spec =
     tie.close
     (tie.spec
-    returns
-    (λ c κs. search needs)
-    (λ c. search needs)
-    (λ c. search needs)
     (λ c κs. search needs)
     (λ c. search needs)
     (λ c. search needs)
     (λ c. search needs)
-    be32-at-requires
-    (λ c. search needs)
-    skip-requires
+    returns-2
+    returns-3
     (λ c κs. search needs)
-    returns-6)
+    (λ c. search needs)
+    returns-5)
