@@ -101,7 +101,7 @@ typedef struct editing {
     place p;
     contents c;
     journal j;
-    journal_answer found; /* READY, or with --no-undo whatever it is */
+    journal_answer found; /* READY, or with --no-undo whatever cannot be undone */
 } editing;
 
 /* Opened for writing too, so that a file which the user may not change is left alone. */
@@ -128,7 +128,8 @@ static int begin(editing *e, const request *r, int undoing)
         return status;
     file_id present = id_of(e->c.file, e->c.length);
     e->found = load_journal(&e->p, &present, r->profile, &e->j);
-    if (e->found != JOURNAL_READY && !r->no_undo)
+    /* --no-undo gets round a journal that cannot be undone, but not round one that can be under its own profile. */
+    if (e->found != JOURNAL_READY && (!r->no_undo || knows_file(e->found)))
         return say_unusable(r->file, &e->p, e->found, undoing);
     return CARRIED_OUT;
 }
@@ -169,7 +170,7 @@ static int store(editing *e, step *s)
 /* Without a journal. One that knows the present file would not know the new one. */
 static int store_alone(editing *e)
 {
-    if (knows_file(e->found) && e->j.now.edits > 0)
+    if (e->found == JOURNAL_READY && e->j.now.edits > 0)
         return say_cannot(e->r->file, "after an edit with --no-undo the earlier edits could not be undone any more",
                           "Leave --no-undo out, or give undoing up first with `blorb forget FILE`.");
     return store(e, NULL);

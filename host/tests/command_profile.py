@@ -113,14 +113,17 @@ def contradicting(work):
 
 
 def others(work, file, option, saying, advice):
-    """Without the journal's own option (or with it, where it has none) every edit and undo is refused, and nothing changes; history is told."""
+    """Without the journal's own option (or with it, where it has none) every edit and undo is refused, and nothing changes; history is told.
+    An edit is told so before anything is said of the edit itself, and with --no-undo it is told the same."""
     held = contents(work)
     result = refused(21, 0, "undo", file, *option, advice=advice)
     expect(saying in result.err, f"undo says which: {result.err}")
     for words in (["add", file, "Data", "9", "TEXT", "-"], ["replace", file, "Data", "3", "TEXT", "-"], ["remove", file, "Data", "3"],
-                  ["link", file, "Data", "3", "Data", "9"]):
-        expect(advice in failed(*words, *option, stdin=b"new", saying=saying).err, f"{words[0]}: advice")
-        failed(*words, *option, "--no-undo", stdin=b"new", saying="could not be undone any more")
+                  ["link", file, "Data", "3", "Data", "9"], ["remove", file, "Data", "10"], ["add", file, "Data", "3", "TEXT", "-"]):
+        result = failed(*words, *option, stdin=b"new", saying=saying)
+        expect(advice in result.err, f"{words[0]}: advice")
+        same(failed(*words, *option, "--no-undo", stdin=b"new"), result, f"{words[0]} --no-undo")
+        same(contents(work), held, f"{words[0]}: file and journal are as they were, and nothing else is there")
     expect(b"added Data 8" in done("history", file, *option), "history")
     same(contents(work), held, "nothing changes")
 
@@ -135,6 +138,7 @@ def remembered(work):
         done("add", file, "Data", "8", "TEXT", "-", *own, stdin=b"eight")
         same((work / UNDO).read_bytes()[:16], head, "the head of the journal")
         others(work, file, other, saying, advice)
+        failed("remove", file, "Data", "3", "--no-undo", *own, saying="Leave --no-undo out")
         done("remove", file, "Data", "3", *own)
         same(len(done("history", file, *own).splitlines()), 2, "it goes on under its own")
         done("undo", file, "2", *own)
