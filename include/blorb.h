@@ -61,10 +61,10 @@ extern "C" {
 
 /* The version of this header, as one number major * 1000000 + minor * 1000 + patch. A major version may change what a call takes. */
 #define BLORB_VERSION_MAJOR 2
-#define BLORB_VERSION_MINOR 5
+#define BLORB_VERSION_MINOR 6
 #define BLORB_VERSION_PATCH 0
 #define BLORB_VERSION (BLORB_VERSION_MAJOR * 1000000 + BLORB_VERSION_MINOR * 1000 + BLORB_VERSION_PATCH)
-#define BLORB_VERSION_TEXT "2.5.0"
+#define BLORB_VERSION_TEXT "2.6.0"
 
 /* The version of the archive that the program is linked with: BLORB_VERSION, where header and archive belong together. */
 uint32_t blorb_version(void);
@@ -519,8 +519,8 @@ blorb_edit_answer blorb_undo(uint8_t *file, size_t size, size_t length,
 
 /*
  * An editor: both buffers, the two lengths and the profile in one place. The functions over it hand them to the calls above and store the
- * lengths that these hand back, so that no call is ever given the lengths of another one. Begin with blorb_editor_begin or blorb_editor_blank,
- * and change no member by hand but to lend a larger buffer that holds the same bytes.
+ * lengths that these hand back, so that no call is ever given the lengths of another one. Begin with blorb_editor_begin, blorb_editor_blank or
+ * blorb_editor_resume, and change no member by hand but to lend a larger buffer that holds the same bytes.
  *
  *     blorb_editor e;
  *     blorb_read_answer r = blorb_editor_begin(&e, file, sizeof file, length, journal, sizeof journal, BLORB_PLAIN);
@@ -529,8 +529,8 @@ blorb_edit_answer blorb_undo(uint8_t *file, size_t size, size_t length,
  *         show(blorb_sentence(a.refusal));
  *     save(e.file, e.length);
  *
- * To go on later, keep the file's `length` bytes, the journal's `used` bytes and the profile. Set all seven members then: undo goes on where
- * it was, and a file or journal that was damaged meanwhile is refused like any other.
+ * To go on later, keep the file's `length` bytes, the journal's `used` bytes and the profile, and give them to blorb_editor_resume: undo then goes
+ * on where it was. A file that was damaged meanwhile is refused at once, like any other; each undo judges the record that it takes back.
  */
 typedef struct blorb_editor {
     uint8_t *file;       /* the file buffer */
@@ -542,15 +542,21 @@ typedef struct blorb_editor {
     uint32_t profile;    /* BLORB_PLAIN or BLORB_ADRIFT */
 } blorb_editor;
 
-/* Inside: the file that is lent to a call that only reads. Of a length beyond the buffer none is: blorb_editor_refusal puts its 20 right. */
+/* Inside: whether both lengths are within their buffers. */
+static inline int blorb_editor_within(const blorb_editor *e)
+{
+    return e->length <= e->size && e->used <= e->journal_size;
+}
+
+/* Inside: the file that is lent to a call that only reads. With a length beyond its buffer none is: blorb_editor_refusal puts its 20 right. */
 static inline size_t blorb_editor_lent(const blorb_editor *e)
 {
-    return e->length <= e->size ? e->length : 0;
+    return blorb_editor_within(e) ? e->length : 0;
 }
 
 static inline uint64_t blorb_editor_refusal(const blorb_editor *e, uint64_t refusal)
 {
-    return e->length <= e->size || refusal == BLORB_PROFILE ? refusal : (uint64_t)BLORB_LENGTHS;
+    return blorb_editor_within(e) || refusal == BLORB_PROFILE ? refusal : (uint64_t)BLORB_LENGTHS;
 }
 
 /* Inside: what an edit or undo hands back is what the next call is given. */
@@ -561,7 +567,7 @@ static inline blorb_edit_answer blorb_editor_stored(blorb_editor *e, blorb_edit_
     return a;
 }
 
-/* As blorb_read, of the editor's file; 20 behind 52 where its length exceeds the buffer. So do the others that only read. */
+/* As blorb_read, of the editor's file; 20 behind 52 where `length` or `used` exceeds its buffer. So do the others that only read. */
 static inline blorb_read_answer blorb_editor_read(const blorb_editor *e)
 {
     blorb_read_answer a = blorb_read(e->file, blorb_editor_lent(e), e->profile);
@@ -628,18 +634,28 @@ static inline blorb_text_answer blorb_editor_text_of(const blorb_editor *e, cons
     return a;
 }
 
-/* Sets all members, with nothing to undo, and judges the file in the first `length` bytes: the answer is that of blorb_editor_read. */
-static inline blorb_read_answer blorb_editor_begin(blorb_editor *e, uint8_t *file, size_t size, size_t length,
-                                                   uint8_t *journal, size_t journal_size, uint32_t profile)
+/*
+ * Goes on with a file and a journal that were kept: sets all members, and judges the file in the first `length` bytes. The answer is that of
+ * blorb_editor_read, so it is 20 behind 52 where `length` or `used` exceeds its buffer. The journal's records are not looked at yet.
+ */
+static inline blorb_read_answer blorb_editor_resume(blorb_editor *e, uint8_t *file, size_t size, size_t length,
+                                                    uint8_t *journal, size_t journal_size, size_t used, uint32_t profile)
 {
     e->file = file;
     e->size = size;
     e->length = length;
     e->journal = journal;
     e->journal_size = journal_size;
-    e->used = 0;
+    e->used = used;
     e->profile = profile;
     return blorb_editor_read(e);
+}
+
+/* Begins with a file that is there, and with nothing to undo: blorb_editor_resume with an empty journal. */
+static inline blorb_read_answer blorb_editor_begin(blorb_editor *e, uint8_t *file, size_t size, size_t length,
+                                                   uint8_t *journal, size_t journal_size, uint32_t profile)
+{
+    return blorb_editor_resume(e, file, size, length, journal, journal_size, 0, profile);
 }
 
 /* Sets all members and makes the blank file, with nothing to undo. The answer is that of blorb_blank, which knows no profile. */

@@ -146,7 +146,7 @@ static void run(uint32_t profile)
     undo(&e, BLORB_NOTHING_TO_UNDO);
 }
 
-/* Begun with a file that is there; the journal is given up, and an editor that was put away goes on. */
+/* Begun with a file that is there; the old journal counts only where the editor goes on with it; the journal is given up. */
 static void begun(void)
 {
     blorb_editor e, later;
@@ -160,7 +160,8 @@ static void begun(void)
     length = later.length;
     used = later.used;
     undo(&later, BLORB_NOTHING_TO_UNDO);
-    later.used = used = e.used;
+    blorb_editor_resume(&later, file[0], ROOM, e.length, journal[0], JOURNAL, e.used, BLORB_PLAIN);
+    used = later.used;
     undo(&later, BLORB_DONE);
     expect(later.length == BLORB_BLANK_SIZE, "the journal that was put away");
     add(&later, "Data", 7, "TEXT", "eel", BLORB_DONE);
@@ -173,16 +174,76 @@ static void begun(void)
     expect(r.refusal == BLORB_PROFILE && e.profile == 2, "begin under an unknown profile");
     r = blorb_editor_begin(&e, NULL, 0, 0, NULL, 0, BLORB_ADRIFT);
     expect(r.refusal == BLORB_TOO_SHORT, "begin with nothing");
+    r = blorb_editor_begin(&e, file[0], ROOM, ROOM + 1, journal[0], JOURNAL, BLORB_PLAIN);
+    expect(r.refusal == BLORB_LENGTHS && e.length == ROOM + 1, "begin with a length beyond the buffer");
     blorb_edit_answer a = blorb_editor_blank(&e, file[0], 23, journal[0], JOURNAL, BLORB_PLAIN);
     expect(a.refusal == BLORB_FILE_ROOM && e.length == 0 && e.used == 0, "blank without room");
 }
 
-/* A length beyond the buffer, set by hand: 20 behind 52 in every call, and nothing is read beyond it. */
-static void beyond(uint32_t profile, uint64_t refusal)
+/* Both pairs of buffers hold what editor `e` has kept in [0], and nothing else of it. */
+static void put_away(const blorb_editor *e)
+{
+    uint8_t kept_file[ROOM], kept_journal[JOURNAL];
+    memcpy(kept_file, file[0], ROOM);
+    memcpy(kept_journal, journal[0], JOURNAL);
+    fill();
+    for (int i = 0; i < 2; i++) {
+        memcpy(file[i], kept_file, e->length);
+        memcpy(journal[i], kept_journal, e->used);
+    }
+}
+
+/* The lengths of a run that was put away, each beyond its buffer, just within it, and in the other's place. */
+static void mixed_up(const blorb_editor *kept, uint32_t profile)
+{
+    blorb_editor e;
+    const size_t within = kept->length, records = kept->used;
+    const struct { size_t length, used; uint64_t refusal; } tries[] = {
+        {within, JOURNAL, BLORB_DONE}, {within, JOURNAL + 1, BLORB_LENGTHS}, {within, (size_t)-1, BLORB_LENGTHS},
+        {ROOM, records, BLORB_FORM_LENGTH}, {ROOM + 1, records, BLORB_LENGTHS}, {(size_t)-1, records, BLORB_LENGTHS},
+        {records, within, BLORB_FORM_LENGTH}, {ROOM + 1, JOURNAL + 1, BLORB_LENGTHS}};
+    for (size_t i = 0; i < sizeof tries / sizeof *tries; i++) {
+        blorb_read_answer r = blorb_editor_resume(&e, file[0], ROOM, tries[i].length, journal[0], JOURNAL, tries[i].used, profile);
+        expect(r.refusal == tries[i].refusal && r.count == (r.refusal == BLORB_DONE ? 3u : 0u), "resume with other lengths");
+        expect(r.place == (r.refusal == BLORB_FORM_LENGTH ? 4u : 0u), "resume with other lengths: place");
+        expect(e.length == tries[i].length && e.used == tries[i].used, "resume keeps what it is given");
+        r = blorb_editor_resume(&e, file[0], ROOM, tries[i].length, journal[0], JOURNAL, tries[i].used, 2);
+        expect(r.refusal == BLORB_PROFILE && r.place == 0 && r.length == 0 && r.count == 0 && e.profile == 2, "resume under profile 2");
+    }
+}
+
+/* A run of edits is put away, goes on in buffers that hold no more than was kept, and is undone to its beginning. */
+static void resumed(uint32_t profile, const char *picture)
+{
+    blorb_editor e, later;
+    const uint64_t as_plain = profile == BLORB_ADRIFT ? BLORB_TYPE : BLORB_DONE;
+    fill();
+    same(&e, blorb_editor_blank(&e, file[0], ROOM, journal[0], JOURNAL, profile), blorb_blank(file[1], ROOM), BLORB_DONE, "blank");
+    add(&e, "Data", 7, "TEXT", "eel", BLORB_DONE);
+    add(&e, "Pict", 1, picture, "picture", BLORB_DONE);
+    linking(&e, "Pict", 1, "Pict", 2, BLORB_DONE);
+    replace(&e, "Data", 7, "BINA", "conger", BLORB_DONE);
+    put_away(&e);
+    mixed_up(&e, profile);
+    blorb_read_answer r = blorb_editor_resume(&later, file[0], ROOM, e.length, journal[0], JOURNAL, e.used, BLORB_PLAIN);
+    expect(r.refusal == as_plain && r.place == (as_plain == BLORB_DONE ? 0u : 36u), "resume as plain");
+    r = blorb_editor_resume(&later, file[0], ROOM, e.length, journal[0], JOURNAL, e.used, profile);
+    expect(r.refusal == BLORB_DONE && r.place == 0 && r.length == e.length && r.count == 3, "resume");
+    expect(later.length == e.length && later.used == e.used && later.profile == profile, "resume sets the lengths and the profile");
+    reads(&later, "Pict", 2);
+    removal(&later, "Pict", 1, BLORB_DONE);
+    for (int i = 0; i < 5; i++)
+        undo(&later, BLORB_DONE);
+    expect(later.length == BLORB_BLANK_SIZE && later.used == 0, "the blank file again");
+    undo(&later, BLORB_NOTHING_TO_UNDO);
+}
+
+/* A length beyond its buffer: 20 behind 52 in every call, and nothing is read beyond it. */
+static void beyond(size_t far, size_t far_used, uint32_t profile, uint64_t refusal)
 {
     uint8_t few[3] = {1, 2, 3};
     blorb_editor e;
-    blorb_read_answer r = blorb_editor_begin(&e, few, sizeof few, (size_t)-1, NULL, 0, profile);
+    blorb_read_answer r = blorb_editor_resume(&e, few, sizeof few, far, NULL, 0, far_used, profile);
     expect(r.refusal == refusal && r.place == 0 && r.length == 0 && r.count == 0, "read: 20");
     expect(blorb_editor_entry(&e, 0).refusal == refusal && blorb_editor_lookup(&e, "Data", 7).refusal == refusal, "entry, lookup: 20");
     expect(blorb_editor_table_build(&e, table[0], NUMBERS).refusal == refusal, "build: 20");
@@ -190,10 +251,10 @@ static void beyond(uint32_t profile, uint64_t refusal)
     expect(blorb_editor_columns_check(&e, table[0], NUMBERS).refusal == refusal, "columns check: 20");
     expect(blorb_editor_scaled(&e, 1, 1, 1, 1, 1).refusal == refusal, "scaled: 20");
     expect(blorb_editor_text(&e, 0).refusal == refusal && blorb_editor_text_of(&e, "Data", 7).refusal == refusal, "texts: 20");
-    expect(blorb_editor_undo(&e).refusal == refusal && e.length == (size_t)-1, "undo: 20");
-    expect(blorb_editor_link(&e, "Data", 7, "Data", 8).refusal == refusal && e.length == (size_t)-1, "link: 20");
+    expect(blorb_editor_undo(&e).refusal == refusal && e.length == far, "undo: 20");
+    expect(blorb_editor_link(&e, "Data", 7, "Data", 8).refusal == refusal && e.length == far, "link: 20");
     expect(blorb_editor_add(&e, "Data", 7, "TEXT", few, 3).refusal == refusal && blorb_editor_remove(&e, "Data", 7).refusal == refusal
-           && blorb_editor_replace(&e, "Data", 7, "TEXT", few, 3).refusal == refusal && e.length == (size_t)-1 && e.used == 0, "edits: 20");
+           && blorb_editor_replace(&e, "Data", 7, "TEXT", few, 3).refusal == refusal && e.length == far && e.used == far_used, "edits: 20");
 }
 
 int main(void)
@@ -201,9 +262,15 @@ int main(void)
     run(BLORB_PLAIN);
     run(BLORB_ADRIFT);
     begun();
-    beyond(BLORB_PLAIN, BLORB_LENGTHS);
-    beyond(BLORB_ADRIFT, BLORB_LENGTHS);
-    beyond(2, BLORB_PROFILE);
+    resumed(BLORB_PLAIN, "PNG ");
+    resumed(BLORB_ADRIFT, "GIF ");
+    const size_t far[][2] = {{(size_t)-1, 0}, {4, 0}, {3, 1}, {0, (size_t)-1}, {(size_t)-1, (size_t)-1}};
+    for (size_t i = 0; i < sizeof far / sizeof *far; i++) {
+        beyond(far[i][0], far[i][1], BLORB_PLAIN, BLORB_LENGTHS);
+        beyond(far[i][0], far[i][1], BLORB_ADRIFT, BLORB_LENGTHS);
+        beyond(far[i][0], far[i][1], 2, BLORB_PROFILE);
+        beyond(far[i][0], far[i][1], 4294967295u, BLORB_PROFILE);
+    }
     printf("editor: ok, %lu checks\n", checks);
     return 0;
 }
