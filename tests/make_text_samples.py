@@ -22,9 +22,9 @@ def rdes(entries, count=None, behind=b""):
     return be(len(entries) if count is None else count) + rows + behind
 
 
-def file(*bodies):
-    """A file with pictures 1 and 2, and behind them an 'RDes' for each of the bodies."""
-    chunks = [(b"PNG ", b"picture"), (b"JPEG", b"another!")] + [(b"RDes", b) for b in bodies]
+def file(*bodies, second=b"JPEG"):
+    """A file with pictures 1 and 2, and behind them an 'RDes' for each of the bodies; second: the type of picture 2."""
+    chunks = [(b"PNG ", b"picture"), (second, b"another!")] + [(b"RDes", b) for b in bodies]
     return blorb([(b"Pict", 1, 0), (b"Pict", 2, 1)], chunks)
 
 
@@ -108,6 +108,17 @@ def by_hand():
     yield "under ADRIFT", file(rdes([good, (PICT, 2, b"two")])), 1, PICT, 2, None
     yield "52", file(rdes([good, good])), 2, PICT, 1, ("refused", 52, 0)
     yield "the reader's own", file(rdes([good, good]))[:-1], 0, PICT, 1, ("refused", 5, 4)
+    yield from profiles(good)
+
+
+def profiles(good):
+    """02, P12: a 'GIF ' with a text is plain's 14 at its entry and ADRIFT's text; an unknown profile is 52 before all else."""
+    house = file(rdes([(PICT, 2, b"a door"), good]), second=b"GIF ")
+    yield "a 'GIF ' under plain", house, 0, PICT, 2, ("refused", 14, 24 + 12)
+    yield "a 'GIF ' under ADRIFT", house, 1, PICT, 2, ("given", PICT, 2, FIRST + 8 + 4 + 12, b"a door")
+    for profile in (2, 2 ** 32 - 1):
+        yield f"a broken file under profile {profile}", house[:-1], profile, PICT, 2, ("refused", 52, 0)
+        yield f"an empty file under profile {profile}", b"", profile, PICT, 2, ("refused", 52, 0)
 
 
 def generated():
