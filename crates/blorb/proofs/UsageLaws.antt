@@ -17,7 +17,7 @@ use Rattle.blorb.specs.Rules.{plainAllows, adriftAllows, allows, oneOf}
 use Rattle.blorb.specs.declared.Usage.{Usage}
 use Rattle.blorb.specs.declared.Usage.the-variants.{Pict, Snd, Data, Exec}
 use Rattle.blorb.specs.declared.Known.the-variants.{Is, Unknown}
-use Rattle.blorb.specs.Usages.{codeOf, pickKnown, usageOf, pictType, gifType, wavType, sndType, dataType, execType}
+use Rattle.blorb.specs.Usages.{codeOf, pickKnown, usageOf, pictType, sndType, dataType, execType}
 
 -- usages
 known-go : (a b c d : Bool) (k : Usage) (u : ℕ) → (a ≡ true → u ≡ codeOf Pict) → (b ≡ true → u ≡ codeOf Snd) → (c ≡ true → u ≡ codeOf Data)
@@ -117,23 +117,6 @@ module _ (t : ℕ) (d : List ℕ) where
 
 pub allows-known : (p u : ℕ) (k : Usage) (c : Chunk) → usageOf u ≡ Is k → allows p (codeOf k) c ≡ allows p u c
 allows-known p u k c e = ap (λ (v : ℕ). allows p v c) (sym (known-is u k e .1))
-
--- the ADRIFT profile's types by usage
-pub adrift-pict : (t : ℕ) → adriftAllows (codeOf Pict) t ≡ gifType t
-unfolding adriftAllows oneOf
-adrift-pict t = simp or-false
-
-pub adrift-snd : (t : ℕ) → adriftAllows (codeOf Snd) t ≡ wavType t
-unfolding adriftAllows oneOf
-adrift-snd t = simp or-false
-
-pub adrift-data : (t : ℕ) → adriftAllows (codeOf Data) t ≡ false
-unfolding adriftAllows oneOf
-adrift-data t = refl
-
-pub adrift-exec : (t : ℕ) → adriftAllows (codeOf Exec) t ≡ false
-unfolding adriftAllows oneOf
-adrift-exec t = refl
 
 -- rule 5 of a profile: what plain allows, or else what ADRIFT does
 pub allows-plain : (p u : ℕ) (c : Chunk) → plainAllows u c ≡ true → true ≡ allows p u c

@@ -7,10 +7,6 @@ use Rattle.blorb.specs.Tags.{
   JPEG,
   PNG,
   Rect,
-  GIF,
-  WAV,
-  MIDI,
-  MP3,
   OGGV,
   MOD,
   SONG,
@@ -55,12 +51,6 @@ usageOf n =
 -- rule 5 by usage, as the code asks it: over a chunk's type and, for a picture, its length; a sound of type 'FORM' is asked apart
 abbrev pub pictType : ℕ → ℕ → Bool
 pictType t m = eqb t JPEG || (eqb t PNG || (eqb t Rect && eqb m 8))
-
-abbrev pub gifType : ℕ → Bool
-gifType t = eqb t GIF
-
-abbrev pub wavType : ℕ → Bool
-wavType t = eqb t WAV || (eqb t MIDI || eqb t MP3)
 
 abbrev pub sndType : ℕ → Bool
 sndType t = eqb t OGGV || (eqb t MOD || eqb t SONG)

@@ -10,7 +10,7 @@ ghost use Rattle.blorb.specs.Format.{chunkOf};
 ghost use Rattle.blorb.specs.Lookup.{leftOut};
 ghost use Rattle.blorb.specs.Rules.{plainAllows, adriftAllows, allows};
 ghost use Rattle.blorb.specs.declared.Usage.the-variants.{Snd};
-ghost use Rattle.blorb.specs.Usages.{codeOf, usageOf, pictType, gifType, wavType, sndType, dataType, execType};
+ghost use Rattle.blorb.specs.Usages.{codeOf, usageOf, pictType, sndType, dataType, execType};
 
 // An entry's usage, once read: one of four kinds.
 pub enum Usage {
@@ -144,18 +144,6 @@ fn snd_type(t: u64) -> bool
     (t == OGGV) | ((t == MOD) | (t == SONG))
 }
 
-fn gif_type(t: u64) -> bool
-    ensures { λ r. ⌜ r ≡ gifType t ⌝ }
-{
-    t == GIF
-}
-
-fn wav_type(t: u64) -> bool
-    ensures { λ r. ⌜ r ≡ wavType t ⌝ }
-{
-    (t == WAV) | ((t == MIDI) | (t == MP3))
-}
-
 fn data_type(t: u64) -> bool
     ensures { λ r. ⌜ r ≡ dataType t ⌝ }
 {
@@ -247,8 +235,8 @@ impl Usage {
         ensures { λ r. ⌜ r ≡ adriftAllows (codeOf self) kind ⌝ }
     {
         match self {
-            Usage::Pict => gif_type(kind),
-            Usage::Snd => wav_type(kind),
+            Usage::Pict => kind == GIF,
+            Usage::Snd => (kind == WAV) | ((kind == MIDI) | (kind == MP3)),
             Usage::Data => false,
             Usage::Exec => false,
         }
