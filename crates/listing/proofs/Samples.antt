@@ -1,4 +1,4 @@
--- 01's sample files, and one of 02's P3: what the lister prints of them, computed.
+-- 01's sample files, one of 02's P3 and one of its P12: what the lister prints of them, computed.
 use mathlib.Core.Path.{_≡_, refl}
 use Prim.Native.Nat.{ℕ}
 use mathlib.Core.List.{List, [], _∷_, _++_}
@@ -26,7 +26,7 @@ use Rattle.blorb.specs.Format.{
   placeOf,
 }
 use Rattle.blorb.specs.Lookup.{leftOut}
-use Rattle.blorb.specs.Tags.{tag, FORM, Pict, Snd, Data, Rect}
+use Rattle.blorb.specs.Tags.{tag, FORM, Pict, Snd, Data, Rect, GIF}
 use Rattle.blorb.specs.Verdict.{
   headFault,
   _then_,
@@ -46,6 +46,7 @@ use Rattle.blorb.specs.Verdict.{
 }
 use Rattle.blorb.specs.Rules.{plainAllows, allows, adriftAllows, optional, profileVerdict, oneOf, picture, typeIn, single, chunkRule, chunkRules}
 use Rattle.reader.specs.Reading.{readOf, indexOf, lookupOf}
+use Rattle.reader.specs.declared.Reading.the-variants.{Accepted}
 use Rattle.index.specs.Hits.{hitIn}
 use Rattle.listing.specs.Text.{text, decimal}
 use Rattle.listing.specs.Listing.{headLine, refusedLine, entryLine, linesOf, listingOf}
@@ -97,3 +98,14 @@ lists-aiff : listingOf (fileBytes (indexChunk (record { usage = Snd; number = 3;
     ≡ text "blorb 50 bytes 1 resources\nSnd  3 at 36 FORM 13\n"
 unfolding computed aiff
 lists-aiff = refl
+
+-- "plain keeps 01's types, and the lister stays plain" (02, P12): A with its data made a 'GIF ' picture, a file that ADRIFT accepts
+gif : Chunk
+gif = record { type = GIF; body = text "eel" }
+
+G : List ℕ
+G = fileBytes (indexChunk (record { usage = Pict; number = 7; start = 36 } ∷ []) ∷ (gif ∷ []))
+
+lists-adrift : (listingOf G ≡ text "refused 14 at 24\n") × (readOf 1 G ≡ Accepted 48 1)
+unfolding computed G gif
+lists-adrift = (refl, refl)
