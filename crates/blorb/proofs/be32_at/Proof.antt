@@ -9,12 +9,6 @@ use borrow.Author.Needs.{needs}
 use Rattle.blorb.proofs.be32_at.Statement.{statement}
 use Rattle.blorb.proofs.be32_at.Tie as tie
 
-le32-at-requires : tie.Need-le32-at-requires
-le32-at-requires c κs = search needs
-
-swap-requires : tie.Need-swap-requires
-swap-requires c κs = search needs
-
 returns : tie.Need-returns
 returns c =
     let a = c .before .before .before .args in
@@ -33,4 +27,4 @@ returns c =
     (q ∙ sym (rd32-at f (a .at)), omega arith)
 
 pub be32-at-spec : {M : Type 1} → statement M
-be32-at-spec = tie.close (tie.spec le32-at-requires swap-requires returns)
+be32-at-spec = tie.close (tie.spec (λ c κs. search needs) (λ c κs. search needs) returns)

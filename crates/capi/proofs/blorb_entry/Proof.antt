@@ -5,23 +5,8 @@ use borrow.Author.Needs.{needs}
 use Rattle.capi.proofs.blorb_entry.Statement.{statement}
 use Rattle.capi.proofs.blorb_entry.Tie as tie
 
-entry-requires : tie.Need-entry-requires
-entry-requires c κs = search needs
-
-enum-known-e : tie.Need-enum-known-e
-enum-known-e c = search needs
-
-code-requires : tie.Need-code-requires
-code-requires c κs = search needs
-
 cast-t11 : tie.Need-cast-t11
 cast-t11 c = record { fits = rw (c .code .ensures) (code-small (c .before .before .e .given .0 .0 .usage)) }
-
-cast-t12 : tie.Need-cast-t12
-cast-t12 c = search needs
-
-enum-known-number : tie.Need-enum-known-number
-enum-known-number c = search needs
 
 returns : tie.Need-returns
 returns c = rw (c .before .code .ensures) (ap entryNumbers (sym (c .before .before .before .e .given .1)
@@ -34,11 +19,11 @@ pub blorb-entry-spec : {M : Type 1} → statement M
 blorb-entry-spec =
     tie.close
     (tie.spec
-    entry-requires
-    enum-known-e
-    code-requires
+    (λ c κs. search needs)
+    (λ c. search needs)
+    (λ c κs. search needs)
     cast-t11
-    cast-t12
-    enum-known-number
+    (λ c. search needs)
+    (λ c. search needs)
     returns
     returns-2)

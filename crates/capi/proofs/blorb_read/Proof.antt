@@ -4,15 +4,6 @@ use borrow.Author.Needs.{needs}
 use Rattle.capi.proofs.blorb_read.Statement.{statement}
 use Rattle.capi.proofs.blorb_read.Tie as tie
 
-read-requires : tie.Need-read-requires
-read-requires c κs = search needs
-
-enum-known-length : tie.Need-enum-known-length
-enum-known-length c = search needs
-
-enum-known-number : tie.Need-enum-known-number
-enum-known-number c = search needs
-
 returns : tie.Need-returns
 returns c = ap readNumbers (sym (c .before .length .given .1) ∙ c .before .before .before .read .ensures)
 
@@ -21,4 +12,4 @@ returns-2 c = ap readNumbers (sym (c .before .number .given .1) ∙ c .before .b
 
 pub blorb-read-spec : {M : Type 1} → statement M
 blorb-read-spec =
-    tie.close (tie.spec read-requires enum-known-length enum-known-number returns returns-2)
+    tie.close (tie.spec (λ c κs. search needs) (λ c. search needs) (λ c. search needs) returns returns-2)

@@ -2,12 +2,6 @@ use borrow.Author.Needs.{needs}
 use Rattle.capi.proofs.numbers.Statement.{statement}
 use Rattle.capi.proofs.numbers.Tie as tie
 
-enum-told : tie.Need-enum-told
-enum-told c = search needs
-
-enum-known-outcome : tie.Need-enum-known-outcome
-enum-known-outcome c = search needs
-
 returns : tie.Need-returns
 returns c = rw (c .enum-told .given .1)
 
@@ -15,4 +9,4 @@ returns-2 : tie.Need-returns-2
 returns-2 c = rw (c .before .outcome .given .1)
 
 pub numbers-spec : {M : Type 1} → statement M
-numbers-spec = tie.close (tie.spec enum-told enum-known-outcome returns returns-2)
+numbers-spec = tie.close (tie.spec (λ c. search needs) (λ c. search needs) returns returns-2)

@@ -16,18 +16,6 @@ use borrow.Author.Needs.{needs}
 use Rattle.editor.proofs.link_entry.Statement.{statement}
 use Rattle.editor.proofs.link_entry.Tie as tie
 
-link-plan-requires : tie.Need-link-plan-requires
-link-plan-requires c κs = search needs
-
-enum-known-k : tie.Need-enum-known-k
-enum-known-k c = search needs
-
-refused-requires : tie.Need-refused-requires
-refused-requires c κs = search needs
-
-enum-known-count : tie.Need-enum-known-count
-enum-known-count c = search needs
-
 add-t23 : tie.Need-add-t23
 add-t23 c =
     let a = c .before .before .before .before .before .before .before .before .args in
@@ -43,15 +31,6 @@ add-t23 c =
           (sym (c .before .before .before .before .link-plan .ensures) ∙ c .before .before .count .given .1)),
     )
 
-sub-put-record : tie.Need-sub-put-record
-sub-put-record c = search needs
-
-part-put-record-start : tie.Need-part-put-record-start
-part-put-record-start c = search needs
-
-part-put-record-end : tie.Need-part-put-record-end
-part-put-record-end c = search needs
-
 put-record-requires : tie.Need-put-record-requires
 put-record-requires c κs =
     let a = c .before .before .before .before .before .before .before .before .before .before .args in
@@ -62,9 +41,6 @@ put-record-requires c κs =
     (c .before .before .before .before .count .given .0 .0) (c .before .before .before .before .count .given .0 .1 .0)
     (c .before .before .before .before .count .given .0 .1 .1 .0) (sym (c .before .before .before .before .before .before .link-plan .ensures)
     ∙ c .before .before .before .before .count .given .1) .journal-room
-
-cast-insert-entry : tie.Need-cast-insert-entry
-cast-insert-entry c = search needs
 
 insert-entry-requires : tie.Need-insert-entry-requires
 insert-entry-requires c κs =
@@ -127,12 +103,6 @@ add-done-2 c =
       c .before .before .before .before .before .before .before .before .before .before .before .before .before .before .before .before .before .fits,
     )
 
-done-requires : tie.Need-done-requires
-done-requires c κs = search needs
-
-same-length : tie.Need-same-length
-same-length c = search needs
-
 returns : tie.Need-returns
 unfolding fault
 returns c =
@@ -141,12 +111,6 @@ returns c =
     (c .refused .result)
     (c .before .before .k .given .0 .0) (c .before .before .k .given .0 .1 .0) (c .refused .ensures)
     (linking-no _ _ _ _ _ _ (sym (c .before .before .before .before .link-plan .ensures) ∙ c .before .before .k .given .1))
-
-same-length-2 : tie.Need-same-length-2
-same-length-2 c = search needs
-
-same-length-3 : tie.Need-same-length-3
-same-length-3 c = search needs
 
 returns-2 : tie.Need-returns-2
 returns-2 c =
@@ -175,22 +139,22 @@ pub link-entry-spec : {M : Type 1} → statement M
 link-entry-spec =
     tie.close
     (tie.spec
-    link-plan-requires
-    enum-known-k
-    refused-requires
-    enum-known-count
+    (λ c κs. search needs)
+    (λ c. search needs)
+    (λ c κs. search needs)
+    (λ c. search needs)
     add-t23
-    sub-put-record
-    part-put-record-start
-    part-put-record-end
+    (λ c. search needs)
+    (λ c. search needs)
+    (λ c. search needs)
     put-record-requires
-    cast-insert-entry
+    (λ c. search needs)
     insert-entry-requires
     add-done
     add-done-2
-    done-requires
-    same-length
+    (λ c κs. search needs)
+    (λ c. search needs)
     returns
-    same-length-2
-    same-length-3
+    (λ c. search needs)
+    (λ c. search needs)
     returns-2)

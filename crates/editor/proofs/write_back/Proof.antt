@@ -24,9 +24,6 @@ use borrow.Author.Needs.{needs}
 use Rattle.editor.proofs.write_back.Statement.{statement}
 use Rattle.editor.proofs.write_back.Tie as tie
 
-cast-place : tie.Need-cast-place
-cast-place c = search needs
-
 remove-bytes-requires : tie.Need-remove-bytes-requires
 remove-bytes-requires c κs =
     let a = c .before .before .before .before .before .args in
@@ -34,9 +31,6 @@ remove-bytes-requires c κs =
     let bb : All Byte b = bytes-all b (λ i. omega (arith, c .before .before .before .before .slice-known .given i)) in
     let w = ready _ b (a .len) (now (a .jrn)) (a .used) (a .count) (a .at) (a .size) _ (a .r) bb (c .before .before .before .before .before .pre .1) in
     back-gone _ b (a .len) (now (a .jrn)) (a .used) (a .count) (a .at) (a .size) _ (a .r) bb w (c .before .if1 .taken)
-
-same-length : tie.Need-same-length
-same-length c = search needs
 
 returns : tie.Need-returns
 returns c =
@@ -57,9 +51,6 @@ insert-entry-requires c κs =
     let w = ready _ b (a .len) (now (a .jrn)) (a .used) (a .count) (a .at) (a .size) _ (a .r) bb (c .before .before .before .before .before .before .pre .1) in
     back-unlisted _ b (a .len) (now (a .jrn)) (a .used) (a .count) (a .at) (a .size) _ (a .r) bb w (c .before .if2 .taken) bj
 
-same-length-2 : tie.Need-same-length-2
-same-length-2 c = search needs
-
 returns-2 : tie.Need-returns-2
 returns-2 c =
     let a = c .before .before .before .before .before .before .before .before .before .args in
@@ -78,9 +69,6 @@ sub-end c =
     let w = ready _ b (a .len) (now (a .jrn)) (a .used) (a .count) (a .at) (a .size) _ (a .r) bb (c .before .before .before .before .before .pre .1) in
     omega (arith, w .ends .room)
 
-cast-from : tie.Need-cast-from
-cast-from c = search needs
-
 sub-from : tie.Need-sub-from
 sub-from c =
     let a = c .before .before .before .before .before .before .args in
@@ -88,12 +76,6 @@ sub-from c =
     let bb : All Byte b = bytes-all b (λ i. omega (arith, c .before .before .before .before .before .slice-known .given i)) in
     let w = ready _ b (a .len) (now (a .jrn)) (a .used) (a .count) (a .at) (a .size) _ (a .r) bb (c .before .before .before .before .before .before .pre .1) in
     omega (arith, w .ends .room)
-
-sub-d : tie.Need-sub-d
-sub-d c = search needs
-
-part-d-start : tie.Need-part-d-start
-part-d-start c = search needs
 
 part-d-end : tie.Need-part-d-end
 part-d-end c =
@@ -113,9 +95,6 @@ replace-bytes-requires c κs =
     let w = ready _ b (a .len) (now (a .jrn)) (a .used) (a .count) (a .at) (a .size) _ (a .r) bb
     (c .before .before .before .before .before .before .before .before .before .pre .1) in
     back-replaced _ b (a .len) (now (a .jrn)) (a .used) (a .count) (a .at) (a .size) _ (a .r) bb w bj (c .before .if3 .taken)
-
-same-length-3 : tie.Need-same-length-3
-same-length-3 c = search needs
 
 returns-3 : tie.Need-returns-3
 returns-3 c =
@@ -141,9 +120,6 @@ insert-bytes-requires c κs =
     (a .count) (a .at) (a .size) _ (a .r) bb w (c .before .before .before .before .before .if1 .left) (c .before .before .before .before .if2 .left)
     (c .before .if3 .left)) bj
 
-same-length-4 : tie.Need-same-length-4
-same-length-4 c = search needs
-
 returns-4 : tie.Need-returns-4
 returns-4 c =
     let a = c .before .before .before .before .before .before .before .before .before .before .before .before .args in
@@ -161,22 +137,22 @@ pub write-back-spec : {M : Type 1} → statement M
 write-back-spec =
     tie.close
     (tie.spec
-    cast-place
+    (λ c. search needs)
     remove-bytes-requires
-    same-length
+    (λ c. search needs)
     returns
     insert-entry-requires
-    same-length-2
+    (λ c. search needs)
     returns-2
     sub-end
-    cast-from
+    (λ c. search needs)
     sub-from
-    sub-d
-    part-d-start
+    (λ c. search needs)
+    (λ c. search needs)
     part-d-end
     replace-bytes-requires
-    same-length-3
+    (λ c. search needs)
     returns-3
     insert-bytes-requires
-    same-length-4
+    (λ c. search needs)
     returns-4)

@@ -23,21 +23,6 @@ abbrev μ-loop : tie.MeasureT-loop
 loop-holds : tie.Need-loop-holds Inv-loop μ-loop
 loop-holds c = (search needs, omega arith)
 
-mul-p : tie.Need-mul-p Inv-loop μ-loop
-mul-p c = search needs
-
-add-p : tie.Need-add-p Inv-loop μ-loop
-add-p c = search needs
-
-be32-at-requires : tie.Need-be32-at-requires Inv-loop μ-loop
-be32-at-requires c κs = search needs
-
-add-be32-at : tie.Need-add-be32-at Inv-loop μ-loop
-add-be32-at c = search needs
-
-be32-at-requires-2 : tie.Need-be32-at-requires-2 Inv-loop μ-loop
-be32-at-requires-2 c κs = search needs
-
 returns : tie.Need-returns Inv-loop μ-loop
 returns c =
     let a = c .before .before .before .before .before .before .args in
@@ -48,12 +33,6 @@ returns c =
           (c .before .before .before .before .loop .inv .1) (c .if1 .taken),
       omega arith,
     )
-
-add-i : tie.Need-add-i Inv-loop μ-loop
-add-i c = search needs
-
-loop-less : tie.Need-loop-less Inv-loop μ-loop
-loop-less c = search needs
 
 loop-again : tie.Need-loop-again Inv-loop μ-loop
 loop-again c =
@@ -83,13 +62,13 @@ find-pair-spec =
     Inv-loop
     μ-loop
     loop-holds
-    mul-p
-    add-p
-    be32-at-requires
-    add-be32-at
-    be32-at-requires-2
+    (λ c. search needs)
+    (λ c. search needs)
+    (λ c κs. search needs)
+    (λ c. search needs)
+    (λ c κs. search needs)
     returns
-    add-i
-    loop-less
+    (λ c. search needs)
+    (λ c. search needs)
     loop-again
     returns-2)

@@ -13,12 +13,6 @@ use borrow.Author.Needs.{needs}
 use Rattle.linking.proofs.link_fault.Statement.{statement}
 use Rattle.linking.proofs.link_fault.Tie as tie
 
-add-if1 : tie.Need-add-if1
-add-if1 c = search needs
-
-refused-requires : tie.Need-refused-requires
-refused-requires c κs = search needs
-
 returns : tie.Need-returns
 returns c =
     let a = c .before .before .before .args in
@@ -26,33 +20,12 @@ returns c =
     ap verdictOf (c .refused .ensures) ∙ out-101 (a .profile) (now (a .s)) (a .count) (a .piece) (a .place) (a .usage) (a .number) bytes
     (c .before .before .before .pre) (omega arith) (omega arith) (c .before .if1 .taken)
 
-add-if2 : tie.Need-add-if2
-add-if2 c = search needs
-
-refused-requires-2 : tie.Need-refused-requires-2
-refused-requires-2 c κs = search needs
-
 returns-2 : tie.Need-returns-2
 returns-2 c =
     let a = c .before .before .before .before .args in
     let bytes : All Byte (now (a .s)) = bytes-all (now (a .s)) (λ i. omega (arith, c .before .before .before .shared-slice-known .given i)) in
     ap verdictOf (c .refused2 .ensures) ∙ out-111 (a .profile) (now (a .s)) (a .count) (a .piece) (a .place) (a .usage) (a .number) bytes
     (c .before .before .before .before .pre) (omega arith) (omega arith) (c .before .before .if1 .left) (c .before .if2 .taken)
-
-mul-at : tie.Need-mul-at
-mul-at c = search needs
-
-add-at : tie.Need-add-at
-add-at c = search needs
-
-of-code-requires : tie.Need-of-code-requires
-of-code-requires c κs = search needs
-
-enum-told : tie.Need-enum-told
-enum-told c = search needs
-
-refused-requires-3 : tie.Need-refused-requires-3
-refused-requires-3 c κs = search needs
 
 returns-3 : tie.Need-returns-3
 returns-3 c =
@@ -63,12 +36,6 @@ returns-3 c =
     (c .before .before .before .before .before .before .before .pre) (omega arith) (omega arith) (c .before .before .before .before .before .if1 .left)
     (c .before .before .before .before .if2 .left) (known-not _ (sym (c .before .before .before .of-code .ensures) ∙ c .before .enum-told .given .1))
 
-enum-told-2 : tie.Need-enum-told-2
-enum-told-2 c = search needs
-
-cast-chunk-allowed : tie.Need-cast-chunk-allowed
-cast-chunk-allowed c = search needs
-
 chunk-allowed-requires : tie.Need-chunk-allowed-requires
 chunk-allowed-requires c κs =
     let a = c .before .before .before .before .before .before .before .args in
@@ -76,9 +43,6 @@ chunk-allowed-requires c κs =
     (λ i. omega (arith, c .before .before .before .before .before .before .shared-slice-known .given i)) in
     chunk-lies (a .profile) (now (a .s)) (a .count) (a .piece) (a .place) (a .usage) (a .number) bytes
     (c .before .before .before .before .before .before .before .pre) (omega arith) (omega arith)
-
-refused-requires-4 : tie.Need-refused-requires-4
-refused-requires-4 c κs = search needs
 
 returns-4 : tie.Need-returns-4
 returns-4 c =
@@ -91,15 +55,6 @@ returns-4 c =
     (known-is _ _ (sym (c .before .before .before .before .before .before .of-code .ensures)
     ∙ c .before .before .before .before .enum-told2 .given .1) .0)
     (sym (c .before .before .chunk-allowed .ensures) ∙ not-true _ (c .before .if3 .taken))
-
-number-fits-requires : tie.Need-number-fits-requires
-number-fits-requires c κs = search needs
-
-add-refused : tie.Need-add-refused
-add-refused c = search needs
-
-refused-requires-5 : tie.Need-refused-requires-5
-refused-requires-5 c κs = search needs
 
 returns-5 : tie.Need-returns-5
 returns-5 c =
@@ -114,12 +69,6 @@ returns-5 c =
     ∙ c .before .before .before .before .before .before .enum-told2 .given .1) .0)
     (sym (c .before .before .before .before .chunk-allowed .ensures) ∙ not-false _ (c .before .before .before .if3 .left))
     (sym (c .before .before .number-fits .ensures) ∙ not-true _ (c .before .if4 .taken))
-
-find-pair-requires : tie.Need-find-pair-requires
-find-pair-requires c κs = search needs
-
-refused-requires-6 : tie.Need-refused-requires-6
-refused-requires-6 c κs = search needs
 
 returns-6 : tie.Need-returns-6
 returns-6 c =
@@ -139,18 +88,6 @@ returns-6 c =
     (sym (c .before .before .before .before .before .before .chunk-allowed .ensures) ∙ not-false _ (c .before .before .before .before .before .if3 .left))
     (sym (c .before .before .before .before .number-fits .ensures) ∙ not-false _ (c .before .before .before .if4 .left)) _
     (c .before .before .find-pair .ensures .0) (c .before .if5 .taken)
-
-add-refused-2 : tie.Need-add-refused-2
-add-refused-2 c = search needs
-
-mul-refused : tie.Need-mul-refused
-mul-refused c = search needs
-
-add-refused-3 : tie.Need-add-refused-3
-add-refused-3 c = search needs
-
-refused-requires-7 : tie.Need-refused-requires-7
-refused-requires-7 c κs = search needs
 
 returns-7 : tie.Need-returns-7
 returns-7 c =
@@ -195,33 +132,33 @@ pub link-fault-spec : {M : Type 1} → statement M
 link-fault-spec =
     tie.close
     (tie.spec
-    add-if1
-    refused-requires
+    (λ c. search needs)
+    (λ c κs. search needs)
     returns
-    add-if2
-    refused-requires-2
+    (λ c. search needs)
+    (λ c κs. search needs)
     returns-2
-    mul-at
-    add-at
-    of-code-requires
-    enum-told
-    refused-requires-3
+    (λ c. search needs)
+    (λ c. search needs)
+    (λ c κs. search needs)
+    (λ c. search needs)
+    (λ c κs. search needs)
     returns-3
-    enum-told-2
-    cast-chunk-allowed
+    (λ c. search needs)
+    (λ c. search needs)
     chunk-allowed-requires
-    refused-requires-4
+    (λ c κs. search needs)
     returns-4
-    number-fits-requires
-    add-refused
-    refused-requires-5
+    (λ c κs. search needs)
+    (λ c. search needs)
+    (λ c κs. search needs)
     returns-5
-    find-pair-requires
-    refused-requires-6
+    (λ c κs. search needs)
+    (λ c κs. search needs)
     returns-6
-    add-refused-2
-    mul-refused
-    add-refused-3
-    refused-requires-7
+    (λ c. search needs)
+    (λ c. search needs)
+    (λ c. search needs)
+    (λ c κs. search needs)
     returns-7
     returns-8)

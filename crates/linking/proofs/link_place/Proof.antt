@@ -18,12 +18,6 @@ Inv-loop s count at i₀ i = (0 < i) × (i ≤ count) × (startIn s (i - 1) ≤ 
 abbrev μ-loop : tie.MeasureT-loop
 μ-loop s count at i₀ i = count - i
 
-cast-at : tie.Need-cast-at Inv-loop μ-loop
-cast-at c = search needs
-
-add-i : tie.Need-add-i Inv-loop μ-loop
-add-i c = search needs
-
 loop-holds : tie.Need-loop-holds Inv-loop μ-loop
 loop-holds c =
     let a = c .before .before .before .args in
@@ -34,15 +28,6 @@ loop-holds c =
       rw e (own-start (now (a .s)) (a .count) (a .piece) (c .before .before .before .pre)
           bytes),
     )
-
-mul-be32-at : tie.Need-mul-be32-at Inv-loop μ-loop
-mul-be32-at c = search needs
-
-add-be32-at : tie.Need-add-be32-at Inv-loop μ-loop
-add-be32-at c = search needs
-
-be32-at-requires : tie.Need-be32-at-requires Inv-loop μ-loop
-be32-at-requires c κs = search needs
 
 returns : tie.Need-returns Inv-loop μ-loop
 returns c =
@@ -55,12 +40,6 @@ returns c =
           (λ l. omega (arith, c .if1 .taken, c .before .be32-at .ensures .0)),
       omega arith,
     )
-
-add-i-2 : tie.Need-add-i-2 Inv-loop μ-loop
-add-i-2 c = search needs
-
-loop-less : tie.Need-loop-less Inv-loop μ-loop
-loop-less c = search needs
 
 loop-again : tie.Need-loop-again Inv-loop μ-loop
 loop-again c =
@@ -86,14 +65,14 @@ link-place-spec =
     (tie.spec
     Inv-loop
     μ-loop
-    cast-at
-    add-i
+    (λ c. search needs)
+    (λ c. search needs)
     loop-holds
-    mul-be32-at
-    add-be32-at
-    be32-at-requires
+    (λ c. search needs)
+    (λ c. search needs)
+    (λ c κs. search needs)
     returns
-    add-i-2
-    loop-less
+    (λ c. search needs)
+    (λ c. search needs)
     loop-again
     returns-2)

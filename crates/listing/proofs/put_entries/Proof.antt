@@ -42,12 +42,6 @@ put-entry-requires c κs = let f = now (c .before .before .before .before .befor
     let e = entry-at 0 f _ _ (c .before .before .loop .i) (c .before .before .before .before .before .pre .0) (c .before .loop-test .taken) in
     (e .inside, e .chunk, omega (arith, c .before .before .before .before .before .pre .1))
 
-add-i : tie.Need-add-i Inv-loop μ-loop
-add-i c = search needs
-
-loop-less : tie.Need-loop-less Inv-loop μ-loop
-loop-less c = search needs
-
 loop-again : tie.Need-loop-again Inv-loop μ-loop
 loop-again c = let f = now (c .before .before .before .before .before .before .before .before .args .file) in
     let l = c .before .before .before .before .before .loop in
@@ -59,9 +53,6 @@ loop-again c = let f = now (c .before .before .before .before .before .before .b
           (c .before .before .before .before .before .before .before .before .args .at) (l .i) _ _ (c .before .before .before .before .loop-test .taken)
           (l .inv .3) (c .before .before .put-entry .ensures .0),
     )
-
-same-length : tie.Need-same-length Inv-loop μ-loop
-same-length c = search needs
 
 returns : tie.Need-returns Inv-loop μ-loop
 returns c = let f = now (c .before .before .before .before .args .file) in
@@ -81,8 +72,8 @@ put-entries-spec =
     mul-put-entry
     add-put-entry
     put-entry-requires
-    add-i
-    loop-less
+    (λ c. search needs)
+    (λ c. search needs)
     loop-again
-    same-length
+    (λ c. search needs)
     returns)

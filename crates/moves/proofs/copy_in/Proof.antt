@@ -4,14 +4,8 @@ use borrow.Author.Needs.{needs}
 use Rattle.moves.proofs.copy_in.Statement.{statement}
 use Rattle.moves.proofs.copy_in.Tie as tie
 
-copy-parts-requires : tie.Need-copy-parts-requires
-copy-parts-requires c κs = search needs
-
-same-length : tie.Need-same-length
-same-length c = search needs
-
 returns : tie.Need-returns
 returns c = c .before .before .copy-parts .ensures ∙ copied _ _ _ _ refl
 
 pub copy-in-spec : {M : Type 1} → statement M
-copy-in-spec = tie.close (tie.spec copy-parts-requires same-length returns)
+copy-in-spec = tie.close (tie.spec (λ c κs. search needs) (λ c. search needs) returns)

@@ -21,30 +21,6 @@ abbrev μ-loop : tie.MeasureT-loop
 loop-holds : tie.Need-loop-holds Inv-loop μ-loop
 loop-holds c = (omega arith, omega arith, refl, rw sub-zero)
 
-add-be32-at : tie.Need-add-be32-at Inv-loop μ-loop
-add-be32-at c = search needs
-
-be32-at-requires : tie.Need-be32-at-requires Inv-loop μ-loop
-be32-at-requires c κs = search needs
-
-add-put32 : tie.Need-add-put32 Inv-loop μ-loop
-add-put32 c = search needs
-
-start-requires : tie.Need-start-requires Inv-loop μ-loop
-start-requires c κs = search needs
-
-put32-requires : tie.Need-put32-requires Inv-loop μ-loop
-put32-requires c κs = search needs
-
-add-p : tie.Need-add-p Inv-loop μ-loop
-add-p c = search needs
-
-add-i : tie.Need-add-i Inv-loop μ-loop
-add-i c = search needs
-
-loop-less : tie.Need-loop-less Inv-loop μ-loop
-loop-less c = search needs
-
 loop-again : tie.Need-loop-again Inv-loop μ-loop
 loop-again c =
     let l = c .before .before .before .before .before .before .before .before .loop in
@@ -59,9 +35,6 @@ loop-again c =
       rw e (start-turn f (a .n) (l .i) (a .at) (l .p) (l .buf) (c .before .before .before .before .before .before .before .loop-test .taken)) ∙ l .inv .3,
     )
 
-same-length : tie.Need-same-length Inv-loop μ-loop
-same-length c = search needs
-
 returns : tie.Need-returns Inv-loop μ-loop
 returns c =
     let l = c .before .loop in
@@ -75,14 +48,14 @@ move-starts-spec =
     Inv-loop
     μ-loop
     loop-holds
-    add-be32-at
-    be32-at-requires
-    add-put32
-    start-requires
-    put32-requires
-    add-p
-    add-i
-    loop-less
+    (λ c. search needs)
+    (λ c κs. search needs)
+    (λ c. search needs)
+    (λ c κs. search needs)
+    (λ c κs. search needs)
+    (λ c. search needs)
+    (λ c. search needs)
+    (λ c. search needs)
     loop-again
-    same-length
+    (λ c. search needs)
     returns)

@@ -7,19 +7,10 @@ use borrow.Author.Needs.{needs}
 use Rattle.moves.proofs.put32.Statement.{statement}
 use Rattle.moves.proofs.put32.Tie as tie
 
-turn-requires : tie.Need-turn-requires
-turn-requires c κs = search needs
-
-put-low-requires : tie.Need-put-low-requires
-put-low-requires c κs = search needs
-
-same-length : tie.Need-same-length
-same-length c = search needs
-
 returns : tie.Need-returns
 returns c =
     let a = c .before .before .before .before .before .before .args in
     c .before .before .put-low .ensures ∙ ap (noted (now (a .buf)) (a .at)) (ap low4 (c .before .before .before .turn .ensures) ∙ low-turned (a .v))
 
 pub put32-spec : {M : Type 1} → statement M
-put32-spec = tie.close (tie.spec turn-requires put-low-requires same-length returns)
+put32-spec = tie.close (tie.spec (λ c κs. search needs) (λ c κs. search needs) (λ c. search needs) returns)

@@ -4,14 +4,8 @@ use borrow.Author.Needs.{needs}
 use Rattle.moves.proofs.put8.Statement.{statement}
 use Rattle.moves.proofs.put8.Tie as tie
 
-slice-write-buf : tie.Need-slice-write-buf
-slice-write-buf c = search needs
-
-same-length : tie.Need-same-length
-same-length c = search needs
-
 returns : tie.Need-returns
 returns c = one-byte (now (c .args .buf)) (c .args .at) (c .args .v) (c .pre)
 
 pub put8-spec : {M : Type 1} → statement M
-put8-spec = tie.close (tie.spec slice-write-buf same-length returns)
+put8-spec = tie.close (tie.spec (λ c. search needs) (λ c. search needs) returns)

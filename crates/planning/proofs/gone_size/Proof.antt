@@ -3,17 +3,8 @@ use borrow.Author.Needs.{needs}
 use Rattle.planning.proofs.gone_size.Statement.{statement}
 use Rattle.planning.proofs.gone_size.Tie as tie
 
-returns : tie.Need-returns
-returns c = search needs
-
-add-result : tie.Need-add-result
-add-result c = search needs
-
-add-result-2 : tie.Need-add-result-2
-add-result-2 c = search needs
-
 returns-2 : tie.Need-returns-2
 returns-2 c = rw (c .if1 .left)
 
 pub gone-size-spec : {M : Type 1} → statement M
-gone-size-spec = tie.close (tie.spec returns add-result add-result-2 returns-2)
+gone-size-spec = tie.close (tie.spec (λ c. search needs) (λ c. search needs) (λ c. search needs) returns-2)

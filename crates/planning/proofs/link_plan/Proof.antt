@@ -14,21 +14,6 @@ use borrow.Author.Needs.{needs}
 use Rattle.planning.proofs.link_plan.Statement.{statement}
 use Rattle.planning.proofs.link_plan.Tie as tie
 
-opened-requires : tie.Need-opened-requires
-opened-requires c κs = search needs
-
-enum-known-k : tie.Need-enum-known-k
-enum-known-k c = search needs
-
-enum-known-facts : tie.Need-enum-known-facts
-enum-known-facts c = search needs
-
-enum-known-target : tie.Need-enum-known-target
-enum-known-target c = search needs
-
-enum-told : tie.Need-enum-told
-enum-told c = search needs
-
 returns : tie.Need-returns
 returns c =
     let a = c .before .before .before .before .before .before .before .args in
@@ -118,15 +103,6 @@ sub-with-room c =
     ∙ c .before .before .before .before .before .before .before .before .facts .given .1)
     (c .before .before .before .before .before .target .given .0 .0) (c .before .before .before .before .before .target .given .1) .found .used-in
 
-with-room-requires : tie.Need-with-room-requires
-with-room-requires c κs = search needs
-
-enum-known-k-2 : tie.Need-enum-known-k-2
-enum-known-k-2 c = search needs
-
-enum-told-2 : tie.Need-enum-told-2
-enum-told-2 c = search needs
-
 returns-2 : tie.Need-returns-2
 returns-2 c =
     let a = c .before .before .before .before .before .args in
@@ -181,11 +157,11 @@ pub link-plan-spec : {M : Type 1} → statement M
 link-plan-spec =
     tie.close
     (tie.spec
-    opened-requires
-    enum-known-k
-    enum-known-facts
-    enum-known-target
-    enum-told
+    (λ c κs. search needs)
+    (λ c. search needs)
+    (λ c. search needs)
+    (λ c. search needs)
+    (λ c. search needs)
     returns
     slice-aggregate-link-place
     link-place-requires
@@ -193,9 +169,9 @@ link-plan-spec =
     link-fault-requires
     add-with-room
     sub-with-room
-    with-room-requires
-    enum-known-k-2
-    enum-told-2
+    (λ c κs. search needs)
+    (λ c. search needs)
+    (λ c. search needs)
     returns-2
     returns-3
     returns-4)

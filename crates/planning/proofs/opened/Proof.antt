@@ -38,9 +38,6 @@ returns-3 c =
 slice-aggregate-inspect : tie.Need-slice-aggregate-inspect
 slice-aggregate-inspect c = sym (length-take-le _ _ (c .before .before .if2 .left))
 
-inspect-requires : tie.Need-inspect-requires
-inspect-requires c κs = search needs
-
 returns-4 : tie.Need-returns-4
 returns-4 c =
     let a = c .before .before .before .before .before .before .args in
@@ -59,5 +56,5 @@ opened-spec =
     returns-2
     returns-3
     slice-aggregate-inspect
-    inspect-requires
+    (λ c κs. search needs)
     returns-4)

@@ -14,21 +14,6 @@ use borrow.Author.Needs.{needs}
 use Rattle.planning.proofs.remove_plan.Statement.{statement}
 use Rattle.planning.proofs.remove_plan.Tie as tie
 
-opened-requires : tie.Need-opened-requires
-opened-requires c κs = search needs
-
-enum-known-k : tie.Need-enum-known-k
-enum-known-k c = search needs
-
-enum-known-facts : tie.Need-enum-known-facts
-enum-known-facts c = search needs
-
-enum-known-target : tie.Need-enum-known-target
-enum-known-target c = search needs
-
-enum-told : tie.Need-enum-told
-enum-told c = search needs
-
 returns : tie.Need-returns
 returns c =
     let a = c .before .before .before .before .before .before .before .args in
@@ -48,12 +33,6 @@ gone-size-requires c κs =
     (sym (c .before .before .before .before .before .before .opened .ensures) ∙ c .before .before .before .before .facts .given .1)
     (c .before .target .given .0 .0) (c .before .target .given .1) in
     body-short (a .profile) b (a .len) (a .room) (a .used) (a .usage) (a .number) bytes (c .before .target .given .0 .0) (w .found) (w .piece-is)
-
-kept-number-requires : tie.Need-kept-number-requires
-kept-number-requires c κs = search needs
-
-cast-body : tie.Need-cast-body
-cast-body c = search needs
 
 slice-aggregate-remove-fault : tie.Need-slice-aggregate-remove-fault
 slice-aggregate-remove-fault c =
@@ -83,12 +62,6 @@ remove-fault-requires c κs =
     (c .before .before .before .before .before .before .before .facts .given .0 .0) (c .before .before .before .before .target .given .0 .0) w
     (c .before .before .gone-size .result) (c .before .before .gone-size .ensures)
 
-cast-with-room : tie.Need-cast-with-room
-cast-with-room c = search needs
-
-add-with-room : tie.Need-add-with-room
-add-with-room c = search needs
-
 sub-with-room : tie.Need-sub-with-room
 sub-with-room c =
     let a = c .before .before .before .before .before .before .before .before .before .before .before .before .args in
@@ -107,9 +80,6 @@ sub-with-room c =
     shrinks (a .profile) b (a .len) (a .room) (a .used) (a .usage) (a .number) bytes (c .before .before .before .before .before .target .given .0 .0)
     (w .found) (w .piece-is) (c .before .before .before .gone-size .result) (c .before .before .before .gone-size .ensures)
 
-add-with-room-2 : tie.Need-add-with-room-2
-add-with-room-2 c = search needs
-
 sub-with-room-2 : tie.Need-sub-with-room-2
 sub-with-room-2 c =
     let a = c .before .before .before .before .before .before .before .before .before .before .before .before .args in
@@ -126,15 +96,6 @@ sub-with-room-2 c =
     ∙ c .before .before .before .before .before .before .before .before .facts .given .1)
     (c .before .before .before .before .before .target .given .0 .0) (c .before .before .before .before .before .target .given .1) in
     w .found .used-in
-
-with-room-requires : tie.Need-with-room-requires
-with-room-requires c κs = search needs
-
-enum-known-k-2 : tie.Need-enum-known-k-2
-enum-known-k-2 c = search needs
-
-enum-told-2 : tie.Need-enum-told-2
-enum-told-2 c = search needs
 
 returns-2 : tie.Need-returns-2
 returns-2 c =
@@ -198,25 +159,25 @@ pub remove-plan-spec : {M : Type 1} → statement M
 remove-plan-spec =
     tie.close
     (tie.spec
-    opened-requires
-    enum-known-k
-    enum-known-facts
-    enum-known-target
-    enum-told
+    (λ c κs. search needs)
+    (λ c. search needs)
+    (λ c. search needs)
+    (λ c. search needs)
+    (λ c. search needs)
     returns
     gone-size-requires
-    kept-number-requires
-    cast-body
+    (λ c κs. search needs)
+    (λ c. search needs)
     slice-aggregate-remove-fault
     remove-fault-requires
-    cast-with-room
-    add-with-room
+    (λ c. search needs)
+    (λ c. search needs)
     sub-with-room
-    add-with-room-2
+    (λ c. search needs)
     sub-with-room-2
-    with-room-requires
-    enum-known-k-2
-    enum-told-2
+    (λ c κs. search needs)
+    (λ c. search needs)
+    (λ c. search needs)
     returns-2
     returns-3
     returns-4)

@@ -6,32 +6,17 @@ use borrow.Author.Needs.{needs}
 use Rattle.planning.proofs.with_room.Statement.{statement}
 use Rattle.planning.proofs.with_room.Tie as tie
 
-enum-known-judged : tie.Need-enum-known-judged
-enum-known-judged c = search needs
-
-refused-requires : tie.Need-refused-requires
-refused-requires c κs = search needs
-
 returns : tie.Need-returns
 returns c =
     let a = c .before .before .before .before .args in
     ap verdictOf (c .refused .ensures) ∙ room-judged (a .judged) (a .size) (a .room) (a .more) (a .left) (c .before .before .judged .given .0 .0)
     (c .before .before .judged .given .0 .1 .0) (c .before .before .judged .given .1)
 
-enum-told : tie.Need-enum-told
-enum-told c = search needs
-
-refused-requires-2 : tie.Need-refused-requires-2
-refused-requires-2 c κs = search needs
-
 returns-2 : tie.Need-returns-2
 returns-2 c =
     let a = c .before .before .before .before .args in
     ap verdictOf (c .refused2 .ensures) ∙ room-24 (a .judged) (a .size) (a .room) (a .more) (a .left) (c .before .before .enum-told .given .1)
     (c .before .if1 .taken)
-
-refused-requires-3 : tie.Need-refused-requires-3
-refused-requires-3 c κs = search needs
 
 returns-3 : tie.Need-returns-3
 returns-3 c =
@@ -48,12 +33,12 @@ pub with-room-spec : {M : Type 1} → statement M
 with-room-spec =
     tie.close
     (tie.spec
-    enum-known-judged
-    refused-requires
+    (λ c. search needs)
+    (λ c κs. search needs)
     returns
-    enum-told
-    refused-requires-2
+    (λ c. search needs)
+    (λ c κs. search needs)
     returns-2
-    refused-requires-3
+    (λ c κs. search needs)
     returns-3
     returns-4)

@@ -14,9 +14,6 @@ insert-bytes-requires c κs =
     let p = c .before .before .before .pre in
     (p .0, (insertable-end b (a .len) (a .count) (p .0), p .1))
 
-same-length : tie.Need-same-length
-same-length c = search needs
-
 returns : tie.Need-returns
 returns c =
     let a = c .before .before .before .before .before .before .args in
@@ -26,4 +23,4 @@ returns c =
     (chunkOf (a .kind) (now (a .d))))
 
 pub add-bytes-spec : {M : Type 1} → statement M
-add-bytes-spec = tie.close (tie.spec insert-bytes-requires same-length returns)
+add-bytes-spec = tie.close (tie.spec insert-bytes-requires (λ c. search needs) returns)

@@ -8,21 +8,6 @@ use borrow.Author.Needs.{needs}
 use Rattle.rewrite.proofs.close_gap.Statement.{statement}
 use Rattle.rewrite.proofs.close_gap.Tie as tie
 
-add-shift-left : tie.Need-add-shift-left
-add-shift-left c = search needs
-
-shift-left-requires : tie.Need-shift-left-requires
-shift-left-requires c κs = search needs
-
-sub-clear : tie.Need-sub-clear
-sub-clear c = search needs
-
-clear-requires : tie.Need-clear-requires
-clear-requires c κs = search needs
-
-same-length : tie.Need-same-length
-same-length c = search needs
-
 returns : tie.Need-returns
 unfolding closed
 returns c =
@@ -33,4 +18,4 @@ returns c =
 pub close-gap-spec : {M : Type 1} → statement M
 close-gap-spec =
     tie.close
-    (tie.spec add-shift-left shift-left-requires sub-clear clear-requires same-length returns)
+    (tie.spec (λ c. search needs) (λ c κs. search needs) (λ c. search needs) (λ c κs. search needs) (λ c. search needs) returns)

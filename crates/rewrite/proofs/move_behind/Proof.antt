@@ -17,21 +17,6 @@ returns c =
     starts-kept b (a .count) (a .start) (a .old) (a .new) (c .if1 .taken) (bytes-all b (λ i. omega (arith, c .before .slice-known .given i)))
     (c .before .before .pre .0)
 
-cast-t10 : tie.Need-cast-t10
-cast-t10 c = search needs
-
-cast-t11 : tie.Need-cast-t11
-cast-t11 c = search needs
-
-cast-t12 : tie.Need-cast-t12
-cast-t12 c = search needs
-
-move-starts-requires : tie.Need-move-starts-requires
-move-starts-requires c κs = search needs
-
-same-length : tie.Need-same-length
-same-length c = search needs
-
 returns-2 : tie.Need-returns-2
 returns-2 c =
     let a = c .before .before .before .before .before .before .args in
@@ -42,4 +27,4 @@ returns-2 c =
 pub move-behind-spec : {M : Type 1} → statement M
 move-behind-spec =
     tie.close
-    (tie.spec returns cast-t10 cast-t11 cast-t12 move-starts-requires same-length returns-2)
+    (tie.spec returns (λ c. search needs) (λ c. search needs) (λ c. search needs) (λ c κs. search needs) (λ c. search needs) returns-2)

@@ -11,42 +11,6 @@ use borrow.Author.Needs.{needs}
 use Rattle.rewrite.proofs.replace_bytes.Statement.{statement}
 use Rattle.rewrite.proofs.replace_bytes.Tie as tie
 
-add-new : tie.Need-add-new
-add-new c = search needs
-
-add-new-2 : tie.Need-add-new-2
-add-new-2 c = search needs
-
-resize-requires : tie.Need-resize-requires
-resize-requires c κs = search needs
-
-move-behind-requires : tie.Need-move-behind-requires
-move-behind-requires c κs = search needs
-
-mul-put-heading : tie.Need-mul-put-heading
-mul-put-heading c = search needs
-
-add-put-heading : tie.Need-add-put-heading
-add-put-heading c = search needs
-
-sub-put-heading : tie.Need-sub-put-heading
-sub-put-heading c = search needs
-
-sub-put-heading-2 : tie.Need-sub-put-heading-2
-sub-put-heading-2 c = search needs
-
-add-put-heading-2 : tie.Need-add-put-heading-2
-add-put-heading-2 c = search needs
-
-put-heading-requires : tie.Need-put-heading-requires
-put-heading-requires c κs = search needs
-
-put-chunk-requires : tie.Need-put-chunk-requires
-put-chunk-requires c κs = search needs
-
-same-length : tie.Need-same-length
-same-length c = search needs
-
 returns : tie.Need-returns
 returns c =
     let a = c .before .before .before .before .before .before .before .before .before .before .before .before .before .before .before .before .before
@@ -72,16 +36,16 @@ pub replace-bytes-spec : {M : Type 1} → statement M
 replace-bytes-spec =
     tie.close
     (tie.spec
-    add-new
-    add-new-2
-    resize-requires
-    move-behind-requires
-    mul-put-heading
-    add-put-heading
-    sub-put-heading
-    sub-put-heading-2
-    add-put-heading-2
-    put-heading-requires
-    put-chunk-requires
-    same-length
+    (λ c. search needs)
+    (λ c. search needs)
+    (λ c κs. search needs)
+    (λ c κs. search needs)
+    (λ c. search needs)
+    (λ c. search needs)
+    (λ c. search needs)
+    (λ c. search needs)
+    (λ c. search needs)
+    (λ c κs. search needs)
+    (λ c κs. search needs)
+    (λ c. search needs)
     returns)

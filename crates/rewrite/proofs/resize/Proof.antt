@@ -10,30 +10,9 @@ use Rattle.rewrite.proofs.resize.Tie as tie
 returns : tie.Need-returns
 returns c = let a = c .before .before .args in resized-same (now (a .buf)) (a .at) (a .len) (a .old) (a .new) (c .if1 .taken)
 
-add-shift-right : tie.Need-add-shift-right
-add-shift-right c = search needs
-
-sub-shift-right : tie.Need-sub-shift-right
-sub-shift-right c = search needs
-
-shift-right-requires : tie.Need-shift-right-requires
-shift-right-requires c κs = search needs
-
-same-length : tie.Need-same-length
-same-length c = search needs
-
 returns-2 : tie.Need-returns-2
 unfolding resized
 returns-2 c = c .before .before .shift-right .ensures ∙ (rw (lt-ltb _ _ (c .before .before .before .before .if2 .taken)))
-
-add-close-gap : tie.Need-add-close-gap
-add-close-gap c = search needs
-
-close-gap-requires : tie.Need-close-gap-requires
-close-gap-requires c κs = search needs
-
-same-length-2 : tie.Need-same-length-2
-same-length-2 c = search needs
 
 returns-3 : tie.Need-returns-3
 unfolding resized
@@ -44,12 +23,12 @@ resize-spec =
     tie.close
     (tie.spec
     returns
-    add-shift-right
-    sub-shift-right
-    shift-right-requires
-    same-length
+    (λ c. search needs)
+    (λ c. search needs)
+    (λ c κs. search needs)
+    (λ c. search needs)
     returns-2
-    add-close-gap
-    close-gap-requires
-    same-length-2
+    (λ c. search needs)
+    (λ c κs. search needs)
+    (λ c. search needs)
     returns-3)

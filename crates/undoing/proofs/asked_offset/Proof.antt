@@ -4,12 +4,6 @@ use borrow.Author.Needs.{needs}
 use Rattle.undoing.proofs.asked_offset.Statement.{statement}
 use Rattle.undoing.proofs.asked_offset.Tie as tie
 
-cast-less : tie.Need-cast-less
-cast-less c = search needs
-
-less-requires : tie.Need-less-requires
-less-requires c κs = search needs
-
 returns : tie.Need-returns
 returns c = c .less .ensures ∙ asked-start (c .before .before .before .before .before .args .r) (c .before .before .if1 .taken)
 
@@ -17,4 +11,4 @@ returns-2 : tie.Need-returns-2
 returns-2 c = asked-none (c .before .before .before .args .r) (c .if1 .left)
 
 pub asked-offset-spec : {M : Type 1} → statement M
-asked-offset-spec = tie.close (tie.spec cast-less less-requires returns returns-2)
+asked-offset-spec = tie.close (tie.spec (λ c. search needs) (λ c κs. search needs) returns returns-2)

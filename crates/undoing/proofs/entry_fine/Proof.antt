@@ -6,18 +6,6 @@ use borrow.Author.Needs.{needs}
 use Rattle.undoing.proofs.entry_fine.Statement.{statement}
 use Rattle.undoing.proofs.entry_fine.Tie as tie
 
-enum-told : tie.Need-enum-told
-enum-told c = search needs
-
-enum-told-2 : tie.Need-enum-told-2
-enum-told-2 c = search needs
-
-known-usage-requires : tie.Need-known-usage-requires
-known-usage-requires c κs = search needs
-
-number-fits-requires : tie.Need-number-fits-requires
-number-fits-requires c κs = search needs
-
 returns : tie.Need-returns
 returns c =
     let a = c .before .before .args in
@@ -32,4 +20,4 @@ returns-2 c =
 pub entry-fine-spec : {M : Type 1} → statement M
 entry-fine-spec =
     tie.close
-    (tie.spec enum-told enum-told-2 known-usage-requires number-fits-requires returns returns-2)
+    (tie.spec (λ c. search needs) (λ c. search needs) (λ c κs. search needs) (λ c κs. search needs) returns returns-2)

@@ -5,18 +5,6 @@ use borrow.Author.Needs.{needs}
 use Rattle.undoing.proofs.fits_added.Statement.{statement}
 use Rattle.undoing.proofs.fits_added.Tie as tie
 
-cast-end : tie.Need-cast-end
-cast-end c = search needs
-
-chunk-size-requires : tie.Need-chunk-size-requires
-chunk-size-requires c κs = search needs
-
-add-end : tie.Need-add-end
-add-end c = search needs
-
-add-result : tie.Need-add-result
-add-result c = search needs
-
 returns : tie.Need-returns
 returns c =
     let a = c .before .before .before .before .args in
@@ -24,4 +12,4 @@ returns c =
     (a .p .shared)))
 
 pub fits-added-spec : {M : Type 1} → statement M
-fits-added-spec = tie.close (tie.spec cast-end chunk-size-requires add-end add-result returns)
+fits-added-spec = tie.close (tie.spec (λ c. search needs) (λ c κs. search needs) (λ c. search needs) (λ c. search needs) returns)

@@ -4,11 +4,8 @@ use borrow.Author.Needs.{needs}
 use Rattle.undoing.proofs.fits_linked.Statement.{statement}
 use Rattle.undoing.proofs.fits_linked.Tie as tie
 
-cast-result : tie.Need-cast-result
-cast-result c = search needs
-
 returns : tie.Need-returns
 returns c = refl
 
 pub fits-linked-spec : {M : Type 1} → statement M
-fits-linked-spec = tie.close (tie.spec cast-result returns)
+fits-linked-spec = tie.close (tie.spec (λ c. search needs) returns)

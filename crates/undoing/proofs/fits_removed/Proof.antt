@@ -4,19 +4,10 @@ use borrow.Author.Needs.{needs}
 use Rattle.undoing.proofs.fits_removed.Statement.{statement}
 use Rattle.undoing.proofs.fits_removed.Tie as tie
 
-cast-result : tie.Need-cast-result
-cast-result c = search needs
-
-cast-less : tie.Need-cast-less
-cast-less c = search needs
-
-less-requires : tie.Need-less-requires
-less-requires c κs = search needs
-
 returns : tie.Need-returns
 returns c =
     let a = c .before .before .before .before .before .args in
     λ i. leb (a .r .place) (a .facts .count) && (a .facts .begins || eqb (c .before .less .ensures i) (a .len))
 
 pub fits-removed-spec : {M : Type 1} → statement M
-fits-removed-spec = tie.close (tie.spec cast-result cast-less less-requires returns)
+fits-removed-spec = tie.close (tie.spec (λ c. search needs) (λ c. search needs) (λ c κs. search needs) returns)

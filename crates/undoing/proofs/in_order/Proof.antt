@@ -7,14 +7,8 @@ use Rattle.undoing.proofs.in_order.Tie as tie
 returns : tie.Need-returns
 returns c = too-far _ _ _ _ _ (c .if1 .taken)
 
-starts-below-requires : tie.Need-starts-below-requires
-starts-below-requires c κs = search needs
-
-starts-from-requires : tie.Need-starts-from-requires
-starts-from-requires c κs = search needs
-
 returns-2 : tie.Need-returns-2
 returns-2 c = both-sides _ _ _ _ _ _ _ (c .before .before .if1 .left) (c .before .starts-below .ensures) (c .starts-from .ensures)
 
 pub in-order-spec : {M : Type 1} → statement M
-in-order-spec = tie.close (tie.spec returns starts-below-requires starts-from-requires returns-2)
+in-order-spec = tie.close (tie.spec returns (λ c κs. search needs) (λ c κs. search needs) returns-2)

@@ -4,15 +4,6 @@ use borrow.Author.Needs.{needs}
 use Rattle.undoing.proofs.known_usage.Statement.{statement}
 use Rattle.undoing.proofs.known_usage.Tie as tie
 
-of-code-requires : tie.Need-of-code-requires
-of-code-requires c κs = search needs
-
-enum-told : tie.Need-enum-told
-enum-told c = search needs
-
-enum-told-2 : tie.Need-enum-told-2
-enum-told-2 c = search needs
-
 returns : tie.Need-returns
 returns c = sym (known-is _ _ (sym (c .before .before .of-code .ensures) ∙ c .enum-told .given .1) .0)
 
@@ -20,4 +11,4 @@ returns-2 : tie.Need-returns-2
 returns-2 c = sym (known-not _ (sym (c .before .before .of-code .ensures) ∙ c .enum-told2 .given .1))
 
 pub known-usage-spec : {M : Type 1} → statement M
-known-usage-spec = tie.close (tie.spec of-code-requires enum-told enum-told-2 returns returns-2)
+known-usage-spec = tie.close (tie.spec (λ c κs. search needs) (λ c. search needs) (λ c. search needs) returns returns-2)

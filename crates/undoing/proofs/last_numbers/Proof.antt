@@ -4,15 +4,6 @@ use borrow.Author.Needs.{needs}
 use Rattle.undoing.proofs.last_numbers.Statement.{statement}
 use Rattle.undoing.proofs.last_numbers.Tie as tie
 
-last-record-requires : tie.Need-last-record-requires
-last-record-requires c κs = search needs
-
-enum-known-r : tie.Need-enum-known-r
-enum-known-r c = search needs
-
-enum-told : tie.Need-enum-told
-enum-told c = search needs
-
 returns : tie.Need-returns
 returns c = ap numbersIn (sym (c .before .r .given .1) ∙ c .before .before .before .last-record .ensures)
 
@@ -21,4 +12,4 @@ returns-2 c = ap numbersIn (sym (c .enum-told .given .1) ∙ c .before .before .
 
 pub last-numbers-spec : {M : Type 1} → statement M
 last-numbers-spec =
-    tie.close (tie.spec last-record-requires enum-known-r enum-told returns returns-2)
+    tie.close (tie.spec (λ c κs. search needs) (λ c. search needs) (λ c. search needs) returns returns-2)

@@ -15,9 +15,6 @@ use borrow.Author.Needs.{needs}
 use Rattle.undoing.proofs.plan_fitting.Statement.{statement}
 use Rattle.undoing.proofs.plan_fitting.Tie as tie
 
-plan-added-requires : tie.Need-plan-added-requires
-plan-added-requires c κs = search needs
-
 returns : tie.Need-returns
 returns c =
     let a = c .before .before .before .before .args in
@@ -41,9 +38,6 @@ returns-2 c =
     asked-unlisted (a .profile) (now (a .buf)) (a .len) (now (a .jrn)) (a .used) (a .r) (a .facts) (c .before .before .before .before .before .before .pre) _
     (c .before .before .if2 .taken) (c .plan-unlisted .ensures)
 
-plan-linked-requires : tie.Need-plan-linked-requires
-plan-linked-requires c κs = search needs
-
 returns-3 : tie.Need-returns-3
 returns-3 c =
     let a = c .before .before .before .before .before .before .args in
@@ -55,9 +49,6 @@ sub-end c =
     let a = c .before .before .before .before .before .args in
     omega (arith, record-room (a .profile) (now (a .buf)) (a .len) (now (a .jrn)) (a .used) (a .r) (a .facts) (c .before .before .before .before .before .pre))
 
-cast-from : tie.Need-cast-from
-cast-from c = search needs
-
 sub-from : tie.Need-sub-from
 sub-from c =
     let a = c .before .before .before .before .before .before .args in
@@ -66,18 +57,6 @@ sub-from c =
       record-room (a .profile) (now (a .buf)) (a .len) (now (a .jrn)) (a .used) (a .r) (a .facts)
           (c .before .before .before .before .before .before .pre),
     )
-
-sub-d : tie.Need-sub-d
-sub-d c = search needs
-
-part-d-start : tie.Need-part-d-start
-part-d-start c = search needs
-
-part-d-end : tie.Need-part-d-end
-part-d-end c = search needs
-
-plan-replaced-requires : tie.Need-plan-replaced-requires
-plan-replaced-requires c κs = search needs
 
 returns-4 : tie.Need-returns-4
 returns-4 c =
@@ -109,20 +88,20 @@ pub plan-fitting-spec : {M : Type 1} → statement M
 plan-fitting-spec =
     tie.close
     (tie.spec
-    plan-added-requires
+    (λ c κs. search needs)
     returns
     slice-aggregate-plan-unlisted
     plan-unlisted-requires
     returns-2
-    plan-linked-requires
+    (λ c κs. search needs)
     returns-3
     sub-end
-    cast-from
+    (λ c. search needs)
     sub-from
-    sub-d
-    part-d-start
-    part-d-end
-    plan-replaced-requires
+    (λ c. search needs)
+    (λ c. search needs)
+    (λ c. search needs)
+    (λ c κs. search needs)
     returns-4
     slice-aggregate-plan-removed
     plan-removed-requires

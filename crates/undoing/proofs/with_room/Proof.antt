@@ -3,12 +3,6 @@ use borrow.Author.Needs.{needs}
 use Rattle.undoing.proofs.with_room.Statement.{statement}
 use Rattle.undoing.proofs.with_room.Tie as tie
 
-enum-known-plan : tie.Need-enum-known-plan
-enum-known-plan c = search needs
-
-enum-known-plan-2 : tie.Need-enum-known-plan-2
-enum-known-plan-2 c = search needs
-
 returns : tie.Need-returns
 returns c = no-room _ _ _ _ _ _ _ (c .before .before .plan2 .given .1) (c .if1 .taken)
 
@@ -19,4 +13,4 @@ returns-3 : tie.Need-returns-3
 returns-3 c = room-for _ _ _ _ _ _ _ (c .before .before .plan2 .given .1) (c .if1 .left)
 
 pub with-room-spec : {M : Type 1} → statement M
-with-room-spec = tie.close (tie.spec enum-known-plan enum-known-plan-2 returns returns-2 returns-3)
+with-room-spec = tie.close (tie.spec (λ c. search needs) (λ c. search needs) returns returns-2 returns-3)

@@ -5,30 +5,6 @@ use borrow.Author.Needs.{needs}
 use Rattle.blorb.proofs.Usage.plain_allows.Statement.{statement}
 use Rattle.blorb.proofs.Usage.plain_allows.Tie as tie
 
-enum-told : tie.Need-enum-told
-enum-told c = search needs
-
-pict-type-requires : tie.Need-pict-type-requires
-pict-type-requires c κs = search needs
-
-enum-told-2 : tie.Need-enum-told-2
-enum-told-2 c = search needs
-
-sound-type-requires : tie.Need-sound-type-requires
-sound-type-requires c κs = search needs
-
-enum-told-3 : tie.Need-enum-told-3
-enum-told-3 c = search needs
-
-data-type-requires : tie.Need-data-type-requires
-data-type-requires c κs = search needs
-
-enum-told-4 : tie.Need-enum-told-4
-enum-told-4 c = search needs
-
-exec-type-requires : tie.Need-exec-type-requires
-exec-type-requires c κs = search needs
-
 returns : tie.Need-returns
 returns c = c .pict-type .ensures ∙ sym (rw (c .before .enum-told .given .1) (plain-pict _))
 
@@ -45,14 +21,14 @@ pub plain-allows-spec : {M : Type 1} → statement M
 plain-allows-spec =
     tie.close
     (tie.spec
-    enum-told
-    pict-type-requires
-    enum-told-2
-    sound-type-requires
-    enum-told-3
-    data-type-requires
-    enum-told-4
-    exec-type-requires
+    (λ c. search needs)
+    (λ c κs. search needs)
+    (λ c. search needs)
+    (λ c κs. search needs)
+    (λ c. search needs)
+    (λ c κs. search needs)
+    (λ c. search needs)
+    (λ c κs. search needs)
     returns
     returns-2
     returns-3

@@ -23,30 +23,9 @@ loop-holds c =
     let z : a .count - 0 ≡ a .count = omega arith in
     (search needs, ap (λ (k : ℕ). 0 + pairPlace (a .code) (a .number) (entriesIn k (drop 24 (now (a .s))))) z ∙ omega arith)
 
-mul-p : tie.Need-mul-p Inv-loop μ-loop
-mul-p c = search needs
-
-add-p : tie.Need-add-p Inv-loop μ-loop
-add-p c = search needs
-
-be32-at-requires : tie.Need-be32-at-requires Inv-loop μ-loop
-be32-at-requires c κs = search needs
-
-add-be32-at : tie.Need-add-be32-at Inv-loop μ-loop
-add-be32-at c = search needs
-
-be32-at-requires-2 : tie.Need-be32-at-requires-2 Inv-loop μ-loop
-be32-at-requires-2 c κs = search needs
-
 returns : tie.Need-returns Inv-loop μ-loop
 returns c = place-hit _ _ _ _ _ _ _ (c .before .before .before .loop-test .taken) (c .before .before .be32-at .ensures .0) (c .before .be32-at2 .ensures .0)
     (c .if1 .taken) ∙ c .before .before .before .before .loop .inv .1
-
-add-i : tie.Need-add-i Inv-loop μ-loop
-add-i c = search needs
-
-loop-less : tie.Need-loop-less Inv-loop μ-loop
-loop-less c = search needs
 
 loop-again : tie.Need-loop-again Inv-loop μ-loop
 loop-again c = (
@@ -71,13 +50,13 @@ find-place-spec =
     Inv-loop
     μ-loop
     loop-holds
-    mul-p
-    add-p
-    be32-at-requires
-    add-be32-at
-    be32-at-requires-2
+    (λ c. search needs)
+    (λ c. search needs)
+    (λ c κs. search needs)
+    (λ c. search needs)
+    (λ c κs. search needs)
     returns
-    add-i
-    loop-less
+    (λ c. search needs)
+    (λ c. search needs)
     loop-again
     returns-2)

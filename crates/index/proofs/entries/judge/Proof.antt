@@ -7,33 +7,9 @@ use borrow.Author.Needs.{needs}
 use Rattle.index.proofs.entries.judge.Statement.{statement}
 use Rattle.index.proofs.entries.judge.Tie as tie
 
-add-be32-at : tie.Need-add-be32-at
-add-be32-at c = search needs
-
-be32-at-requires : tie.Need-be32-at-requires
-be32-at-requires c κs = search needs
-
-begins-behind-requires : tie.Need-begins-behind-requires
-begins-behind-requires c κs = search needs
-
-unstarted-requires : tie.Need-unstarted-requires
-unstarted-requires c κs = search needs
-
 returns : tie.Need-returns
 returns c = c .unstarted .ensures ∙ unstarted _ _ _ _ (rw (c .before .before .before .be32-at .ensures .0) at
     (sym (c .before .before .begins-behind .ensures) ∙ not-true (c .before .before .begins-behind .result) (c .before .if1 .taken)))
-
-be32-at-requires-2 : tie.Need-be32-at-requires-2
-be32-at-requires-2 c κs = search needs
-
-of-code-requires : tie.Need-of-code-requires
-of-code-requires c κs = search needs
-
-enum-known-usage : tie.Need-enum-known-usage
-enum-known-usage c = search needs
-
-enum-told : tie.Need-enum-told
-enum-told c = search needs
 
 returns-2 : tie.Need-returns-2
 returns-2 c = by-12 _ _ _ _ _ 0 (c .before .before .before .be32-at2 .ensures .0) (sym (c .before .before .of-code .ensures) ∙ c .enum-told .given .1)
@@ -52,18 +28,6 @@ returns-3 c = by-14 _ _ _ _ _ _ (c .before .before .before .before .before .befo
     ∙ not-false (c .before .before .before .before .before .before .before .before .begins-behind .result)
     (c .before .before .before .before .before .before .before .if1 .left)) (sym (c .before .typed .ensures) ∙ not-true (c .before .typed .result)
     (c .if2 .taken))
-
-add-be32-at-2 : tie.Need-add-be32-at-2
-add-be32-at-2 c = search needs
-
-be32-at-requires-3 : tie.Need-be32-at-requires-3
-be32-at-requires-3 c κs = search needs
-
-numbered-requires : tie.Need-numbered-requires
-numbered-requires c κs = search needs
-
-add-t14 : tie.Need-add-t14
-add-t14 c = search needs
 
 returns-4 : tie.Need-returns-4
 returns-4 c = by-15 _ _ _ _ _ _ (c .before .before .before .before .before .before .before .before .before .be32-at2 .ensures .0) _
@@ -91,21 +55,21 @@ pub judge-spec : {M : Type 1} → statement M
 judge-spec =
     tie.close
     (tie.spec
-    add-be32-at
-    be32-at-requires
-    begins-behind-requires
-    unstarted-requires
+    (λ c. search needs)
+    (λ c κs. search needs)
+    (λ c κs. search needs)
+    (λ c κs. search needs)
     returns
-    be32-at-requires-2
-    of-code-requires
-    enum-known-usage
-    enum-told
+    (λ c κs. search needs)
+    (λ c κs. search needs)
+    (λ c. search needs)
+    (λ c. search needs)
     returns-2
     typed-requires
     returns-3
-    add-be32-at-2
-    be32-at-requires-3
-    numbered-requires
-    add-t14
+    (λ c. search needs)
+    (λ c κs. search needs)
+    (λ c κs. search needs)
+    (λ c. search needs)
     returns-4
     returns-5)

@@ -10,33 +10,15 @@ use borrow.Author.Needs.{needs}
 use Rattle.index.proofs.entries.plainly_typed.Statement.{statement}
 use Rattle.index.proofs.entries.plainly_typed.Tie as tie
 
-add-from : tie.Need-add-from
-add-from c = search needs
-
-add-be32-at : tie.Need-add-be32-at
-add-be32-at c = search needs
-
 be32-at-requires : tie.Need-be32-at-requires
 be32-at-requires c κs = omega (arith, whole _ _ (c .before .pre .0) (c .before .pre .1) .header)
-
-add-to : tie.Need-add-to
-add-to c = search needs
 
 be32-at-requires-2 : tie.Need-be32-at-requires-2
 be32-at-requires-2 c κs = omega (arith, whole _ _ (c .before .before .pre .0) (c .before .before .pre .1) .header)
 
-sub-plain-allows : tie.Need-sub-plain-allows
-sub-plain-allows c = search needs
-
-part-plain-allows-start : tie.Need-part-plain-allows-start
-part-plain-allows-start c = search needs
-
 part-plain-allows-end : tie.Need-part-plain-allows-end
 part-plain-allows-end c = let i = whole _ _ (c .before .before .before .pre .0) (c .before .before .before .pre .1) in
     omega (arith, i .inside, i .next, c .before .be32-at .ensures .0)
-
-plain-allows-requires : tie.Need-plain-allows-requires
-plain-allows-requires c κs = search needs
 
 returns : tie.Need-returns
 returns c =
@@ -49,13 +31,13 @@ pub plainly-typed-spec : {M : Type 1} → statement M
 plainly-typed-spec =
     tie.close
     (tie.spec
-    add-from
-    add-be32-at
+    (λ c. search needs)
+    (λ c. search needs)
     be32-at-requires
-    add-to
+    (λ c. search needs)
     be32-at-requires-2
-    sub-plain-allows
-    part-plain-allows-start
+    (λ c. search needs)
+    (λ c. search needs)
     part-plain-allows-end
-    plain-allows-requires
+    (λ c κs. search needs)
     returns)

@@ -6,24 +6,6 @@ use borrow.Author.Needs.{needs}
 use Rattle.index.proofs.entries.same_pair.Statement.{statement}
 use Rattle.index.proofs.entries.same_pair.Tie as tie
 
-mul-pair-key : tie.Need-mul-pair-key
-mul-pair-key c = search needs
-
-add-pair-key : tie.Need-add-pair-key
-add-pair-key c = search needs
-
-pair-key-requires : tie.Need-pair-key-requires
-pair-key-requires c κs = search needs
-
-mul-pair-key-2 : tie.Need-mul-pair-key-2
-mul-pair-key-2 c = search needs
-
-add-pair-key-2 : tie.Need-add-pair-key-2
-add-pair-key-2 c = search needs
-
-pair-key-requires-2 : tie.Need-pair-key-requires-2
-pair-key-requires-2 c κs = search needs
-
 returns : tie.Need-returns
 returns c =
     let a = c .before .before .before .args in
@@ -36,10 +18,10 @@ pub same-pair-spec : {M : Type 1} → statement M
 same-pair-spec =
     tie.close
     (tie.spec
-    mul-pair-key
-    add-pair-key
-    pair-key-requires
-    mul-pair-key-2
-    add-pair-key-2
-    pair-key-requires-2
+    (λ c. search needs)
+    (λ c. search needs)
+    (λ c κs. search needs)
+    (λ c. search needs)
+    (λ c. search needs)
+    (λ c κs. search needs)
     returns)

@@ -14,12 +14,6 @@ returns c = shape-short _ (c .before .before .before .pre .0) (c .before .before
 be32-at-requires-2 : tie.Need-be32-at-requires-2
 be32-at-requires-2 c κs = shape-room _ (c .before .before .before .pre .0) (c .before .before .before .pre .1) (omega (arith, c .before .be32-at .ensures .0))
 
-mul-if2 : tie.Need-mul-if2
-mul-if2 c = search needs
-
-add-if2 : tie.Need-add-if2
-add-if2 c = search needs
-
 returns-2 : tie.Need-returns-2
 returns-2 c = shape-other _ (c .before .before .before .before .before .pre .0) (c .before .before .before .before .before .pre .1)
     (omega (arith, c .before .before .before .be32-at .ensures .0))
@@ -50,8 +44,8 @@ shape-spec =
     be32-at-requires
     returns
     be32-at-requires-2
-    mul-if2
-    add-if2
+    (λ c. search needs)
+    (λ c. search needs)
     returns-2
     returns-3
     returns-4)

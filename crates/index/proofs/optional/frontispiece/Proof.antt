@@ -8,33 +8,12 @@ use borrow.Author.Needs.{needs}
 use Rattle.index.proofs.optional.frontispiece.Statement.{statement}
 use Rattle.index.proofs.optional.frontispiece.Tie as tie
 
-add-be32-at : tie.Need-add-be32-at
-add-be32-at c = search needs
-
-be32-at-requires : tie.Need-be32-at-requires
-be32-at-requires c κs = search needs
-
-find-requires : tie.Need-find-requires
-find-requires c κs = search needs
-
-enum-known-start : tie.Need-enum-known-start
-enum-known-start c = search needs
-
-enum-told : tie.Need-enum-told
-enum-told c = search needs
-
-add-t8 : tie.Need-add-t8
-add-t8 c = search needs
-
 returns : tie.Need-returns
 returns c = front-none _ _ _ _ (c .before .before .before .be32-at .ensures .0) (sym (c .before .before .find .ensures) ∙ c .enum-told .given .1)
 
 be32-at-requires-2 : tie.Need-be32-at-requires-2
 be32-at-requires-2 c κs = let b = hit-begun _ _ _ _ _ (c .before .before .before .before .before .before .pre .0)
     (sym (c .before .before .before .find .ensures) ∙ c .before .start .given .1) in omega (arith, fine _ _ (b .0) (b .1) .header)
-
-add-t10 : tie.Need-add-t10
-add-t10 c = search needs
 
 returns-2 : tie.Need-returns-2
 returns-2 c = front-rect _ _ _ _ (c .before .before .before .before .before .before .be32-at .ensures .0) _ _
@@ -52,14 +31,14 @@ pub frontispiece-spec : {M : Type 1} → statement M
 frontispiece-spec =
     tie.close
     (tie.spec
-    add-be32-at
-    be32-at-requires
-    find-requires
-    enum-known-start
-    enum-told
-    add-t8
+    (λ c. search needs)
+    (λ c κs. search needs)
+    (λ c κs. search needs)
+    (λ c. search needs)
+    (λ c. search needs)
+    (λ c. search needs)
     returns
     be32-at-requires-2
-    add-t10
+    (λ c. search needs)
     returns-2
     returns-3)

@@ -10,9 +10,6 @@ use Rattle.index.proofs.optional.optional_chunk.Tie as tie
 be32-at-requires : tie.Need-be32-at-requires
 be32-at-requires c κs = omega (arith, fine _ _ (c .before .pre .1) (c .before .pre .2) .header)
 
-single-requires : tie.Need-single-requires
-single-requires c κs = search needs
-
 returns : tie.Need-returns
 returns c = c .single .ensures ∙ rule-reln _ _ (c .before .before .before .before .pre .1) (c .before .before .before .before .pre .2) _ _ _ _
     (c .before .before .be32-at .ensures .0) (c .before .if1 .taken)
@@ -21,20 +18,11 @@ returns-2 : tie.Need-returns-2
 returns-2 c = rule-none _ _ (c .before .before .before .before .pre .1) (c .before .before .before .before .pre .2) _ _ _ _
     (c .before .before .be32-at .ensures .0) (c .before .if1 .left) (c .if2 .taken)
 
-single-requires-2 : tie.Need-single-requires-2
-single-requires-2 c κs = search needs
-
-enum-known-number : tie.Need-enum-known-number
-enum-known-number c = search needs
-
 returns-3 : tie.Need-returns-3
 returns-3 c = fspc-stop _ _ (c .before .before .before .before .before .before .before .before .pre .1)
     (c .before .before .before .before .before .before .before .before .pre .2) _ _ _ _
     (c .before .before .before .before .before .before .be32-at .ensures .0) (c .before .before .before .before .before .if1 .left)
     (c .before .before .before .before .if2 .left) _ _ (sym (c .before .before .before .single2 .ensures) ∙ ap verdictOf (c .before .number .given .1))
-
-enum-told : tie.Need-enum-told
-enum-told c = search needs
 
 frontispiece-requires : tie.Need-frontispiece-requires
 frontispiece-requires c κs = let i = fine _ _ (c .before .before .before .before .before .before .before .pre .1)
@@ -54,12 +42,12 @@ optional-chunk-spec =
     tie.close
     (tie.spec
     be32-at-requires
-    single-requires
+    (λ c κs. search needs)
     returns
     returns-2
-    single-requires-2
-    enum-known-number
+    (λ c κs. search needs)
+    (λ c. search needs)
     returns-3
-    enum-told
+    (λ c. search needs)
     frontispiece-requires
     returns-4)

@@ -12,18 +12,6 @@ use borrow.Author.Needs.{needs}
 use Rattle.judging.proofs.judge.add_fault.Statement.{statement}
 use Rattle.judging.proofs.judge.add_fault.Tie as tie
 
-add-if1 : tie.Need-add-if1
-add-if1 c = search needs
-
-add-if1-2 : tie.Need-add-if1-2
-add-if1-2 c = search needs
-
-add-if1-3 : tie.Need-add-if1-3
-add-if1-3 c = search needs
-
-refused-requires : tie.Need-refused-requires
-refused-requires c κs = search needs
-
 returns : tie.Need-returns
 returns c =
     let a = c .before .before .before .before .args in
@@ -32,12 +20,6 @@ returns c =
     ap verdictOf (c .refused .ensures) ∙ out-101 (a .profile) f (a .count) (a .target) (a .usage) (a .number) (a .kind) (now (a .d)) bytes
     (c .before .before .before .before .pre) (omega arith) (omega arith) (omega arith) (c .before .if1 .taken)
 
-add-refused : tie.Need-add-refused
-add-refused c = search needs
-
-refused-requires-2 : tie.Need-refused-requires-2
-refused-requires-2 c κs = search needs
-
 returns-2 : tie.Need-returns-2
 returns-2 c =
     let a = c .before .before .before .before .before .args in
@@ -45,12 +27,6 @@ returns-2 c =
     let bytes : All Byte f = bytes-all f (λ i. omega (arith, c .before .before .before .before .shared-slice-known .given i)) in
     ap verdictOf (c .refused2 .ensures) ∙ out-109 (a .profile) f (a .count) (a .target) (a .usage) (a .number) (a .kind) (now (a .d)) bytes
     (c .before .before .before .before .before .pre) (omega arith) (omega arith) (omega arith) (c .before .before .if1 .left) (c .before .if2 .taken)
-
-add-if3 : tie.Need-add-if3
-add-if3 c = search needs
-
-refused-requires-3 : tie.Need-refused-requires-3
-refused-requires-3 c κs = search needs
 
 returns-3 : tie.Need-returns-3
 returns-3 c =
@@ -61,21 +37,6 @@ returns-3 c =
     (c .before .before .before .before .before .before .pre) (omega arith) (omega arith) (omega arith) (c .before .before .before .if1 .left)
     (c .before .before .if2 .left) (c .before .if3 .taken)
 
-mul-at : tie.Need-mul-at
-mul-at c = search needs
-
-add-at : tie.Need-add-at
-add-at c = search needs
-
-of-code-requires : tie.Need-of-code-requires
-of-code-requires c κs = search needs
-
-enum-told : tie.Need-enum-told
-enum-told c = search needs
-
-refused-requires-4 : tie.Need-refused-requires-4
-refused-requires-4 c κs = search needs
-
 returns-4 : tie.Need-returns-4
 returns-4 c =
     let a = c .before .before .before .before .before .before .before .before .before .args in
@@ -85,15 +46,6 @@ returns-4 c =
     (c .before .before .before .before .before .before .before .before .before .pre) (omega arith) (omega arith) (omega arith)
     (c .before .before .before .before .before .before .if1 .left) (c .before .before .before .before .before .if2 .left)
     (c .before .before .before .before .if3 .left) (known-not _ (sym (c .before .before .before .of-code .ensures) ∙ c .before .enum-told .given .1))
-
-enum-told-2 : tie.Need-enum-told-2
-enum-told-2 c = search needs
-
-type-allowed-requires : tie.Need-type-allowed-requires
-type-allowed-requires c κs = search needs
-
-refused-requires-5 : tie.Need-refused-requires-5
-refused-requires-5 c κs = search needs
 
 returns-5 : tie.Need-returns-5
 returns-5 c =
@@ -106,15 +58,6 @@ returns-5 c =
     (c .before .before .before .before .before .before .before .before .if1 .left) (c .before .before .before .before .before .before .before .if2 .left)
     (c .before .before .before .before .before .before .if3 .left) (known-is _ _ (sym (c .before .before .before .before .before .of-code .ensures)
     ∙ c .before .before .before .enum-told2 .given .1) .0) (sym (c .before .before .type-allowed .ensures) ∙ not-true _ (c .before .if4 .taken))
-
-number-fits-requires : tie.Need-number-fits-requires
-number-fits-requires c κs = search needs
-
-add-refused-2 : tie.Need-add-refused-2
-add-refused-2 c = search needs
-
-refused-requires-6 : tie.Need-refused-requires-6
-refused-requires-6 c κs = search needs
 
 returns-6 : tie.Need-returns-6
 returns-6 c =
@@ -131,15 +74,6 @@ returns-6 c =
     (known-is _ _ (sym (c .before .before .before .before .before .before .before .of-code .ensures)
     ∙ c .before .before .before .before .before .enum-told2 .given .1) .0) (sym (c .before .before .before .before .type-allowed .ensures)
     ∙ not-false _ (c .before .before .before .if4 .left)) (sym (c .before .before .number-fits .ensures) ∙ not-true _ (c .before .if5 .taken))
-
-enum-told-3 : tie.Need-enum-told-3
-enum-told-3 c = search needs
-
-refused-requires-7 : tie.Need-refused-requires-7
-refused-requires-7 c κs = search needs
-
-enum-told-4 : tie.Need-enum-told-4
-enum-told-4 c = search needs
 
 returns-7 : tie.Need-returns-7
 returns-7 c =
@@ -186,33 +120,33 @@ pub add-fault-spec : {M : Type 1} → statement M
 add-fault-spec =
     tie.close
     (tie.spec
-    add-if1
-    add-if1-2
-    add-if1-3
-    refused-requires
+    (λ c. search needs)
+    (λ c. search needs)
+    (λ c. search needs)
+    (λ c κs. search needs)
     returns
-    add-refused
-    refused-requires-2
+    (λ c. search needs)
+    (λ c κs. search needs)
     returns-2
-    add-if3
-    refused-requires-3
+    (λ c. search needs)
+    (λ c κs. search needs)
     returns-3
-    mul-at
-    add-at
-    of-code-requires
-    enum-told
-    refused-requires-4
+    (λ c. search needs)
+    (λ c. search needs)
+    (λ c κs. search needs)
+    (λ c. search needs)
+    (λ c κs. search needs)
     returns-4
-    enum-told-2
-    type-allowed-requires
-    refused-requires-5
+    (λ c. search needs)
+    (λ c κs. search needs)
+    (λ c κs. search needs)
     returns-5
-    number-fits-requires
-    add-refused-2
-    refused-requires-6
+    (λ c κs. search needs)
+    (λ c. search needs)
+    (λ c κs. search needs)
     returns-6
-    enum-told-3
-    refused-requires-7
-    enum-told-4
+    (λ c. search needs)
+    (λ c κs. search needs)
+    (λ c. search needs)
     returns-7
     returns-8)

@@ -4,14 +4,8 @@ use borrow.Author.Needs.{needs}
 use Rattle.judging.proofs.judge.behind_start.Statement.{statement}
 use Rattle.judging.proofs.judge.behind_start.Tie as tie
 
-add-x : tie.Need-add-x
-add-x c = search needs
-
 returns : tie.Need-returns
 returns c = (rw (lt-ltb _ _ (c .before .if1 .taken)) (omega arith), omega arith)
-
-sub-result : tie.Need-sub-result
-sub-result c = search needs
 
 returns-2 : tie.Need-returns-2
 returns-2 c = (rw (lt-ltb _ _ (c .before .if1 .taken)), omega arith)
@@ -20,4 +14,4 @@ returns-3 : tie.Need-returns-3
 returns-3 c = (rw (le-ltb _ _ (c .if1 .left)), omega arith)
 
 pub behind-start-spec : {M : Type 1} → statement M
-behind-start-spec = tie.close (tie.spec add-x returns sub-result returns-2 returns-3)
+behind-start-spec = tie.close (tie.spec (λ c. search needs) returns (λ c. search needs) returns-2 returns-3)

@@ -4,17 +4,8 @@ use borrow.Author.Needs.{needs}
 use Rattle.judging.proofs.judge.fallen_start.Statement.{statement}
 use Rattle.judging.proofs.judge.fallen_start.Tie as tie
 
-add-if2 : tie.Need-add-if2
-add-if2 c = search needs
-
 returns : tie.Need-returns
 returns c = rw (lt-ltb _ _ (c .before .if1 .taken)) (omega arith)
-
-add-result : tie.Need-add-result
-add-result c = search needs
-
-sub-result : tie.Need-sub-result
-sub-result c = search needs
 
 returns-2 : tie.Need-returns-2
 returns-2 c = rw (lt-ltb _ _ (c .before .if1 .taken))
@@ -27,4 +18,4 @@ returns-4 c = rw (le-ltb _ _ (c .before .if1 .left))
 
 pub fallen-start-spec : {M : Type 1} → statement M
 fallen-start-spec =
-    tie.close (tie.spec add-if2 returns add-result sub-result returns-2 returns-3 returns-4)
+    tie.close (tie.spec (λ c. search needs) returns (λ c. search needs) (λ c. search needs) returns-2 returns-3 returns-4)

@@ -12,27 +12,6 @@ use borrow.Author.Needs.{needs}
 use Rattle.judging.proofs.judge.remove_fault.Statement.{statement}
 use Rattle.judging.proofs.judge.remove_fault.Tie as tie
 
-enum-told : tie.Need-enum-told
-enum-told c = search needs
-
-enum-known-front : tie.Need-enum-known-front
-enum-known-front c = search needs
-
-is-picture-requires : tie.Need-is-picture-requires
-is-picture-requires c κs = search needs
-
-fallen-start-requires : tie.Need-fallen-start-requires
-fallen-start-requires c κs = search needs
-
-cast-refused : tie.Need-cast-refused
-cast-refused c = search needs
-
-add-refused : tie.Need-add-refused
-add-refused c = search needs
-
-refused-requires : tie.Need-refused-requires
-refused-requires c κs = search needs
-
 returns : tie.Need-returns
 returns c =
     let a = c .before .before .before .before .before .before .before .before .args in
@@ -64,13 +43,13 @@ pub remove-fault-spec : {M : Type 1} → statement M
 remove-fault-spec =
     tie.close
     (tie.spec
-    enum-told
-    enum-known-front
-    is-picture-requires
-    fallen-start-requires
-    cast-refused
-    add-refused
-    refused-requires
+    (λ c. search needs)
+    (λ c. search needs)
+    (λ c κs. search needs)
+    (λ c κs. search needs)
+    (λ c. search needs)
+    (λ c. search needs)
+    (λ c κs. search needs)
     returns
     returns-2
     returns-3)

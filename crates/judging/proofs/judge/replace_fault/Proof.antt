@@ -13,30 +13,6 @@ use borrow.Author.Needs.{needs}
 use Rattle.judging.proofs.judge.replace_fault.Statement.{statement}
 use Rattle.judging.proofs.judge.replace_fault.Tie as tie
 
-add-old : tie.Need-add-old
-add-old c = search needs
-
-add-old-2 : tie.Need-add-old-2
-add-old-2 c = search needs
-
-add-new : tie.Need-add-new
-add-new c = search needs
-
-add-new-2 : tie.Need-add-new-2
-add-new-2 c = search needs
-
-cast-if1 : tie.Need-cast-if1
-cast-if1 c = search needs
-
-sub-if1 : tie.Need-sub-if1
-sub-if1 c = search needs
-
-add-if1 : tie.Need-add-if1
-add-if1 c = search needs
-
-refused-requires : tie.Need-refused-requires
-refused-requires c κs = search needs
-
 returns : tie.Need-returns
 returns c =
     let a = c .before .before .before .before .before .before .args in
@@ -44,12 +20,6 @@ returns c =
     let bytes : All Byte f = bytes-all f (λ i. omega (arith, c .before .before .before .before .before .shared-slice-known .given i)) in
     ap verdictOf (c .refused .ensures) ∙ out-101 (a .profile) f (a .front) (a .piece) (a .usage) (a .number) (a .kind) (now (a .d)) bytes
     (c .before .before .before .before .before .before .pre) (omega arith) (omega arith) (omega arith) (c .before .if1 .taken)
-
-cast-refused : tie.Need-cast-refused
-cast-refused c = search needs
-
-refused-requires-2 : tie.Need-refused-requires-2
-refused-requires-2 c κs = search needs
 
 returns-2 : tie.Need-returns-2
 returns-2 c =
@@ -59,18 +29,6 @@ returns-2 c =
     ap verdictOf (c .refused2 .ensures) ∙ out-109 (a .profile) f (a .front) (a .piece) (a .usage) (a .number) (a .kind) (now (a .d)) bytes
     (c .before .before .before .before .before .before .before .before .pre) (omega arith) (omega arith) (omega arith)
     (c .before .before .before .if1 .left) (c .before .before .if2 .taken)
-
-type-allowed-requires : tie.Need-type-allowed-requires
-type-allowed-requires c κs = search needs
-
-mul-refused : tie.Need-mul-refused
-mul-refused c = search needs
-
-add-refused : tie.Need-add-refused
-add-refused c = search needs
-
-refused-requires-3 : tie.Need-refused-requires-3
-refused-requires-3 c κs = search needs
 
 returns-3 : tie.Need-returns-3
 returns-3 c =
@@ -82,27 +40,6 @@ returns-3 c =
     (c .before .before .before .before .before .before .before .before .before .before .pre) (omega arith) (omega arith) (omega arith)
     (c .before .before .before .before .before .if1 .left) (c .before .before .before .before .if2 .left)
     (sym (c .before .before .before .type-allowed .ensures) ∙ not-true _ (c .before .before .if3 .taken))
-
-enum-told : tie.Need-enum-told
-enum-told c = search needs
-
-enum-known-front : tie.Need-enum-known-front
-enum-known-front c = search needs
-
-makes-rect-requires : tie.Need-makes-rect-requires
-makes-rect-requires c κs = search needs
-
-cast-behind-start : tie.Need-cast-behind-start
-cast-behind-start c = search needs
-
-behind-start-requires : tie.Need-behind-start-requires
-behind-start-requires c κs = search needs
-
-add-refused-2 : tie.Need-add-refused-2
-add-refused-2 c = search needs
-
-refused-requires-4 : tie.Need-refused-requires-4
-refused-requires-4 c κs = search needs
 
 returns-4 : tie.Need-returns-4
 returns-4 c =
@@ -154,30 +91,30 @@ pub replace-fault-spec : {M : Type 1} → statement M
 replace-fault-spec =
     tie.close
     (tie.spec
-    add-old
-    add-old-2
-    add-new
-    add-new-2
-    cast-if1
-    sub-if1
-    add-if1
-    refused-requires
+    (λ c. search needs)
+    (λ c. search needs)
+    (λ c. search needs)
+    (λ c. search needs)
+    (λ c. search needs)
+    (λ c. search needs)
+    (λ c. search needs)
+    (λ c κs. search needs)
     returns
-    cast-refused
-    refused-requires-2
+    (λ c. search needs)
+    (λ c κs. search needs)
     returns-2
-    type-allowed-requires
-    mul-refused
-    add-refused
-    refused-requires-3
+    (λ c κs. search needs)
+    (λ c. search needs)
+    (λ c. search needs)
+    (λ c κs. search needs)
     returns-3
-    enum-told
-    enum-known-front
-    makes-rect-requires
-    cast-behind-start
-    behind-start-requires
-    add-refused-2
-    refused-requires-4
+    (λ c. search needs)
+    (λ c. search needs)
+    (λ c κs. search needs)
+    (λ c. search needs)
+    (λ c κs. search needs)
+    (λ c. search needs)
+    (λ c κs. search needs)
     returns-4
     returns-5
     returns-6)

@@ -9,15 +9,6 @@ use Rattle.moves.proofs.shift.copy_part.Reads as reads
 use Rattle.moves.proofs.shift.copy_part.Lts as lts
 use Rattle.moves.proofs.shift.put_bytes.Reads as put-bytes-reads
 
-slice-aggregate-put-bytes : tie.Need-slice-aggregate-put-bytes
-slice-aggregate-put-bytes c = search needs
-
-put-bytes-requires : tie.Need-put-bytes-requires
-put-bytes-requires c κs = search needs
-
-array-share-prefix-t : tie.Need-array-share-prefix-t
-array-share-prefix-t c = search needs
-
 -- what is lent of the array has the data's length
 whole : (c : lts.After-t3 (put-bytes-reads.Asked, put-bytes-reads.Learnt) reads.Pre reads.Post)
     → length (take (length (now (c .before .before .before .before .before .before .before .args .d))) (c .before .before .before .put-bytes .last .0)) ≡
@@ -32,9 +23,6 @@ slice-aggregate-put-bytes-2 c = sym (whole c)
 put-bytes-requires-2 : tie.Need-put-bytes-requires-2
 put-bytes-requires-2 c κs = rw (whole c) (search needs)
 
-same-length : tie.Need-same-length
-same-length c = search needs
-
 returns : tie.Need-returns
 returns c =
     let a = c .before .before .before .before .before .before .before .before .before .before .args in
@@ -47,10 +35,10 @@ pub copy-part-spec : {M : Type 1} → statement M
 copy-part-spec =
     tie.close
     (tie.spec
-    slice-aggregate-put-bytes
-    put-bytes-requires
-    array-share-prefix-t
+    (λ c. search needs)
+    (λ c κs. search needs)
+    (λ c. search needs)
     slice-aggregate-put-bytes-2
     put-bytes-requires-2
-    same-length
+    (λ c. search needs)
     returns)

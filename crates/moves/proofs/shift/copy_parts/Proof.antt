@@ -20,33 +20,6 @@ loop-holds c =
     let a = c .before .before .args in
     (omega arith, refl, paste-zero (now (a .buf)) (a .at) (now (a .d)))
 
-sub-part-of : tie.Need-sub-part-of Inv-loop μ-loop
-sub-part-of c = search needs
-
-part-of-requires : tie.Need-part-of-requires Inv-loop μ-loop
-part-of-requires c κs = search needs
-
-add-copy-part : tie.Need-add-copy-part Inv-loop μ-loop
-add-copy-part c = search needs
-
-add-copy-part-2 : tie.Need-add-copy-part-2 Inv-loop μ-loop
-add-copy-part-2 c = search needs
-
-sub-copy-part : tie.Need-sub-copy-part Inv-loop μ-loop
-sub-copy-part c = search needs
-
-part-copy-part-start : tie.Need-part-copy-part-start Inv-loop μ-loop
-part-copy-part-start c = search needs
-
-part-copy-part-end : tie.Need-part-copy-part-end Inv-loop μ-loop
-part-copy-part-end c = search needs
-
-copy-part-requires : tie.Need-copy-part-requires Inv-loop μ-loop
-copy-part-requires c κs = search needs
-
-add-i : tie.Need-add-i Inv-loop μ-loop
-add-i c = search needs
-
 loop-less : tie.Need-loop-less Inv-loop μ-loop
 loop-less c =
     let more : 0 < c .before .before .before .before .before .part-of .result = c .before .before .before .before .before .part-of .ensures .1 .1
@@ -65,9 +38,6 @@ loop-again c =
           (c .before .before .before .before .before .before .before .before .before .before .pre) (omega arith),
     )
 
-same-length : tie.Need-same-length Inv-loop μ-loop
-same-length c = search needs
-
 returns : tie.Need-returns Inv-loop μ-loop
 returns c =
     let l = c .before .loop in
@@ -82,16 +52,16 @@ copy-parts-spec =
     Inv-loop
     μ-loop
     loop-holds
-    sub-part-of
-    part-of-requires
-    add-copy-part
-    add-copy-part-2
-    sub-copy-part
-    part-copy-part-start
-    part-copy-part-end
-    copy-part-requires
-    add-i
+    (λ c. search needs)
+    (λ c κs. search needs)
+    (λ c. search needs)
+    (λ c. search needs)
+    (λ c. search needs)
+    (λ c. search needs)
+    (λ c. search needs)
+    (λ c κs. search needs)
+    (λ c. search needs)
     loop-less
     loop-again
-    same-length
+    (λ c. search needs)
     returns)

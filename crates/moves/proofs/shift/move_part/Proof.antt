@@ -11,27 +11,6 @@ use Rattle.moves.proofs.shift.move_part.Reads as reads
 use Rattle.moves.proofs.shift.move_part.Lts as lts
 use Rattle.moves.proofs.shift.put_bytes.Reads as put-bytes-reads
 
-slice-aggregate-put-bytes : tie.Need-slice-aggregate-put-bytes
-slice-aggregate-put-bytes c = search needs
-
-add-put-bytes : tie.Need-add-put-bytes
-add-put-bytes c = search needs
-
-sub-put-bytes : tie.Need-sub-put-bytes
-sub-put-bytes c = search needs
-
-part-put-bytes-start : tie.Need-part-put-bytes-start
-part-put-bytes-start c = search needs
-
-part-put-bytes-end : tie.Need-part-put-bytes-end
-part-put-bytes-end c = search needs
-
-put-bytes-requires : tie.Need-put-bytes-requires
-put-bytes-requires c κs = search needs
-
-array-share-prefix-t : tie.Need-array-share-prefix-t
-array-share-prefix-t c = search needs
-
 -- what is lent of the array has the part's length
 whole : (c : lts.After-t3 (put-bytes-reads.Asked, put-bytes-reads.Learnt) reads.Pre reads.Post)
     → length (take (c .before .before .before .before .before .before .before .before .args .n) (c .before .before .before .put-bytes .last .0)) ≡
@@ -48,9 +27,6 @@ slice-aggregate-put-bytes-2 c = sym (whole c)
 
 put-bytes-requires-2 : tie.Need-put-bytes-requires-2
 put-bytes-requires-2 c κs = rw (whole c) (search needs)
-
-same-length : tie.Need-same-length
-same-length c = search needs
 
 returns : tie.Need-returns
 returns c =
@@ -69,14 +45,14 @@ pub move-part-spec : {M : Type 1} → statement M
 move-part-spec =
     tie.close
     (tie.spec
-    slice-aggregate-put-bytes
-    add-put-bytes
-    sub-put-bytes
-    part-put-bytes-start
-    part-put-bytes-end
-    put-bytes-requires
-    array-share-prefix-t
+    (λ c. search needs)
+    (λ c. search needs)
+    (λ c. search needs)
+    (λ c. search needs)
+    (λ c. search needs)
+    (λ c κs. search needs)
+    (λ c. search needs)
     slice-aggregate-put-bytes-2
     put-bytes-requires-2
-    same-length
+    (λ c. search needs)
     returns)

@@ -17,21 +17,6 @@ abbrev μ-loop : tie.MeasureT-loop
 loop-holds : tie.Need-loop-holds Inv-loop μ-loop
 loop-holds c = let a = c .before .args in laws.left-first (now (a .buf)) (a .at) (a .len) (a .k) (c .before .pre .1 .0)
 
-sub-part-of : tie.Need-sub-part-of Inv-loop μ-loop
-sub-part-of c = search needs
-
-part-of-requires : tie.Need-part-of-requires Inv-loop μ-loop
-part-of-requires c κs = search needs
-
-sub-move-part : tie.Need-sub-move-part Inv-loop μ-loop
-sub-move-part c = search needs
-
-move-part-requires : tie.Need-move-part-requires Inv-loop μ-loop
-move-part-requires c κs = search needs
-
-add-i : tie.Need-add-i Inv-loop μ-loop
-add-i c = search needs
-
 loop-less : tie.Need-loop-less Inv-loop μ-loop
 loop-less c =
     let more : 0 < c .before .before .before .before .part-of .result = c .before .before .before .before .part-of .ensures .1 .1 (omega arith) in
@@ -45,9 +30,6 @@ loop-again c =
     (c .before .before .before .before .part-of .result) (c .before .before .move-part .ensures) (l .inv)
     (c .before .before .before .before .part-of .ensures .0) (c .before .before .before .before .before .before .before .before .pre .0)
     (c .before .before .before .before .before .before .before .before .pre .1 .1)
-
-same-length : tie.Need-same-length Inv-loop μ-loop
-same-length c = search needs
 
 returns : tie.Need-returns Inv-loop μ-loop
 returns c =
@@ -63,12 +45,12 @@ shift-left-spec =
     Inv-loop
     μ-loop
     loop-holds
-    sub-part-of
-    part-of-requires
-    sub-move-part
-    move-part-requires
-    add-i
+    (λ c. search needs)
+    (λ c κs. search needs)
+    (λ c. search needs)
+    (λ c κs. search needs)
+    (λ c. search needs)
     loop-less
     loop-again
-    same-length
+    (λ c. search needs)
     returns)

@@ -17,21 +17,6 @@ abbrev μ-loop : tie.MeasureT-loop
 loop-holds : tie.Need-loop-holds Inv-loop μ-loop
 loop-holds c = let a = c .before .args in laws.right-first (now (a .buf)) (a .at) (a .len) (a .k) (c .before .pre .0)
 
-sub-part-of : tie.Need-sub-part-of Inv-loop μ-loop
-sub-part-of c = search needs
-
-part-of-requires : tie.Need-part-of-requires Inv-loop μ-loop
-part-of-requires c κs = search needs
-
-sub-i : tie.Need-sub-i Inv-loop μ-loop
-sub-i c = search needs
-
-add-move-part : tie.Need-add-move-part Inv-loop μ-loop
-add-move-part c = search needs
-
-move-part-requires : tie.Need-move-part-requires Inv-loop μ-loop
-move-part-requires c κs = search needs
-
 loop-less : tie.Need-loop-less Inv-loop μ-loop
 loop-less c =
     let more : 0 < c .before .before .before .before .part-of .result = c .before .before .before .before .part-of .ensures .1 .1 (omega arith) in
@@ -44,9 +29,6 @@ loop-again c =
     laws.right-part (now (a .buf)) (l .buf) (c .before .before .move-part .last .0) (a .at) (l .i) (a .len) (a .k)
     (c .before .before .before .before .part-of .result) (c .before .before .move-part .ensures) (l .inv)
     (c .before .before .before .before .part-of .ensures .0) (c .before .before .before .before .before .before .before .before .pre .1)
-
-same-length : tie.Need-same-length Inv-loop μ-loop
-same-length c = search needs
 
 returns : tie.Need-returns Inv-loop μ-loop
 returns c =
@@ -62,12 +44,12 @@ shift-right-spec =
     Inv-loop
     μ-loop
     loop-holds
-    sub-part-of
-    part-of-requires
-    sub-i
-    add-move-part
-    move-part-requires
+    (λ c. search needs)
+    (λ c κs. search needs)
+    (λ c. search needs)
+    (λ c. search needs)
+    (λ c κs. search needs)
     loop-less
     loop-again
-    same-length
+    (λ c. search needs)
     returns)

@@ -24,9 +24,6 @@ loop-holds c = (c .before .pre .1, c .before .pre .2, refl)
 be32-at-requires : tie.Need-be32-at-requires Inv-loop μ-loop
 be32-at-requires c κs = omega (arith, fine _ _ (c .loop-test .taken) (c .before .loop .inv .0) .header)
 
-cast-t7 : tie.Need-cast-t7 Inv-loop μ-loop
-cast-t7 c = search needs
-
 add-be32-at : tie.Need-add-be32-at Inv-loop μ-loop
 add-be32-at c = omega (
   arith,
@@ -40,9 +37,6 @@ be32-at-requires-2 c κs = omega (
   front-room _ _ (c .before .before .loop-test .taken) (c .before .before .before .loop .inv .0)
       (c .before .before .before .loop .inv .1) _ (c .before .be32-at .ensures .0) (c .if1 .taken),
 )
-
-cast-t10 : tie.Need-cast-t10 Inv-loop μ-loop
-cast-t10 c = search needs
 
 returns : tie.Need-returns Inv-loop μ-loop
 returns c = front-hit _ _ (c .before .before .before .loop-test .taken) (c .before .before .before .before .loop .inv .0)
@@ -73,10 +67,10 @@ front-from-spec =
     μ-loop
     loop-holds
     be32-at-requires
-    cast-t7
+    (λ c. search needs)
     add-be32-at
     be32-at-requires-2
-    cast-t10
+    (λ c. search needs)
     returns
     skip-requires
     loop-less

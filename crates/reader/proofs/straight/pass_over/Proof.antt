@@ -25,17 +25,8 @@ loop-holds c = came-none _ _
 returns : tie.Need-returns Inv-loop μ-loop
 returns c = c .before .before .loop .inv
 
-chunk-requires : tie.Need-chunk-requires Inv-loop μ-loop
-chunk-requires c κs = search needs
-
-enum-told : tie.Need-enum-told Inv-loop μ-loop
-enum-told c = search needs
-
 returns-2 : tie.Need-returns-2 Inv-loop μ-loop
 returns-2 c = c .before .before .before .before .before .loop .inv
-
-enum-told-2 : tie.Need-enum-told-2 Inv-loop μ-loop
-enum-told-2 c = search needs
 
 -- the chunk has no fault
 good : (c : tie.After-enum-told2 Inv-loop μ-loop) → chunkFault (c .before .before .before .before .before .loop .at) (drop
@@ -51,9 +42,6 @@ be32-at-requires c κs = omega (arith, header c)
 
 returns-3 : tie.Need-returns-3 Inv-loop μ-loop
 returns-3 c = c .before .before .before .before .before .before .before .loop .inv
-
-is-ordinary-requires : tie.Need-is-ordinary-requires Inv-loop μ-loop
-is-ordinary-requires c κs = search needs
 
 skip-requires : tie.Need-skip-requires Inv-loop μ-loop
 skip-requires c κs = header (c .before .before .before)
@@ -77,13 +65,13 @@ pass-over-spec =
     μ-loop
     loop-holds
     returns
-    chunk-requires
-    enum-told
+    (λ c κs. search needs)
+    (λ c. search needs)
     returns-2
-    enum-told-2
+    (λ c. search needs)
     be32-at-requires
     returns-3
-    is-ordinary-requires
+    (λ c κs. search needs)
     skip-requires
     loop-less
     loop-again

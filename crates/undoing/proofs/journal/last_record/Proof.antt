@@ -9,12 +9,6 @@ use Rattle.undoing.proofs.journal.last_record.Tie as tie
 returns : tie.Need-returns
 returns c = is-bad _ (short-part _ _ (c .before .before .pre) (c .if1 .taken))
 
-sub-end : tie.Need-sub-end
-sub-end c = search needs
-
-be32-at-requires : tie.Need-be32-at-requires
-be32-at-requires c κs = search needs
-
 returns-2 : tie.Need-returns-2
 returns-2 c = is-bad _ (low-trailer _ _ (c .before .before .before .before .pre) (c .before .before .if1 .left) (rw (← c .before .be32-at .ensures .0)
     (c .if2 .taken)))
@@ -23,21 +17,9 @@ returns-3 : tie.Need-returns-3
 returns-3 c = is-bad _ (high-trailer _ _ (c .before .before .before .before .before .pre) (c .before .before .before .if1 .left)
     (rw (← c .before .before .be32-at .ensures .0) (c .if3 .taken)))
 
-record-at-requires : tie.Need-record-at-requires
-record-at-requires c κs = search needs
-
-cast-if4 : tie.Need-cast-if4
-cast-if4 c = search needs
-
-add-if4 : tie.Need-add-if4
-add-if4 c = search needs
-
 returns-4 : tie.Need-returns-4
 returns-4 c = other-length _ _ _ _ (c .before .before .before .before .before .before .before .pre) (c .before .before .before .before .be32-at .ensures .0)
     (c .before .before .before .if2 .left) (c .before .before .if3 .left) (c .before .record-at .ensures) (c .if4 .taken)
-
-is-allowed-requires : tie.Need-is-allowed-requires
-is-allowed-requires c κs = search needs
 
 returns-5 : tie.Need-returns-5
 returns-5 c = not-allowed _ _ _ _ (c .before .before .before .before .before .before .before .before .before .pre)
@@ -56,14 +38,14 @@ last-record-spec =
     tie.close
     (tie.spec
     returns
-    sub-end
-    be32-at-requires
+    (λ c. search needs)
+    (λ c κs. search needs)
     returns-2
     returns-3
-    record-at-requires
-    cast-if4
-    add-if4
+    (λ c κs. search needs)
+    (λ c. search needs)
+    (λ c. search needs)
     returns-4
-    is-allowed-requires
+    (λ c κs. search needs)
     returns-5
     returns-6)
