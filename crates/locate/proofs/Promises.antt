@@ -13,6 +13,7 @@ use Rattle.blorb.specs.Bytes.{rd32}
 use Rattle.blorb.specs.Format.{sized, size, chunkIn}
 use Rattle.blorb.specs.Verdict.{accept}
 use Rattle.blorb.specs.Rules.{profileVerdict}
+use Rattle.blorb.proofs.Profiles.{plain-adrift}
 use Rattle.chunks.specs.Walk.{chunkFrom, nextAt, chunksFrom, walkFrom}
 use Rattle.chunks.proofs.ChunkLaws.{Whole}
 use Rattle.chunks.proofs.StartLaws.{good-ind}
@@ -108,6 +109,11 @@ module _ (profile : ℕ) (f : List ℕ) (t : ℕ) (r : Located) (e : locatedOf p
   -- and accepted
   pub located-accepts : Unrefused (profileVerdict profile f ≡ accept) r
   located-accepts = of-accepted (profileVerdict profile f ≡ accept) (λ l n h. accepted-is profile f l n h .2)
+
+-- of a file accepted as plain the chunks of a type are the same under ADRIFT (02, P12)
+pub plain-located : (f : List ℕ) (t : ℕ) → profileVerdict 0 f ≡ accept → locatedOf 1 f t ≡ locatedOf 0 f t
+unfolding locatedOf
+plain-located f t h = rw (plain-adrift f h, h)
 
 -- "Refusals: 52 an unknown profile, before all others" (02, P12): whatever type is looked for in whatever file
 pub located-unknown : (profile : ℕ) (f : List ℕ) (t : ℕ) → 1 < profile → locatedOf profile f t ≡ Refused 52 0

@@ -15,7 +15,7 @@ use Rattle.reader.specs.declared.Reading.the-variants as reading
 use Rattle.locate.specs.Located.{Spot, ofType, locatedIn, locatedBy, locatedOf, dataAt}
 use Rattle.locate.specs.declared.Located.{Located}
 use Rattle.locate.specs.declared.Located.the-variants as located
-use Rattle.locate.proofs.Promises.{located-unknown}
+use Rattle.locate.proofs.Promises.{plain-located, located-unknown}
 use Rattle.ratio.specs.Ratio.{over, sideBy}
 use Rattle.ratio.proofs.OrderLaws.{side-mono}
 use Rattle.ratio.proofs.Promises.{RoundedDown, Sound, rounded-down, ratio-grows, side-between, side-own}
@@ -203,6 +203,11 @@ refused-by profile f a k p e = go (profileVerdict profile f) e
         → (readBy v (length f) (length (indexOf f)) ≡ reading.Refused k p) ⊎ ((31 ≤ k) × (k ≤ 33))
     go accept e = inr (spots-refused f a k p (ofType Reso (base (length (model f .refs))) (model f .chunks)) e)
     go (refuse i j) e = inl cc
+
+-- of a file accepted as plain the answer is the same under ADRIFT (02, P12)
+pub plain-scaled : (f : List ℕ) → profileVerdict 0 f ≡ accept → (a : Asking) → scaledOf 1 f a ≡ scaledOf 0 f a
+unfolding scaledOf
+plain-scaled f h a = rw (plain-located f Reso h)
 
 -- under an unknown profile the answer is 52, before all others (02, P12)
 pub unknown-scaled : (profile : ℕ) (f : List ℕ) (a : Asking) → 1 < profile → scaledOf profile f a ≡ Refused 52 0
