@@ -216,7 +216,7 @@ typedef struct blorb_read_answer {
 
 /*
  * Is this an accepted file, and how many entries has it? The file's refusals. The time is proportional to the chunks, of which 16 MiB can hold two million,
- * and to the square of the entries where their numbers do not rise. The longest readings found take 8 ms of an accepted file and 21 ms of one that is
+ * and to the square of the entries where their numbers do not rise. The longest readings found take 8 ms of an accepted file and 23 ms of one that is
  * refused at its end (docs/BENCHMARK.md). Every call that takes a Blorb file begins with such a reading, and none judges it twice.
  */
 blorb_read_answer blorb_read(const uint8_t *file, size_t size, uint32_t profile);
@@ -280,8 +280,8 @@ blorb_aiff_answer blorb_aiff_length(const uint8_t *bytes, size_t size);
  * old table stale, unless it is a replacement, or the undo of one, that moves no start: one whose chunk keeps its size, padding counted, or has
  * no entry's chunk behind it. A table is refused with 35 for every file with other entries.
  *
- * Measured times (docs/BENCHMARK.md), of 4,096 entries of one usage: where their numbers rise from entry to entry, blorb_read takes 15 us, and
- * besides that a build takes 5 us, the check of a good table 12 us and a check that refuses with 35 up to 0.1 ms. Where the numbers do not rise it
+ * Measured times (docs/BENCHMARK.md), of 4,096 entries of one usage: where their numbers rise from entry to entry, blorb_read takes 9 us, and
+ * besides that a build takes 5 us, the check of a good table 13 us and a check that refuses with 35 up to 0.1 ms. Where the numbers do not rise it
  * is 1.8 ms for blorb_read, and besides that 0.2 ms, 0.3 ms and up to 0.5 ms.
  */
 
@@ -400,7 +400,7 @@ blorb_scaled_answer blorb_scaled(const uint8_t *file, size_t size, uint32_t prof
  *
  * Beside the judging of the file they take a few passes over the 'RDes' where the pairs of usage and number rise from text to text. Where they
  * do not, a repeated pair is looked for among the earlier texts, and the time grows with the square of the texts. Nothing limits them but the
- * file's size: 1,398,098 texts of no bytes at most. The worst 'RDes' of that many texts that was made against this search took 4.5 s
+ * file's size: 1,398,098 texts of no bytes at most. The worst 'RDes' of that many texts that was made against this search took 4.2 s
  * (docs/BENCHMARK.md).
  */
 
@@ -530,7 +530,7 @@ blorb_edit_answer blorb_undo(uint8_t *file, size_t size, size_t length,
  *     save(e.file, e.length);
  *
  * To go on later, keep the file's `length` bytes, the journal's `used` bytes and the profile, and give them to blorb_editor_resume: undo then goes
- * on where it was. A file that was damaged meanwhile is refused at once, like any other; each undo judges the record that it takes back.
+ * on where it was. A file that no longer keeps the rules is refused at once; each undo judges the record that it takes back.
  */
 typedef struct blorb_editor {
     uint8_t *file;       /* the file buffer */
@@ -548,7 +548,7 @@ static inline int blorb_editor_within(const blorb_editor *e)
     return e->length <= e->size && e->used <= e->journal_size;
 }
 
-/* Inside: the file that is lent to a call that only reads. With a length beyond its buffer none is: blorb_editor_refusal puts its 20 right. */
+/* Inside: how much of the file is lent to a call that only reads. With a length beyond its buffer that is nothing, and blorb_editor_refusal answers 20. */
 static inline size_t blorb_editor_lent(const blorb_editor *e)
 {
     return blorb_editor_within(e) ? e->length : 0;
@@ -567,7 +567,7 @@ static inline blorb_edit_answer blorb_editor_stored(blorb_editor *e, blorb_edit_
     return a;
 }
 
-/* As blorb_read, of the editor's file; 20 behind 52 where `length` or `used` exceeds its buffer. So do the others that only read. */
+/* As blorb_read, of the editor's file; 20, after 52, where `length` or `used` exceeds its buffer. The others that only read answer likewise. */
 static inline blorb_read_answer blorb_editor_read(const blorb_editor *e)
 {
     blorb_read_answer a = blorb_read(e->file, blorb_editor_lent(e), e->profile);
@@ -636,7 +636,7 @@ static inline blorb_text_answer blorb_editor_text_of(const blorb_editor *e, cons
 
 /*
  * Goes on with a file and a journal that were kept: sets all members, and judges the file in the first `length` bytes. The answer is that of
- * blorb_editor_read, so it is 20 behind 52 where `length` or `used` exceeds its buffer. The journal's records are not looked at yet.
+ * blorb_editor_read: 20, after 52, where `length` or `used` exceeds its buffer. The journal's records are not looked at yet.
  */
 static inline blorb_read_answer blorb_editor_resume(blorb_editor *e, uint8_t *file, size_t size, size_t length,
                                                     uint8_t *journal, size_t journal_size, size_t used, uint32_t profile)

@@ -34,7 +34,7 @@ const uint8_t *payload(void)
 /* Resource i of a sample with this many, by file position: an Exec, then pictures, sounds and data. */
 static struct resource resource_of(size_t i, size_t count, size_t size, enum order order)
 {
-    uint32_t number = (uint32_t)(order == FALLING ? count - i : i);
+    uint32_t number = (uint32_t)(order == FALLING ? count - i : order == SHUFFLED ? i * 2654435761u : i);
 
     if (i == 0)
         return (struct resource){"Exec", "ZCOD", 0, size};
@@ -91,6 +91,24 @@ struct sample make_sample(const char *name, size_t count, size_t size, enum orde
     s.first = resource_of(0, count, size, order);
     s.middle = resource_of(count / 2 - 1, count, size, order);
     s.last = resource_of(count - 1, count, size, order);
+    return s;
+}
+
+struct sample make_shared(const char *name, size_t count, size_t chunks)
+{
+    struct sample s = begun(name, count, chunks * chunk_size(16));
+    size_t base = s.length;
+
+    s.first = (struct resource){"Data", "BINA", 0, 16};
+    for (size_t k = 0; k < chunks; k++)
+        put_in(&s, s.first, 0);
+    for (size_t i = 0; i < count; i++) {
+        put32(s.file + entry_at(i), tag("Data"));
+        put32(s.file + entry_at(i) + 4, (uint32_t)i);
+        put32(s.file + entry_at(i) + 8, (uint32_t)(base + i * chunks / count * chunk_size(16)));
+    }
+    finish(&s);
+    s.last = s.middle = (struct resource){"Data", "BINA", (uint32_t)(count - 1), 16};
     return s;
 }
 

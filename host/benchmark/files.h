@@ -13,8 +13,9 @@ struct resource {
     size_t size;
 };
 
-/* Entries in chunk order, the numbers of each usage rising or falling; or in reverse order, which is refused with 27. */
-enum order { RISING, FALLING, REVERSED };
+/* Entries in chunk order, the numbers of each usage rising or falling; or in reverse order, which is refused with 27; or in chunk order, the numbers
+ * in no order. */
+enum order { RISING, FALLING, REVERSED, SHUFFLED };
 
 /* A file in a buffer with room for its edits; `first` and `last` by file position, `middle` the last picture: a link of it to a greater number
  * leaves the numbers rising. */
@@ -51,6 +52,8 @@ struct sample sample_to_add(unsigned i);
 
 /* A file of `count` resources with `size` data bytes each. */
 struct sample make_sample(const char *name, size_t count, size_t size, enum order order);
+/* A file of that many entries with rising numbers on fewer chunks, each shared by as many. */
+struct sample make_shared(const char *name, size_t count, size_t chunks);
 /* A file of two resources with these data lengths. */
 struct sample make_pair(const char *name, size_t first, size_t second);
 /*

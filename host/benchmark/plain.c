@@ -25,12 +25,17 @@ static bool same_pair(const uint8_t *file, size_t i, size_t j)
     return memcmp(file + entry_at(i), file + entry_at(j), 8) == 0;
 }
 
-/* Whether an entry before entry j has its pair; all of its usage have numbers below `top`. */
+/* Whether an entry before entry j has its pair; all of its usage have numbers below `top`. Four are asked in a turn, as the library does. */
 static bool repeats(const uint8_t *file, size_t j, uint64_t top)
 {
+    size_t i = 0;
+
     if (get32(file + entry_at(j) + 4) >= top)
         return false;
-    for (size_t i = 0; i < j; i++)
+    for (; i + 3 < j; i += 4)
+        if (same_pair(file, i, j) | same_pair(file, i + 1, j) | same_pair(file, i + 2, j) | same_pair(file, i + 3, j))
+            return true;
+    for (; i < j; i++)
         if (same_pair(file, i, j))
             return true;
     return false;

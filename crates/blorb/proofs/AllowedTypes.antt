@@ -1,4 +1,4 @@
--- Rule 5 allows no type that another rule speaks of: with the type put in, each of its tests computes to false.
+-- Rule 5 allows no 'RIdx' (rule 3), 'RelN' or 'Fspc' (rule 7): with the type put in, each of its tests computes to false.
 use mathlib.Core.Path.{_≡_, refl, ap, _∙_}
 use Prim.Native.Nat.{ℕ}
 use mathlib.Core.List.{List}

@@ -1,4 +1,4 @@
--- Another entry has the start of entry i exactly if one beside it has: after refusal 27 no start is lower than the one before it, so entries of one
+-- Another entry has the start of entry i exactly if one beside it has: once 27 is ruled out no start is lower than the one before it, so entries of one
 -- start stand together.
 use mathlib.Core.Path.{_≡_, refl, sym, _∙_}
 use Prim.Native.Nat.{ℕ, zero, suc, _+_, _-_, _≤_, _<_}

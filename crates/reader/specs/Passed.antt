@@ -38,7 +38,7 @@ JudgesEntries profile (judgement.Good n ordinary) f =
     EntriesPassed f n × (readBy (optionalFault f n) (length f) n ≡ readKnown profile f) × (ordinary ≡ true → allOrdinary (chunksFrom f (place n)) ≡ true)
 JudgesEntries profile (judgement.Refused k p) f = Refused k p ≡ readKnown profile f
 
--- what is known once refusals 1 to 19, 28 and 29 are ruled out for a file with count entries
+-- what is known once refusals 1 to 19 and 27 to 29 are ruled out for a file with count entries
 pub record Passed (f : List ℕ) (count : ℕ) : Type 0 where
   pub judged : EntriesPassed f count
   pub optional : optionalFault f count ≡ accept

@@ -45,7 +45,7 @@ pub record Stands (f : List ℕ) (base found at : ℕ) (p : Bool) : Type 0 where
   pub came : CameTo f base at p
   pub chunk : found < 4294967296 → ChunkAt f base found × (found ≤ at)
 
--- a good chunk begins at start, and behind it the next
+-- what stands at start reads as a good chunk, which ends at `behind`; whether a chunk begins there is not said
 abbrev pub Over : Next → List ℕ → ℕ → Type 0
 Over (At behind) f start = (start < length f) × (chunkFault start (drop start f) ≡ accept) × (behind ≡ skipAt f start)
 Over Faulty f start = Unit {0}
@@ -79,7 +79,7 @@ Fitted profile Unfit f p = Unit {0}
 abbrev pub FreshTo : List ℕ → (base j i : ℕ) → Type 0
 FreshTo f base j i = pairIn (usageAt f (place j)) (numberAt f (place j)) (earlier f base i) ≡ false
 
--- and entry j's number is below `above`, as all numbers of its usage are that were below top
+-- no earlier entry has the pair of entry j, and `above` is over its number and not under top
 abbrev pub Freshly : Pair → List ℕ → (j number top : ℕ) → Type 0
 Freshly (New above) f j number top = ((base : ℕ) → FreshTo f base j j) × (number < above) × (top ≤ above)
 Freshly Repeated f j number top = Unit {0}

@@ -39,7 +39,7 @@ pub enum Fit {
     Unfit,
 }
 
-// A pair that no earlier entry has, with a number above all of its usage so far.
+// A pair that no earlier entry has, with a bound above all numbers of its usage so far, its own too.
 pub enum Pair {
     New(u64),
     Repeated,
@@ -77,7 +77,7 @@ fn pass_over(s: &[u8], from: usize, to: usize) -> Came
     Came { at, ordinary }
 }
 
-// Where the chunk behind the one at `start` begins. That it is no index, 'RelN' or 'Fspc' is left to rule 5.
+// Where the chunk at `start` ends, if it has no fault. Whether it is an index, a 'RelN' or an 'Fspc' is left to rule 5.
 fn over(s: &[u8], start: usize) -> Next
     requires { ⌜ start < 4294967296 ⌝ }
     ensures { λ r. ⌜ Over r (now (s .entry)) start ⌝ }

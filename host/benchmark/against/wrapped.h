@@ -1,7 +1,7 @@
 /*
  * The calls of two archives, one of them linked twice, under names of their own: now_, before_ and again_. Each stands behind a function that hands on its
- * arguments, also where nothing has to be left out, so that none has an advantage. An archive from before version 2.0.0 takes no profile; one from before
- * links has none.
+ * arguments, also where none has to be left out. An archive from before version 2.0.0 takes no profile, so there a few arguments are moved, which adds a
+ * nanosecond at most to its calls; one from before links has none.
  */
 #ifndef WRAPPED_H
 #define WRAPPED_H
