@@ -7,7 +7,7 @@ use rate::Rate;
 mod common;
 mod rate;
 
-ghost use Rattle.std.specs.Prelude.{◌≡◌, ◌+◌, ◌≤◌, take, drop};
+ghost use Rattle.std.specs.Prelude.{◌≡◌, ◌+◌, ◌≤◌, length, take, drop};
 ghost use Rattle.aiff.specs.Length.{sound_of, length_of};
 
 #[derive(Clone, Copy)]
@@ -33,7 +33,7 @@ fn refused(number: u64) -> Measured
 
 // What the 18 bytes of the 'COMM' chunk at `at` say.
 fn sound_at(s: &[u8], at: usize) -> Measured
-    requires* { do ⌜ at + 26 ≤ (← ⟦s.len()⟧) ⌝ }
+    requires { at + 26 ≤ length s.now }
     ensures { result ≡ sound_of (take 18 (drop (at + 8) s.now)) }
 {
     let Rate::Whole(rate) = rate::rate_at(s, at + 16) else {
