@@ -2,13 +2,13 @@
 -- its part one by one.
 use mathlib.Core.Path.{◌≡◌, refl, subst}
 use Prim.Native.Nat.{ℕ, zero, suc, ◌+◌}
-use mathlib.Core.List.{List, [], ◌∷◌}
+use mathlib.Core.List.{List, [], ◌∷◌, ◌++◌}
 use mathlib.Core.Bool.{Bool, true, false, cond}
 use lib.Dec.{eqb}
 use borrow.Author.Tests.{eqb-false}
 use Rattle.blorb.specs.Bytes.{rd32}
 use Rattle.blorb.specs.Tags.{RelN, Fspc}
-use Rattle.blorb.specs.Format.{Chunk, Entry, Ref}
+use Rattle.blorb.specs.Format.{Chunk, Entry, Ref, size, ref_of}
 use Rattle.blorb.specs.Verdict.{
   Verdict,
   accept,
@@ -64,7 +64,7 @@ module _ (k : ℕ) (h : Elsewhere k) where
   second : (at : ℕ) (cs : List Chunk) → Never k (second_index at cs)
   unfolding second_index
   second at [] = tt
-  second at (c ∷ cs) = more _ k 9 at _ h.1 (second _ cs)
+  second at (c ∷ cs) = more _ k 9 at _ h.1 (second (at + size c) cs)
 
   entry : (profile : ℕ) (cs : List Chunk) (earlier : List Ref) (p : ℕ) (r : Ref) → Never k (ref_fault (rules_of profile) cs earlier p r)
   unfolding ref_fault
@@ -73,7 +73,7 @@ module _ (k : ℕ) (h : Elsewhere k) where
   entries : (profile : ℕ) (cs : List Chunk) (earlier : List Ref) (p : ℕ) (rs : List Ref) → Never k (refs_fault (rules_of profile) cs earlier p rs)
   unfolding refs_fault
   entries profile cs earlier p [] = tt
-  entries profile cs earlier p (r ∷ rs) = more _ k 12 p _ h.3 (both k _ _ (entry profile cs earlier p r) (entries profile cs _ _ rs))
+  entries profile cs earlier p (r ∷ rs) = more _ k 12 p _ h.3 (both k _ _ (entry profile cs earlier p r) (entries profile cs (earlier ++ (r ∷ [])) (p + 12) rs))
 
   chunk : (rs : List Ref) (all earlier : List Chunk) (at : ℕ) (c : Chunk) → Never k (chunk_rule rs all earlier at c)
   unfolding chunk_rule single
@@ -85,7 +85,7 @@ module _ (k : ℕ) (h : Elsewhere k) where
   chunks : (rs : List Ref) (all earlier : List Chunk) (at : ℕ) (cs : List Chunk) → Never k (chunk_rules rs all earlier at cs)
   unfolding chunk_rules
   chunks rs all earlier at [] = tt
-  chunks rs all earlier at (c ∷ cs) = both k _ _ (chunk rs all earlier at c) (chunks rs all _ _ cs)
+  chunks rs all earlier at (c ∷ cs) = both k _ _ (chunk rs all earlier at c) (chunks rs all (earlier ++ (c ∷ [])) (at + size c) cs)
 
   -- what is judged of a model whose entries are in order
   pub model_never : (profile : ℕ) (m : Model) → Never k (model_fault (rules_of profile) m)
@@ -118,7 +118,7 @@ module _ (k : ℕ) (h : Elsewhere k) where
     listed profile at cs earlier p (e ∷ es) =
         more _ k 12 p _ h.3
         (more _ k 13 (p + 8) _ e13
-        (both k _ _ (entry profile cs earlier p _) (more _ k 27 (p + 8) _ e27 (listed profile at cs _ _ es))))
+        (both k _ _ (entry profile cs earlier p _) (more _ k 27 (p + 8) _ e27 (listed profile at cs (earlier ++ (ref_of at cs e ∷ [])) (p + 12) es))))
 
     pub layout_never : (profile : ℕ) (cs : List Chunk) → Never k (layout_fault (rules_of profile) cs)
     unfolding layout_fault rest_fault index_fault optional

@@ -1,14 +1,14 @@
 -- `refusal` is 0 exactly where a call was carried out: no refusal of the papers has the number 0.
 use mathlib.Core.Path.{◌≡◌, refl}
 use Prim.Native.Nat.{ℕ, zero, suc, ◌+◌, ◌≤◌, ◌<◌}
-use mathlib.Core.List.{List, [], ◌∷◌}
+use mathlib.Core.List.{List, [], ◌∷◌, ◌++◌}
 use mathlib.Core.Bool.{Bool, true, false, cond}
 use native.Mathlib.Omega.{arith}
 use lib.ListN.{length, get_or, take}
 use lib.Dec.{eqb, leb, ltb}
 use borrow.Author.Tests.{leb-true, ltb-true}
 use Rattle.blorb.specs.Bytes.{rd32}
-use Rattle.blorb.specs.Format.{Chunk, Entry, Ref, ref_of}
+use Rattle.blorb.specs.Format.{Chunk, Entry, Ref, ref_of, size}
 use Rattle.blorb.specs.Tags.{RelN, Fspc}
 use Rattle.blorb.specs.Verdict.{
   Rules,
@@ -84,7 +84,7 @@ walk (suc k) at (b ∷ s) = both _ _ (chunk at (b ∷ s)) (walk k _ _)
 second : (at : ℕ) (cs : List Chunk) → Numbered (second_index at cs)
 unfolding second_index
 second at [] = none
-second at (c ∷ cs) = more _ _ _ _ (omega arith) (second _ cs)
+second at (c ∷ cs) = more _ _ _ _ (omega arith) (second (at + size c) cs)
 
 index : (d : List ℕ) → Numbered (index_fault d)
 unfolding index_fault
@@ -99,7 +99,7 @@ unfolding entries_fault
 entries R at cs earlier p [] = none
 entries R at cs earlier p (e ∷ es) =
     more _ _ _ _ (omega arith) (more _ _ _ _ (omega arith) (both _ _ (ref R cs earlier p (ref_of at cs e))
-    (more _ _ _ _ (omega arith) (entries R at cs _ _ es))))
+    (more _ _ _ _ (omega arith) (entries R at cs (earlier ++ (ref_of at cs e ∷ [])) (p + 12) es))))
 
 only : (rs : List Ref) (all : List Chunk) (t n : ℕ) (earlier : List Chunk) (at : ℕ) (c : Chunk) → Numbered (single rs all t n earlier at c)
 unfolding single
@@ -115,7 +115,7 @@ rule rs all earlier at c =
 rules : (rs : List Ref) (all earlier : List Chunk) (at : ℕ) (cs : List Chunk) → Numbered (chunk_rules rs all earlier at cs)
 unfolding chunk_rules
 rules rs all earlier at [] = none
-rules rs all earlier at (c ∷ cs) = both _ _ (rule rs all earlier at c) (rules rs all _ _ cs)
+rules rs all earlier at (c ∷ cs) = both _ _ (rule rs all earlier at c) (rules rs all (earlier ++ (c ∷ [])) (at + size c) cs)
 
 layout : (profile : ℕ) (cs : List Chunk) → Numbered (layout_fault (rules_of profile) cs)
 unfolding layout_fault rest_fault optional

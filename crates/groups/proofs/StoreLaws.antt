@@ -1,7 +1,7 @@
 -- Laws of the rows that the walk stores: a row lands in the slice where the slice has it, all rows fill its front, and of a slice of one row only the
 -- row that it is based on is stored.
 use Prim.Native.Nat.{ℕ, zero, suc, ◌+◌, ◌-◌, ◌*◌, ◌≤◌, ◌<◌}
-use mathlib.Core.Path.{◌≡◌, refl, ap, sym, ◌∙◌}
+use mathlib.Core.Path.{◌≡◌, refl, ap, sym, subst, ◌∙◌}
 use mathlib.Core.List.{List, [], ◌∷◌, ◌++◌, append_assoc, append-nil}
 use native.Mathlib.Omega.{arith}
 use lib.ListN.{length, get_or, take, drop, set, length-append, length-drop, take-append-drop}
@@ -99,7 +99,8 @@ stores-pick j n rows [] h l = absurd (omega arith)
 stores-pick zero n rows (r ∷ rs) h l =
     let q : n + 0 ≡ n = omega arith in
     let s : store n n rows r.type r.start r.size r.depth ≡ row_numbers r = store_here n r.type r.start r.size r.depth rows l in
-    rw (q, s) (stores-after n (n + 1) (row_numbers r) rs (omega arith) refl)
+    subst (λ (m : ℕ). stores m n rows (r ∷ rs) ≡ row_numbers r) (sym q)
+    (rw s (stores-after n (n + 1) (row_numbers r) rs (omega arith) refl))
 stores-pick (suc j) n rows (r ∷ rs) h l =
     let b : n < n + suc j = omega arith in
     let q : n + suc j ≡ n + 1 + j = omega arith in

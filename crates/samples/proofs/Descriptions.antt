@@ -74,7 +74,7 @@ texts =
     describes 0 (set (described 48 []) 7 76 ++ chunk_bytes (chunk_of RDes (body (entry Data 7 eel)))) 0 (Refused 37 48) ∷ []))))))))))))))))))))))))
 
 pub text-samples : All TextRowHolds texts
-unfolding computed texts forms begins form_length char_length good_in good_length_of offset_of fills_from fills descs_from pair_among rdes.entriesFault rdes.chunkFault
+unfolding computed texts forms begins form_length char_length good_in good_length_of offset_of fills_from fills descs_from pair_among rdes.entries_fault rdes.chunk_fault
     of_type located_of rdes_verdict described_of tell_from_of told_of
 text-samples =
     parts TextRowHolds 9 texts (refl, (refl, (refl, (refl, (refl, (refl, (refl, (refl, (refl, tt)))))))))

@@ -26,7 +26,7 @@ returns : tie.Need-returns
 returns c =
     let a = c.before.before.before.before.before.before.before.before.before.before.args in
     let d = a.d.now in
-    laws.by-array a.buf.now (replicate 2048 0) d c.before.before.before.before.before.before.put-bytes.new.0
+    laws.by_array a.buf.now (replicate 2048 0) d c.before.before.before.before.before.before.put-bytes.new.0
     c.before.before.put-bytes2.new.0 a.at (length d)
     c.before.before.put-bytes2.ensures c.before.before.before.before.before.before.put-bytes.ensures refl
 

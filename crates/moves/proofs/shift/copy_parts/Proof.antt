@@ -32,7 +32,7 @@ loop_again c =
     let n = c.before.before.before.before.before.part_of.result in (
       omega arith,
       search rules,
-      laws.copy-part a.buf.now a.d.now l.buf c.before.before.copy-part.new.0 a.at l.i (l.i + n - l.i)
+      laws.copy_part a.buf.now a.d.now l.buf c.before.before.copy-part.new.0 a.at l.i (l.i + n - l.i)
           n c.before.before.copy-part.ensures l.invariant.2 (omega arith)
           c.before.before.before.before.before.before.before.before.before.before.requires (omega arith),
     )

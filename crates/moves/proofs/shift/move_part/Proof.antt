@@ -35,7 +35,7 @@ returns c =
     let e = a.from + a.n - a.from in
     let l = laws.part_length b a.from e a.n (omega arith) pre.1.1 in
     laws.laid-part b b c.before.before.put-bytes2.new.0 a.to a.from e a.n
-    (laws.by-array b (replicate 2048 0) (take e (drop a.from b)) c.before.before.before.before.before.before.put-bytes.new.0
+    (laws.by_array b (replicate 2048 0) (take e (drop a.from b)) c.before.before.before.before.before.before.put-bytes.new.0
     c.before.before.put-bytes2.new.0 a.to a.n
     c.before.before.put-bytes2.ensures c.before.before.before.before.before.before.put-bytes.ensures l)
     (omega arith) pre.1.1

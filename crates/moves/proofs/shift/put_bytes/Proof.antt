@@ -21,7 +21,7 @@ loop_again : tie.Need-loop-preserved invariant-loop decreases-loop
 loop_again c =
     let l = c.before.before.loop in
     let a = c.before.before.before.args in
-    (omega arith, simp length-set (omega arith), rw l.invariant.2 (laws.copy-turn a.buf.now a.d.now a.at l.i (omega arith) (omega arith)))
+    (omega arith, simp length-set (omega arith), rw l.invariant.2 (laws.copy_turn a.buf.now a.d.now a.at l.i (omega arith) (omega arith)))
 
 returns : tie.Need-returns invariant-loop decreases-loop
 returns c =

@@ -14,7 +14,7 @@ abbrev decreases-loop : tie.decreases-loop
 decreases-loop buf₀ at len k i₀ buf i = i
 
 loop_holds : tie.Need-loop-init invariant-loop decreases-loop
-loop_holds c = let a = c.before.args in laws.right-first a.buf.now a.at a.len a.k c.before.requires.0
+loop_holds c = let a = c.before.args in laws.right_first a.buf.now a.at a.len a.k c.before.requires.0
 
 loop_less : tie.Need-loop-smaller invariant-loop decreases-loop
 loop_less c =
@@ -25,7 +25,7 @@ loop_again : tie.Need-loop-preserved invariant-loop decreases-loop
 loop_again c =
     let l = c.before.before.before.before.before.before.loop in
     let a = c.before.before.before.before.before.before.before.before.args in
-    laws.right-part a.buf.now l.buf c.before.before.move-part.new.0 a.at l.i a.len a.k
+    laws.right_part a.buf.now l.buf c.before.before.move-part.new.0 a.at l.i a.len a.k
     c.before.before.before.before.part_of.result c.before.before.move-part.ensures l.invariant
     c.before.before.before.before.part_of.ensures.0 c.before.before.before.before.before.before.before.before.requires.1
 
