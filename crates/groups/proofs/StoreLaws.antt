@@ -102,6 +102,7 @@ stores-pick zero n rows (r ∷ rs) h l =
     subst (λ (m : ℕ). stores m n rows (r ∷ rs) ≡ row_numbers r) (sym q)
     (rw s (stores-after n (n + 1) (row_numbers r) rs (omega arith) refl))
 stores-pick (suc j) n rows (r ∷ rs) h l =
-    let b : n < n + suc j = omega arith in
+    let b : n < n + 1 + j = omega arith in
     let q : n + suc j ≡ n + 1 + j = omega arith in
-    rw (← store-before (n + suc j) n rows r.type r.start r.size r.depth b, q) (stores-pick j (n + 1) rows rs (omega arith) l)
+    subst (λ (m : ℕ). stores m n rows (r ∷ rs) ≡ row_numbers (get_or rs j no_row)) (sym q)
+    (rw (← store-before (n + 1 + j) n rows r.type r.start r.size r.depth b) (stores-pick j (n + 1) rows rs (omega arith) l))
