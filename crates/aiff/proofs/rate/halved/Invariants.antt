@@ -1,0 +1,11 @@
+-- The loop keeps the numerator; an odd significand that is still to be halved gives no rate.
+use Prim.Native.Nat.{◌-◌, ◌≤◌}
+use mathlib.Core.Path.{◌≡◌}
+use Rattle.aiff.specs.Rate.{numerator}
+use Rattle.aiff.proofs.rate.halved.Given as goal
+
+abbrev pub invariant-loop-e : goal.invariant-loop-e
+invariant-loop-e l = (l.e ≤ 16446) × (numerator l.m l.e ≡ numerator l.significand l.exponent)
+
+abbrev pub decreases-loop-e : goal.decreases-loop-e
+decreases-loop-e l = 16446 - l.e

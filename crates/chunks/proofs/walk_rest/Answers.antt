@@ -1,0 +1,34 @@
+use mathlib.Core.Path.{refl, sym, ap, ◌∙◌}
+use native.Mathlib.Omega.{arith}
+use Rattle.chunks.specs.Walk.{verdict_of}
+use Rattle.chunks.proofs.ChunkLaws.{chunk_good_header, along_next, walk-fault, walk_end, ordinary_end, no_ordinary}
+use Rattle.chunks.proofs.walk_rest.Goals as goal
+
+pub loop-at-init : goal.loop-at-init
+loop-at-init c = record { rest = refl; ordinary = λ e. refl }
+
+pub be32_at-requires : goal.be32_at-requires
+be32_at-requires c =
+    omega (arith, chunk_good_header _ _ c.loop-at-test.true (sym c.chunk.ensures ∙ ap verdict_of c.in-Good.is))
+
+pub skip-at-requires : goal.skip-at-requires
+skip-at-requires c =
+    chunk_good_header _ _ c.loop-at-test.true (sym c.chunk.ensures ∙ ap verdict_of c.in-Good.is)
+
+pub loop-at-smaller : goal.loop-at-smaller
+loop-at-smaller c = omega (arith, c.skip-at.ensures)
+
+pub loop-at-preserved : goal.loop-at-preserved
+loop-at-preserved c =
+    along_next _ _ _ _ _ _ _ c.loop-at-test.true (sym c.chunk.ensures ∙ ap verdict_of c.in-Good.is)
+    c.be32_at.ensures.0 c.is_ordinary-ordinary.ensures c.skip-at.ensures c.loop-at.invariant
+
+pub returns-in-Refused : goal.returns-in-Refused
+returns-in-Refused c =
+    let fault = sym c.chunk.ensures ∙ ap verdict_of c.in-Refused.is in
+    (walk-fault _ _ _ _ c.loop-at-test.true fault ∙ c.loop-at.invariant.rest, λ e. no_ordinary _ e)
+
+pub returns : goal.returns
+returns c =
+    let inv = c.loop-at.invariant in
+    (sym (walk_end _ _ c.loop-at-test.false) ∙ inv.rest, λ e. sym (inv.ordinary e) ∙ ordinary_end _ _ c.loop-at-test.false)

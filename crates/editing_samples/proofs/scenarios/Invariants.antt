@@ -1,0 +1,11 @@
+-- The place of the next scenario rises, whatever `scenario` answers, and both buffers keep their lengths.
+use mathlib.Core.Path.{◌≡◌}
+use Prim.Native.Nat.{◌-◌}
+use lib.ListN.{length}
+use Rattle.editing_samples.proofs.scenarios.Given as goal
+
+abbrev pub invariant-loop-at : goal.invariant-loop-at
+invariant-loop-at l = (length l.file ≡ length l.initial.file) × (length l.jrn ≡ length l.initial.jrn)
+
+abbrev pub decreases-loop-at : goal.decreases-loop-at
+decreases-loop-at l = length l.s - l.at

@@ -1,0 +1,83 @@
+use native.Mathlib.Omega.{arith}
+use mathlib.Core.Path.{sym, ap, ◌∙◌}
+use Prim.Native.Nat.{ℕ, ◌+◌}
+use Rattle.blorb.specs.Verdict.{refuse}
+use Rattle.blorb.specs.Bytes.{Byte}
+use Rattle.blorb.proofs.Accept.{bytes-all}
+use Rattle.blorb.specs.All.{All}
+use Rattle.judging.specs.Outcomes.{verdict_of}
+use Rattle.judging.proofs.ReplaceFault.{out_101, out_109, out_114, out_nothing, out_119, out_kept}
+use Rattle.judging.proofs.judge.replace_fault.Goals as goal
+
+pub returns-then-len-old-gt16777216 : goal.returns-then-len-old-gt16777216
+returns-then-len-old-gt16777216 c =
+    let a = c.args in
+    let f = a.s.now in
+    let bytes : All Byte f = bytes-all f (λ i. omega (arith, c.type_inv.s i)) in
+    ap verdict_of c.refused.ensures ∙ out_101 a.profile f a.front a.piece a.usage a.number a.kind a.d.now bytes
+    c.requires (omega arith) (omega arith) (omega arith) c.if-len-old-gt16777216.true
+
+pub returns-then-kind-eq-RIDX : goal.returns-then-kind-eq-RIDX
+returns-then-kind-eq-RIDX c =
+    let a = c.args in
+    let f = a.s.now in
+    let bytes : All Byte f = bytes-all f (λ i. omega (arith, c.type_inv.s i)) in
+    ap verdict_of c.refused-then-kind-eq-RIDX.ensures ∙ out_109 a.profile f a.front a.piece a.usage a.number a.kind a.d.now bytes
+    c.requires (omega arith) (omega arith) (omega arith)
+    c.if-len-old-gt16777216.false c.if-kind-eq-RIDX.true
+
+pub returns-then-not-type_allowed : goal.returns-then-not-type_allowed
+returns-then-not-type_allowed c =
+    let a = c.args in
+    let f = a.s.now in
+    let bytes : All Byte f = bytes-all f
+    (λ i. omega (arith, c.type_inv.s i)) in
+    ap verdict_of c.refused-then-not-type_allowed.ensures ∙ out_114 a.profile f a.front a.piece a.usage a.number a.kind a.d.now bytes
+    c.requires (omega arith) (omega arith) (omega arith)
+    c.if-len-old-gt16777216.false c.if-kind-eq-RIDX.false
+    (sym c.type_allowed.ensures ∙ c.if-not-type_allowed.true)
+
+pub returns-then-makes_rect : goal.returns-then-makes_rect
+returns-then-makes_rect c =
+    let a = c.args in
+    let f = a.s.now in
+    let bytes : All Byte f = bytes-all f
+    (λ i. omega (
+      arith,
+      c.type_inv.s i,
+    )) in
+    ap verdict_of c.refused-then-makes_rect.ensures ∙ ap (λ (z : ℕ). refuse 119 (z + 8)) c.behind_start-p.ensures.0 ∙ out_119 a.profile f a.front
+    a.piece a.usage a.number a.kind a.d.now bytes
+    c.requires (omega arith)
+    (omega arith) (omega arith) c.if-len-old-gt16777216.false
+    c.if-kind-eq-RIDX.false
+    (sym c.type_allowed.ensures
+    ∙ c.if-not-type_allowed.false) c.in-At.at
+    c.in-At.q c.in-At.is
+    (sym c.makes_rect.ensures ∙ c.if-makes_rect.true)
+
+pub returns-in-Nothing : goal.returns-in-Nothing
+returns-in-Nothing c =
+    let a = c.args in
+    let f = a.s.now in
+    let bytes : All Byte f = bytes-all f
+    (λ i. omega (arith, c.type_inv.s i)) in
+    out_nothing a.profile f a.front a.piece a.usage a.number a.kind a.d.now bytes
+    c.requires (omega arith) (omega arith) (omega arith)
+    c.if-len-old-gt16777216.false c.if-kind-eq-RIDX.false
+    (sym c.type_allowed.ensures ∙ c.if-not-type_allowed.false) c.in-Nothing.is
+
+pub returns-else-makes_rect : goal.returns-else-makes_rect
+returns-else-makes_rect c =
+    let a = c.args in
+    let f = a.s.now in
+    let bytes : All Byte f = bytes-all f
+    (λ i. omega (arith, c.type_inv.s i))
+    in
+    out_kept a.profile f a.front a.piece a.usage a.number a.kind a.d.now bytes
+    c.requires (omega arith) (omega arith)
+    (omega arith) c.if-len-old-gt16777216.false
+    c.if-kind-eq-RIDX.false
+    (sym c.type_allowed.ensures ∙ c.if-not-type_allowed.false)
+    c.in-At.at c.in-At.q c.in-At.is
+    (sym c.makes_rect.ensures ∙ c.if-makes_rect.false)

@@ -1,0 +1,13 @@
+-- The chunk is judged as the walk would judge it.
+use native.Mathlib.Omega.{arith}
+use mathlib.Core.Path.{sym, ap, ◌∙◌}
+use Rattle.chunks.specs.Walk.{verdict_of}
+use Rattle.reader.proofs.straight.over.Goals as goal
+
+pub returns : goal.returns
+returns c =
+    (
+      omega (arith, c.if-s-start.false),
+      sym c.chunk.ensures ∙ ap verdict_of c.in_default.is,
+      c.skip.ensures,
+    )

@@ -1,0 +1,17 @@
+-- The factor is small enough for no sum to wrap.
+use mathlib.Core.Path.{refl}
+use native.Mathlib.Omega.{arith}
+use Prim.Native.Nat.{◌%◌}
+use Rattle.repeats.specs.Marks.{stirred}
+use Rattle.repeats.proofs.MarkLaws.{product_small}
+use Rattle.repeats.proofs.stir.Goals as goal
+
+pub overflow_mul-result : goal.overflow_mul-result
+overflow_mul-result c = omega (arith, product_small (c.args.x % 4294967296) c.args.f (omega arith) c.requires)
+
+pub overflow_add-result : goal.overflow_add-result
+overflow_add-result c = omega (arith, product_small (c.args.x % 4294967296) c.args.f (omega arith) c.requires)
+
+pub returns : goal.returns
+unfolding stirred
+returns c = refl

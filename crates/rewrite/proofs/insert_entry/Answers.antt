@@ -1,0 +1,20 @@
+use mathlib.Core.Path.{refl}
+use Rattle.moves.specs.declared.Move.{Move}
+use Rattle.rewrite.proofs.Writes.{relocated_alike}
+use Rattle.rewrite.proofs.InsertBytes.{enter_written}
+use Rattle.rewrite.proofs.insert_entry.Goals as goal
+
+pub returns : goal.returns
+returns c =
+    let a = c.args in
+    let b = a.buf.now in
+    let p = c.requires in
+    let mv : Move = record { limit = 0; grow = 12; fall = 0; plus = 12; minus = 0 } in
+    rw (
+      c.put_heading.ensures,
+      c.put_words.ensures,
+      c.shift_right.ensures,
+      c.move_starts.ensures,
+      relocated_alike mv 12 refl refl refl refl,
+    )
+    (enter_written b a.len a.count a.place a.at a.usage a.number p.0 p.1.0 p.1.1.0)
