@@ -37,7 +37,7 @@ put_record-requires c =
     (ready a.profile b a.len (length a.jrn.now) a.used a.usage a.number a.alias a.chosen bytes
     c.in-Join.count c.in-Join.place
     c.in-Join.at (sym c.link_plan.ensures
-    ∙ c.in-Join.is)).journal_room
+    ∙ c.in-Join.is)).journal-room
 
 pub insert_entry-requires : goal.insert_entry-requires
 insert_entry-requires c =
@@ -95,7 +95,7 @@ overflow_add-used c =
           c.in-Join.place
           c.in-Join.at
           (sym c.link_plan.ensures
-          ∙ c.in-Join.is)).journal_room,
+          ∙ c.in-Join.is)).journal-room,
       c.well_formed,
       c.ranges,
     )

@@ -18,8 +18,8 @@ pub returns-then-n-i : goal.returns-then-n-i
 returns-then-n-i c =
     let a = c.args in
     let m = c.scan_file in
-    let e : good c.in-Fine.n m.new.rows.1.0 ≡ scan_file_of a.i row a.file.now
-    = sym (ap (λ (x : Scan). outcome x m.new.rows.1.0) c.in-Fine.is) ∙ m.ensures in
+    let e : good c.in-Fine.n m.new.rows ≡ scan_file_of a.i row a.file.now
+    = sym (ap (λ (x : Scan). outcome x m.new.rows) c.in-Fine.is) ∙ m.ensures in
     let k = file_count a.file.now a.i row _ _ e in
     let h = c.if-n-i.true in
     pick-none a.file.now a.i (file_fine a.file.now a.i row _ _ e) (rw k.0 at h)
@@ -28,11 +28,11 @@ pub overflow_cast-result : goal.overflow_cast-result
 overflow_cast-result c =
     let a = c.args in
     let m = c.scan_file in
-    let e : good c.in-Fine.n m.new.rows.1.0 ≡ scan_file_of a.i row a.file.now
-    = sym (ap (λ (x : Scan). outcome x m.new.rows.1.0) c.in-Fine.is) ∙ m.ensures in
+    let e : good c.in-Fine.n m.new.rows ≡ scan_file_of a.i row a.file.now
+    = sym (ap (λ (x : Scan). outcome x m.new.rows) c.in-Fine.is) ∙ m.ensures in
     let k = file_count a.file.now a.i row _ _ e in
     let h = c.if-n-i.false in
-    let b : get_or m.new.rows.1.0 1 0 + (8 + get_or m.new.rows.1.0 2 0) ≤ length a.file.now =
+    let b : get_or m.new.rows 1 0 + (8 + get_or m.new.rows 2 0) ≤ length a.file.now =
     rw k.1 (pick-fits a.file.now a.i row (file_fine a.file.now a.i row _ _ e) refl (rw k.0 at h)) in
     record { fits = omega arith }
 
@@ -40,11 +40,11 @@ pub overflow_cast-result-in-Fine : goal.overflow_cast-result-in-Fine
 overflow_cast-result-in-Fine c =
     let a = c.args in
     let m = c.scan_file in
-    let e : good c.in-Fine.n m.new.rows.1.0 ≡ scan_file_of a.i row a.file.now
-    = sym (ap (λ (x : Scan). outcome x m.new.rows.1.0) c.in-Fine.is) ∙ m.ensures in
+    let e : good c.in-Fine.n m.new.rows ≡ scan_file_of a.i row a.file.now
+    = sym (ap (λ (x : Scan). outcome x m.new.rows) c.in-Fine.is) ∙ m.ensures in
     let k = file_count a.file.now a.i row _ _ e in
     let h = c.if-n-i.false in
-    let b : get_or m.new.rows.1.0 1 0 + (8 + get_or m.new.rows.1.0 2 0) ≤ length a.file.now =
+    let b : get_or m.new.rows 1 0 + (8 + get_or m.new.rows 2 0) ≤ length a.file.now =
     rw k.1 (pick-fits a.file.now a.i row (file_fine a.file.now a.i row _ _ e) refl (rw k.0 at h)) in
     record { fits = omega arith }
 
@@ -52,11 +52,11 @@ pub overflow_add-result : goal.overflow_add-result
 overflow_add-result c =
     let a = c.args in
     let m = c.scan_file in
-    let e : good c.in-Fine.n m.new.rows.1.0 ≡ scan_file_of a.i row a.file.now
-    = sym (ap (λ (x : Scan). outcome x m.new.rows.1.0) c.in-Fine.is) ∙ m.ensures in
+    let e : good c.in-Fine.n m.new.rows ≡ scan_file_of a.i row a.file.now
+    = sym (ap (λ (x : Scan). outcome x m.new.rows) c.in-Fine.is) ∙ m.ensures in
     let k = file_count a.file.now a.i row _ _ e in
     let h = c.if-n-i.false in
-    let b : get_or m.new.rows.1.0 1 0 + (8 + get_or m.new.rows.1.0 2 0) ≤ length a.file.now =
+    let b : get_or m.new.rows 1 0 + (8 + get_or m.new.rows 2 0) ≤ length a.file.now =
     rw k.1 (pick-fits a.file.now a.i row (file_fine a.file.now a.i row _ _ e) refl (rw k.0 at h)) in
     record { fits = omega arith }
 
@@ -64,8 +64,8 @@ pub returns-else-n-i : goal.returns-else-n-i
 returns-else-n-i c =
     let a = c.args in
     let m = c.scan_file in
-    let e : good c.in-Fine.n m.new.rows.1.0 ≡ scan_file_of a.i row a.file.now
-    = sym (ap (λ (x : Scan). outcome x m.new.rows.1.0) c.in-Fine.is) ∙ m.ensures in
+    let e : good c.in-Fine.n m.new.rows ≡ scan_file_of a.i row a.file.now
+    = sym (ap (λ (x : Scan). outcome x m.new.rows) c.in-Fine.is) ∙ m.ensures in
     let k = file_count a.file.now a.i row _ _ e in
     let h = c.if-n-i.false in
     rw k.1 (pick-one a.file.now a.i (file_fine a.file.now a.i row _ _ e) row refl (rw k.0 at h))
@@ -74,6 +74,6 @@ pub returns-in-Refused : goal.returns-in-Refused
 returns-in-Refused c =
     let a = c.args in
     let m = c.scan_file in
-    let e : bad c.in-Refused.number c.in-Refused.place m.new.rows.1.0 ≡ scan_file_of a.i row a.file.now
-    = sym (ap (λ (x : Scan). outcome x m.new.rows.1.0) c.in-Refused.is) ∙ m.ensures in
+    let e : bad c.in-Refused.number c.in-Refused.place m.new.rows ≡ scan_file_of a.i row a.file.now
+    = sym (ap (λ (x : Scan). outcome x m.new.rows) c.in-Refused.is) ∙ m.ensures in
     pick-refused a.file.now a.i _ _ (file-refused a.file.now a.i row _ _ _ e)

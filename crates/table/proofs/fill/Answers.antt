@@ -21,6 +21,6 @@ returns c =
     let p = c.requires in
     let s = c.sort in
     let q = c.put_entries in
-    let n : length s.new.t ≡ length q.new.t.1.1.0 = search rules in
+    let n : length s.new.t ≡ length q.new.t = search rules in
     fill-sorted (entries_in a.count (drop 24 a.file.now)) p.3 a.count (length-entries_in a.count (drop 24 a.file.now)) a.t.now
-    p.2 q.new.t.1.1.0 q.ensures s.new.t n s.ensures.0 s.ensures.1 (λ k. omega (arith, c.type_inv.t k))
+    p.2 q.new.t q.ensures s.new.t n s.ensures.0 s.ensures.1 (λ k. omega (arith, c.type_inv.t k))
