@@ -5,7 +5,7 @@ use mathlib.Core.List.{List}
 use lib.ListN.{length, drop}
 use Rattle.blorb.specs.Format.{Entry, entries_in}
 use Rattle.rows.specs.Halving.{no_row}
-use Rattle.blorb.proofs.EntryList.{length-entries_in, entry_get_d}
+use Rattle.blorb.proofs.EntryList.{length-entries_in, entry-get_or}
 use Rattle.rows.specs.Rows.{flat}
 use Rattle.rows.proofs.OrderLaws.{same-entry}
 use Rattle.rows.proofs.FlatLaws.{entries-turn, entries-length, entries-all}
@@ -31,7 +31,7 @@ loop-row-preserved c =
     a.file.now (24 + 12 * l.row) in
     let q = c.put_row.ensures ∙ entries-turn es a.t.now l.t l.row l.invariant.2 _
     (omega (arith, n, c.loop-row-test.true))
-    (entry_get_d a.file.now a.count l.row 24 no_row c.loop-row-test.true ∙ sym is) in (
+    (entry-get_or a.file.now a.count l.row 24 no_row c.loop-row-test.true ∙ sym is) in (
       omega arith,
       entries-length es a.t.now _ (l.row + 1) q (omega (
         arith,
