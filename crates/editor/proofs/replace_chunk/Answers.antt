@@ -36,7 +36,7 @@ pub gone_size-old-requires : goal.gone_size-old-requires
 gone_size-old-requires c =
     let a = c.args in
     body_short a.profile a.buf.now a.len (length a.jrn.now) a.used a.usage a.number (bytes (goal.at.gone_size-old-requires c).In-Put) c.in-Put.piece (going
-    (goal.at.gone_size-old-requires c).In-Put-2).found (going (goal.at.gone_size-old-requires c).In-Put).piece_is
+    (goal.at.gone_size-old-requires c).In-Put).found (going (goal.at.gone_size-old-requires c).In-Put).piece_is
 
 pub slice_bounds-put_record-end : goal.slice_bounds-put_record-end
 slice_bounds-put_record-end c =

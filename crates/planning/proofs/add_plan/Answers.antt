@@ -46,7 +46,7 @@ pub add_fault-judged-requires : goal.add_fault-judged-requires
 add_fault-judged-requires c =
     let a = c.args in
     told-pair a.profile a.buf.now a.len a.room a.used a.usage a.number a.kind a.d.now (bytes (goal.at.add_fault-judged-requires c).In-Whole) 0 c.in-Whole.facts (tells
-    (goal.at.add_fault-judged-requires c).In-Whole-1)
+    (goal.at.add_fault-judged-requires c).In-Whole)
 
 pub overflow_add-len : goal.overflow_add-len
 overflow_add-len c = let s = (stands (goal.at.overflow_add-len c).In-Whole).0.short in search rules
@@ -79,7 +79,7 @@ pub returns-in-Done : goal.returns-in-Done
 returns-in-Done c =
     let a = c.args in
     plan_fine a.profile a.buf.now a.len a.room a.used a.usage a.number a.kind a.d.now (bytes (goal.at.returns-in-Done c).In-Whole) 0 c.in-Whole.facts (tells
-    (goal.at.returns-in-Done c).In-Whole-1)
+    (goal.at.returns-in-Done c).In-Whole)
     (sym c.is_whole.ensures ∙ c.if-not-is_whole.false) c.held-body.result.now
     c.held-body.ensures c.add_fault-judged.result c.with_room.result
     c.add_fault-judged.ensures c.with_room.ensures c.in-Done.is

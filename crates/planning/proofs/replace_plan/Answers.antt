@@ -14,12 +14,12 @@ use borrow.Author.Rules.{rules}
 use Rattle.planning.proofs.replace_plan.Goals as goal
 use Rattle.planning.proofs.replace_plan.Goals.{In-At, In-Whole}
 
-bytes : (c : In-Whole) → All Byte (take c.args.len c.args.buf.now)
+abbrev bytes : (c : In-Whole) → All Byte (take c.args.len c.args.buf.now)
 bytes c =
     let a = c.args in
     all_take Byte a.len a.buf.now (bytes-all a.buf.now (λ i. omega (arith, c.type_inv.buf i)))
 
-bytes-in-there : (c : In-At) → All Byte (take c.args.len c.args.buf.now)
+abbrev bytes-in-there : (c : In-At) → All Byte (take c.args.len c.args.buf.now)
 bytes-in-there c =
     let a = c.args in
     all_take Byte a.len a.buf.now (bytes-all a.buf.now (λ i. omega (arith, c.type_inv.buf i)))
@@ -56,7 +56,7 @@ pub gone_size-old-requires : goal.gone_size-old-requires
 gone_size-old-requires c =
     let a = c.args in
     body_short a.profile a.buf.now a.len a.room a.used a.usage a.number (bytes (goal.at.gone_size-old-requires c).In-Whole) c.in-At.piece (there (goal.at.gone_size-old-requires c).In-At).found (there
-    (goal.at.gone_size-old-requires c).In-At-2).piece_is
+    (goal.at.gone_size-old-requires c).In-At).piece_is
 
 pub slice_bounds-replace_fault-end : goal.slice_bounds-replace_fault-end
 slice_bounds-replace_fault-end c = sym (length-take-le _ _ (there (goal.at.slice_bounds-replace_fault-end c).In-At).found.stands.inside)
@@ -71,7 +71,7 @@ pub overflow_sub-size : goal.overflow_sub-size
 overflow_sub-size c =
     let a = c.args in
     inside a.profile a.buf.now a.len a.room a.used a.usage a.number a.kind a.d.now (bytes (goal.at.overflow_sub-size c).In-Whole) c.in-At.piece (there
-    (goal.at.overflow_sub-size c).In-At-1).found (there (goal.at.overflow_sub-size c).In-At).piece_is c.gone_size-old.result
+    (goal.at.overflow_sub-size c).In-At).found (there (goal.at.overflow_sub-size c).In-At).piece_is c.gone_size-old.result
     c.gone_size-old.ensures
 
 pub overflow_add-size-in-Whole-2 : goal.overflow_add-size-in-Whole-2
