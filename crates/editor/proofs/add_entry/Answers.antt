@@ -23,7 +23,7 @@ use Rattle.editor.proofs.add_entry.Goals.{In-Go}
 bytes : (c : In-Go) → All Byte (take c.args.len c.args.buf.now)
 bytes c =
     let a = c.args in
-    let known = c.type_inv.buf in
+    let known = c.slice_known-1.given in
     all_take Byte a.len a.buf.now (bytes-all a.buf.now (λ i. omega (arith, known i)))
 
 going : (c : In-Go) → let a = c.args in
@@ -41,7 +41,7 @@ add_bytes-requires c =
     (r.stands, (omega (arith, h, r.room), omega (arith, h, r.short)))
 
 pub put_record-requires : goal.put_record-requires
-put_record-requires c = (going (goal.at.put_record-requires c).In-Go).journal-room
+put_record-requires c = (going (goal.at.put_record-requires c).In-Go).journal_room
 
 pub overflow_add-len : goal.overflow_add-len
 overflow_add-len c =
@@ -51,7 +51,7 @@ overflow_add-len c =
 pub overflow_add-used : goal.overflow_add-used
 overflow_add-used c =
     let r = going (goal.at.overflow_add-used c).In-Go in
-    omega (arith, r.journal-room)
+    omega (arith, r.journal_room)
 
 pub returns-in-No : goal.returns-in-No
 unfolding fault
@@ -69,8 +69,8 @@ returns-in-Go c =
     let r = going (goal.at.returns-in-Go c).In-Go in
     let h = c.held-body.ensures in
     gave_done a.profile (state b a.len a.jrn.now a.used) (edit (add a.usage a.number a.kind a.d.now)) c.done.result _ _ _ _
-    c.done.ensures r.fine (ap (λ (z : List ℕ). a.len + (20 + (length z + length z % 2))) h ∙ r.new-length)
-    (ap (λ (z : ℕ). a.used + z) r.new-record)
+    c.done.ensures r.fine (ap (λ (z : List ℕ). a.len + (20 + (length z + length z % 2))) h ∙ r.new_length)
+    (ap (λ (z : ℕ). a.used + z) r.new_record)
     (c.add_bytes.ensures
     ∙ ap (λ (z : List ℕ). written b a.len (file (added (model (take a.len b)) a.usage a.number (chunk_of a.kind z)))) h)
     (c.put_record.ensures

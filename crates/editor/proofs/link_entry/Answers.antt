@@ -18,7 +18,7 @@ overflow_add-at c =
     let a = c.args in
     let b = a.buf.now in
     let bytes : All Byte (take a.len b) = all_take Byte a.len b
-    (bytes-all b (λ i. omega (arith, c.type_inv.buf i))) in
+    (bytes-all b (λ i. omega (arith, c.slice_known-1.given i))) in
     omega (
       arith,
       start_small a.profile b a.len (length a.jrn.now) a.used a.usage a.number a.alias a.chosen bytes
@@ -33,11 +33,11 @@ put_record-requires c =
     let a = c.args in
     let b = a.buf.now in
     let bytes : All Byte (take a.len b) = all_take Byte a.len b
-    (bytes-all b (λ i. omega (arith, c.type_inv.buf i))) in
+    (bytes-all b (λ i. omega (arith, c.slice_known-1.given i))) in
     (ready a.profile b a.len (length a.jrn.now) a.used a.usage a.number a.alias a.chosen bytes
     c.in-Join.count c.in-Join.place
     c.in-Join.at (sym c.link_plan.ensures
-    ∙ c.in-Join.is)).journal-room
+    ∙ c.in-Join.is)).journal_room
 
 pub insert_entry-requires : goal.insert_entry-requires
 insert_entry-requires c =
@@ -46,7 +46,7 @@ insert_entry-requires c =
     let bytes : All Byte (take a.len b) = all_take Byte a.len b
     (bytes-all b (λ i. omega (
       arith,
-      c.type_inv.buf i,
+      c.slice_known-1.given i,
     ))) in
     insertable a.profile b a.len (length a.jrn.now) a.used a.usage a.number a.alias a.chosen bytes
     c.in-Join.count
@@ -65,7 +65,7 @@ overflow_add-len c =
     let bytes : All Byte (take a.len b) = all_take Byte a.len b
     (bytes-all b (λ i. omega (
       arith,
-      c.type_inv.buf
+      c.slice_known-1.given
           i,
     ))) in
     omega (
@@ -85,7 +85,7 @@ overflow_add-used c =
     let bytes : All Byte (take a.len b) = all_take Byte a.len b
     (bytes-all b (λ i. omega (
       arith,
-      c.type_inv.buf
+      c.slice_known-1.given
           i,
     ))) in
     omega (
@@ -95,7 +95,7 @@ overflow_add-used c =
           c.in-Join.place
           c.in-Join.at
           (sym c.link_plan.ensures
-          ∙ c.in-Join.is)).journal-room,
+          ∙ c.in-Join.is)).journal_room,
       c.well_formed,
       c.ranges,
     )
@@ -116,7 +116,7 @@ returns-in-Join c =
     let bytes : All Byte (take a.len b) = all_take Byte a.len b
     (bytes-all b (λ i. omega (
       arith,
-      c.type_inv.buf i,
+      c.slice_known-1.given i,
     ))) in
     made a.profile b a.jrn.now a.len a.used a.usage a.number a.alias a.chosen bytes
     c.in-Join.count

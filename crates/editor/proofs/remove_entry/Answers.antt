@@ -19,7 +19,7 @@ gone_size-size-requires c =
     let a = c.args in
     let b = a.buf.now in
     let bytes : All Byte (take a.len b) = all_take Byte a.len b
-    (bytes-all b (λ i. omega (arith, c.type_inv.buf i))) in
+    (bytes-all b (λ i. omega (arith, c.slice_known-1.given i))) in
     let r = ready a.profile b a.len (length a.jrn.now) a.used a.usage a.number bytes c.in-Take.count
     c.in-Take.piece (sym c.remove_plan.ensures ∙ c.in-Take.is) in
     body_short a.profile b a.len (length a.jrn.now) a.used a.usage a.number bytes c.in-Take.piece
@@ -32,7 +32,7 @@ slice_bounds-put_record-end c =
     let bytes : All Byte (take a.len b) = all_take Byte a.len b
     (bytes-all b (λ i. omega (
       arith,
-      c.type_inv.buf i,
+      c.slice_known-1.given i,
     ))) in
     let r = ready a.profile b a.len (length a.jrn.now) a.used a.usage a.number bytes
     c.in-Take.count
@@ -51,7 +51,7 @@ put_record-requires c =
     let bytes : All Byte (take a.len b) = all_take Byte a.len b
     (bytes-all b (λ i. omega (
       arith,
-      c.type_inv.buf i,
+      c.slice_known-1.given i,
     ))) in
     let r = ready a.profile b a.len (length a.jrn.now) a.used a.usage a.number bytes
     c.in-Take.count
@@ -70,7 +70,7 @@ remove_bytes-requires c =
     let bytes : All Byte (take a.len b) = all_take Byte a.len b
     (bytes-all b (λ i. omega (
       arith,
-      c.type_inv.buf i,
+      c.slice_known-1.given i,
     ))) in
     let r = ready a.profile b a.len (length a.jrn.now) a.used a.usage a.number bytes
     c.in-Take.count
@@ -90,7 +90,7 @@ overflow_sub-len c =
     let bytes : All Byte (take a.len b) = all_take Byte a.len b
     (bytes-all b (λ i. omega (
       arith,
-      c.type_inv.buf i,
+      c.slice_known-1.given i,
     ))) in
     let r = ready a.profile b a.len (length a.jrn.now) a.used a.usage a.number bytes
     c.in-Take.count
@@ -107,7 +107,7 @@ overflow_add-used c =
     let bytes : All Byte (take a.len b) = all_take Byte a.len b
     (bytes-all b (λ i. omega (
       arith,
-      c.type_inv.buf i,
+      c.slice_known-1.given i,
     ))) in
     let r = ready a.profile b a.len (length a.jrn.now) a.used a.usage a.number bytes
     c.in-Take.count
@@ -139,7 +139,7 @@ returns-in-Take c =
     let bytes : All Byte (take a.len b) = all_take Byte a.len b
     (bytes-all b (λ i. omega (
       arith,
-      c.type_inv.buf i,
+      c.slice_known-1.given i,
     ))) in
     let r = ready a.profile b a.len (length a.jrn.now) a.used a.usage a.number bytes
     c.in-Take.count c.in-Take.piece (sym c.remove_plan.ensures

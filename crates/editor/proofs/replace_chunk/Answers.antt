@@ -20,7 +20,7 @@ use Rattle.editor.proofs.replace_chunk.Goals.{In-Put}
 bytes : (c : In-Put) → All Byte (take c.args.len c.args.buf.now)
 bytes c =
     let a = c.args in
-    let known = c.type_inv.buf in
+    let known = c.slice_known-1.given in
     all_take Byte a.len a.buf.now (bytes-all a.buf.now (λ i. omega (arith, known i)))
 
 going : (c : In-Put) → let a = c.args in

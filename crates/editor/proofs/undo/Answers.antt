@@ -13,7 +13,7 @@ use Rattle.editor.proofs.undo.Goals.{In-Go}
 
 bytes : (o : In-Go) → All Byte o.args.buf.now
 bytes o =
-    let known = o.type_inv.buf in
+    let known = o.slice_known-1.given in
     bytes-all o.args.buf.now (λ i. omega (arith, known i))
 
 planned : (o : In-Go) → let a = o.args in undo_plan_of a.profile a.buf.now a.len a.jrn.now a.used ≡ Go o.in-Go.count o.in-Go.at o.in-Go.size o.in-Go.to o.in-Go.record

@@ -25,7 +25,7 @@ pub remove_bytes-requires : goal.remove_bytes-requires
 remove_bytes-requires c =
     let a = c.args in
     let b = a.buf.now in
-    let bb : All Byte b = bytes-all b (λ i. omega (arith, c.type_inv.buf i)) in
+    let bb : All Byte b = bytes-all b (λ i. omega (arith, c.slice_known-1.given i)) in
     let w = ready _ b a.len a.jrn.now a.used a.count a.at a.size _ a.r bb c.requires.1 in
     back_gone _ b a.len a.jrn.now a.used a.count a.at a.size _ a.r bb w c.if-kind.true
 
@@ -33,7 +33,7 @@ pub returns-then-kind : goal.returns-then-kind
 returns-then-kind c =
     let a = c.args in
     let b = a.buf.now in
-    let bb : All Byte b = bytes-all b (λ i. omega (arith, c.type_inv.buf i)) in
+    let bb : All Byte b = bytes-all b (λ i. omega (arith, c.slice_known-1.given i)) in
     let w = ready _ b a.len a.jrn.now a.used a.count a.at a.size _ a.r bb
     c.requires.1 in
     c.remove_bytes.ensures ∙ ap (λ (z : List ℕ). written b a.len z) (written_gone _ b a.len a.jrn.now a.used a.count
@@ -43,7 +43,7 @@ pub insert_entry-requires : goal.insert_entry-requires
 insert_entry-requires c =
     let a = c.args in
     let b = a.buf.now in
-    let bb : All Byte b = bytes-all b (λ i. omega (arith, c.type_inv.buf i)) in
+    let bb : All Byte b = bytes-all b (λ i. omega (arith, c.slice_known-1.given i)) in
     let bj : All Byte a.jrn.now = bytes-all a.jrn.now (λ i. omega (arith, c.type_inv.jrn i)) in
     let w = ready _ b a.len a.jrn.now a.used a.count a.at a.size _ a.r bb c.requires.1 in
     back_unlisted _ b a.len a.jrn.now a.used a.count a.at a.size _ a.r bb w c.if-kind-eq4.true bj
@@ -52,7 +52,7 @@ pub returns-then-kind-eq4 : goal.returns-then-kind-eq4
 returns-then-kind-eq4 c =
     let a = c.args in
     let b = a.buf.now in
-    let bb : All Byte b = bytes-all b (λ i. omega (arith, c.type_inv.buf i)) in
+    let bb : All Byte b = bytes-all b (λ i. omega (arith, c.slice_known-1.given i)) in
     let w = ready _ b a.len a.jrn.now a.used a.count a.at a.size _ a.r bb
     c.requires.1 in
     c.insert_entry.ensures ∙ ap (λ (z : List ℕ). written b a.len z) (written_unlisted _ b a.len a.jrn.now a.used a.count
@@ -86,7 +86,7 @@ pub replace_bytes-requires : goal.replace_bytes-requires
 replace_bytes-requires c =
     let a = c.args in
     let b = a.buf.now in
-    let bb : All Byte b = bytes-all b (λ i. omega (arith, c.type_inv.buf i)) in
+    let bb : All Byte b = bytes-all b (λ i. omega (arith, c.slice_known-1.given i)) in
     let bj : All Byte a.jrn.now = bytes-all a.jrn.now
     (λ i. omega (arith, c.type_inv.jrn i)) in
     let w = ready _ b a.len a.jrn.now a.used a.count a.at a.size _ a.r bb
@@ -98,7 +98,7 @@ returns-then-kind-eq2 c =
     let a = c.args in
     let b = a.buf.now in
     let bb : All Byte b = bytes-all b
-    (λ i. omega (arith, c.type_inv.buf i)) in
+    (λ i. omega (arith, c.slice_known-1.given i)) in
     let w = ready _ b a.len a.jrn.now a.used a.count a.at a.size _ a.r bb
     c.requires.1 in
     c.replace_bytes.ensures ∙ ap (λ (z : List ℕ). written b a.len z) (written-replaced _ b a.len a.jrn.now a.used a.count
@@ -108,7 +108,7 @@ pub insert_bytes-requires : goal.insert_bytes-requires
 insert_bytes-requires c =
     let a = c.args in
     let b = a.buf.now in
-    let bb : All Byte b = bytes-all b (λ i. omega (arith, c.type_inv.buf i)) in
+    let bb : All Byte b = bytes-all b (λ i. omega (arith, c.slice_known-1.given i)) in
     let bj : All Byte a.jrn.now = bytes-all a.jrn.now
     (λ i. omega (arith, c.type_inv.jrn i)) in
     let w = ready _ b a.len a.jrn.now a.used a.count a.at a.size _ a.r bb
@@ -122,7 +122,7 @@ returns c =
     let a = c.args in
     let b = a.buf.now in
     let bb : All Byte b = bytes-all b
-    (λ i. omega (arith, c.type_inv.buf i)) in
+    (λ i. omega (arith, c.slice_known-1.given i)) in
     let w = ready _ b a.len a.jrn.now a.used a.count a.at a.size _ a.r bb
     c.requires.1 in
     c.insert_bytes.ensures ∙ ap (λ (z : List ℕ). written b a.len z) (written-removed _ b a.len a.jrn.now a.used a.count

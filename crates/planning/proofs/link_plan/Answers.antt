@@ -98,7 +98,7 @@ overflow_sub-room c =
     c.in-Whole.facts
     (sym c.opened.ensures
     ∙ c.in-Whole.is)
-    c.in-At.piece c.in-At.is).found.used-in
+    c.in-At.piece c.in-At.is).found.used_in
 
 pub returns-in-Refused : goal.returns-in-Refused
 returns-in-Refused c =

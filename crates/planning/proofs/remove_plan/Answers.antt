@@ -92,7 +92,7 @@ overflow_sub-room c =
     (sym c.opened.ensures
     ∙ c.in-Whole.is)
     c.in-At.piece c.in-At.is in
-    w.found.used-in
+    w.found.used_in
 
 pub returns-in-Refused : goal.returns-in-Refused
 returns-in-Refused c =

@@ -78,7 +78,7 @@ pub overflow_add-size-in-Whole-2 : goal.overflow_add-size-in-Whole-2
 overflow_add-size-in-Whole-2 c = let s = (there (goal.at.overflow_add-size-in-Whole-2 c).In-At).found.stands.short in search rules
 
 pub overflow_sub-room : goal.overflow_sub-room
-overflow_sub-room c = (there (goal.at.overflow_sub-room c).In-At).found.used-in
+overflow_sub-room c = (there (goal.at.overflow_sub-room c).In-At).found.used_in
 
 pub returns-in-Refused : goal.returns-in-Refused
 returns-in-Refused c =
