@@ -1,0 +1,13 @@
+-- Each turn is one step of the definition.
+use Rattle.std.proofs.Common.{arith}
+use Rattle.sampling.proofs.SampleLaws.{sum-none, sum_step, sum_whole}
+use Rattle.sampling.proofs.checksum.Goals as goal
+
+pub loop-i-init : goal.loop-i-init
+loop-i-init c = (omega arith, sum-none 4294967291 _)
+
+pub loop-i-preserved : goal.loop-i-preserved
+loop-i-preserved c = (omega arith, sum_step 4294967291 _ c.loop-i.i c.loop-i.sum c.wide.result c.loop-i.invariant.1 c.wide.ensures.0)
+
+pub returns : goal.returns
+returns c = sum_whole 4294967291 c.args.s.now c.loop-i.i c.loop-i.sum c.loop-i.invariant.1 (omega arith)
