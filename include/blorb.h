@@ -24,8 +24,8 @@
  *   - No byte outside the lent buffers is read or written.
  *
  * These promises are proved of the library's code. That this header declares that code is not proved but tested (host/test), and so are
- * blorb_sentence and the functions over blorb_editor, which are plain C. The library is made for x86-64 only, and the header for machines
- * where size_t has 64 bits. It is written in C99, and C++11 reads it too. The promises rest on what the caller lends:
+ * blorb_sentence and the functions over blorb_editor, which are plain C. The library is made for x86-64 only, for processors of the level
+ * x86-64-v2 or above, and the header for machines where size_t has 64 bits. It is written in C99, and C++11 reads it too. The promises rest on what the caller lends:
  *
  *   - A pointer and the size_t that follows it name one array of that many bytes (of a table: of that many numbers of 32 bits), which
  *     nothing else writes during the call. A pointer may be null where its size is 0 (this is tested, not proved).
