@@ -219,7 +219,7 @@ def test_prove(checkout):
         status, _, told, found = checkout.run("host/prove", crate)
         same(f"host/prove {crate}", (status, found), (0, [asked]))
         holds(f"what {crate} is built as", (checkout.root / "crates" / crate / made).exists())
-        holds("what is being proved is told", f"proving {crate} and the " in told, told)
+        holds("what is being proved is told", f"proving {crate}, " in told, told)
         same("a second time nothing is asked for", checkout.run("host/prove", crate)[3], [])
     same("./list runs the lister", checkout.run("list", "samples/eel.blb")[3], [])
     path = checkout.root / "crates/blorb/src/lib.rt"
