@@ -42,14 +42,16 @@ compiler() {
     echo "${words%% *}"
 }
 
-# The crate whose archive for C is the library, and where a copy of that archive is kept.
+# The crate whose archive for C is the library, where rt makes that archive, and where a copy of it is kept.
 # shellcheck disable=SC2034 # for the scripts that read this in
 library=capi
+# shellcheck disable=SC2034
+built=crates/capi/out/libcapi.a
 # shellcheck disable=SC2034
 kept=host/kept/libcapi.a
 
 # below CRATE: a line NAME: NEEDS for the crate and for each that it depends on, in the order of crates.txt, from the root on. Libraries of the
-# toolchain are no crates and have no line.
+# toolchain are no crates and have no line; what a line says before its colon of the crate's kind is left out.
 below() {
     awk -v wanted="$1" '
         function take(name,    parts, count, i) {
@@ -59,7 +61,7 @@ below() {
             for (i = 1; i <= count; i++) take(parts[i])
         }
         { sub(/#.*/, "") }
-        /:/ { name = $0; sub(/:.*/, "", name); gsub(/[ \t]/, "", name); sub(/^[^:]*:/, ""); $1 = $1; needs[name] = $0; order[++crates] = name }
+        /:/ { name = $1; sub(/:.*/, "", name); sub(/^[^:]*:/, ""); $1 = $1; needs[name] = $0; order[++crates] = name }
         END {
             if (!(wanted in needs)) exit 1
             take(wanted)
@@ -73,7 +75,7 @@ sources() {
     lines=$(below "$1") || return
     echo "$lines"
     while IFS=: read -r name _; do
-        printf '%s\0' "crates/$name"/{src,specs,proofs,stdin,stdout,args,data}
+        printf '%s\0' "crates/$name"/{src,specs,proofs,stdin,stdout,args,status,data}
     done <<< "$lines" | xargs -0 sh -c 'find "$@" -type f -print0 2> /dev/null || :' sh | LC_ALL=C sort -z | xargs -0 sha256sum
 }
 

@@ -13,8 +13,8 @@
  *
  *   - It answers. Nothing is allocated, nothing is kept between calls, no lock is taken, and nothing is printed.
  *   - It takes little stack: at most BLORB_STACK_EDITING bytes where it stands under "Editing", BLORB_STACK_GROUPS under "Group files",
- *     BLORB_STACK_LISTS under "Scaled pictures" and in blorb_texts_write, BLORB_STACK_TEXTS in blorb_text and blorb_text_of, and
- *     BLORB_STACK_READING elsewhere (this is checked in the machine code and measured, not proved). The calls on group files recurse, once for each level of nesting and never deeper than 16
+ *     BLORB_STACK_LISTS under "Scaled pictures" or "Spoken descriptions", and BLORB_STACK_READING elsewhere (this is checked in the
+ *     machine code and measured, not proved). The calls on group files recurse, once for each level of nesting and never deeper than 16
  *     levels, whatever the file says; no other call recurses.
  *   - The answer's `refusal` is 0 where the call was carried out; else it is one of the numbers below, and `place` is where the reason lies:
  *     an offset in the file, of 100 + k in the file that the edit would make; of 35, and in blorb_texts_write, a row, counted from 0. It is 0
@@ -24,8 +24,8 @@
  *   - No byte outside the lent buffers is read or written.
  *
  * These promises are proved of the library's code. That this header declares that code is not proved but tested (host/test), and so are
- * blorb_sentence and the functions over blorb_editor, which are plain C. The library is made for x86-64 only, and the header for machines
- * where size_t has 64 bits. It is written in C99, and C++11 reads it too. The promises rest on what the caller lends:
+ * blorb_sentence and the functions over blorb_editor, which are plain C. The library is made for x86-64 only, for processors of the level
+ * x86-64-v2 or above, and the header for machines where size_t has 64 bits. It is written in C99, and C++11 reads it too. The promises rest on what the caller lends:
  *
  *   - A pointer and the size_t that follows it name one array of that many bytes (of a table: of that many numbers of 32 bits), which
  *     nothing else writes during the call. A pointer may be null where its size is 0 (this is tested, not proved).
@@ -83,10 +83,10 @@ extern "C" {
 
 /* The version of this header, as one number major * 1000000 + minor * 1000 + patch. A major version may change what a call takes. */
 #define BLORB_VERSION_MAJOR 2
-#define BLORB_VERSION_MINOR 7
+#define BLORB_VERSION_MINOR 6
 #define BLORB_VERSION_PATCH 0
 #define BLORB_VERSION (BLORB_VERSION_MAJOR * 1000000 + BLORB_VERSION_MINOR * 1000 + BLORB_VERSION_PATCH)
-#define BLORB_VERSION_TEXT "2.7.0"
+#define BLORB_VERSION_TEXT "2.6.0"
 
 /* The version of the archive that the program is linked with: BLORB_VERSION, where header and archive belong together. */
 uint32_t blorb_version(void);
@@ -114,9 +114,8 @@ enum {
 enum {
     BLORB_STACK_READING = 768,  /* at most, for every call but those below; 712 as compiled */
     BLORB_STACK_EDITING = 1024, /* at most, for editing; 744 as compiled */
-    BLORB_STACK_GROUPS = 6144,  /* at most, for group files of 16 levels; 3440 as compiled */
-    BLORB_STACK_TEXTS = 1536,   /* at most, for texts by entry and by pair; 1280 as compiled */
-    BLORB_STACK_LISTS = 3072    /* at most, for scaled pictures and the writer of texts; 2984 as compiled */
+    BLORB_STACK_GROUPS = 6144,  /* at most, for group files of 16 levels; 4792 as compiled */
+    BLORB_STACK_LISTS = 8192    /* at most, for scaled pictures and spoken descriptions, which mark the rows of a list; 8152 as compiled */
 };
 
 /* Usages as the calls take them: four bytes, a space among them. */
@@ -454,7 +453,7 @@ typedef struct blorb_scaled_answer {
  *
  * Beside the judging of the file it takes a few passes over the 'Reso' where the picture numbers rise from row to row. Where they do not, a
  * repeated one is looked for among the earlier rows, and the time grows with the square of the rows. Nothing limits them but the file's size:
- * 599,184 rows at most. One of that many rows in no order takes 1.5 s.
+ * 599,184 rows at most. The worst 'Reso' found, one of that many rows made against this search, took 0.7 s (docs/BENCHMARK.md).
  *
  * The file's refusals, then 31, 32, 33.
  */
@@ -468,10 +467,10 @@ blorb_scaled_answer blorb_scaled(const uint8_t *file, size_t size, uint32_t prof
  * Each call that reads judges the whole file, and then the whole 'RDes', its other texts too: 37, then text by text 38 before 39, then 36. A text may
  * be of no bytes, of a resource that the index does not have, and of any usage. A file without an 'RDes' has no texts.
  *
- * Beside the judging of the file they take a few passes over the 'RDes' where the pairs of usage and number rise from text to text, and where the
- * numbers of each usage grow at their ends only, in any order of the usages. Elsewhere a repeated pair is looked for among the earlier texts with
- * arrays of 64 bytes, and the time grows with the square of the texts: under 1 ms for 4,096 of them. Nothing limits them but the file's size:
- * 1,398,098 texts of no bytes at most, which in no order take about 70 s.
+ * Beside the judging of the file they take a few passes over the 'RDes' where the pairs of usage and number rise from text to text. Where they
+ * do not, a repeated pair is looked for among the earlier texts, and the time grows with the square of the texts. Nothing limits them but the
+ * file's size: 1,398,098 texts of no bytes at most. The worst 'RDes' of that many texts that was made against this search took 4.2 s
+ * (docs/BENCHMARK.md).
  */
 
 /* Of a refused call: usage, number, start and length 0. */
@@ -507,7 +506,7 @@ typedef struct blorb_write_answer {
  * 'RDes', behind the index, the chunk gives back the same pairs and texts in the same order.
  *
  * The time is as with reading, and besides proportional to the bytes of `texts` that the rows name and to the rows: a byte that many rows share is
- * judged a few times, not once for each, so a million rows over one text of 16 MB take seconds. The list is judged before its size, so this
+ * judged a few times, not once for each, so a million rows over one text of 16 MB take a second or two. The list is judged before its size, so this
  * holds of refused lists too, also of those with more rows than any chunk has room for: with ten million rows whose pairs do not rise it is minutes.
  * Refusals, row by row 38 before 39, then 40.
  */

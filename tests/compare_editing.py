@@ -1,10 +1,10 @@
 #!/usr/bin/env python3
 """Holds the library against editing_reference.py on many generated runs and single calls.
 
-usage: compare_editing.py [RUNS [SEED]]      200 runs and seed 2 unless given; `rt check editing_samples` first
+usage: compare_editing.py [RUNS [SEED]]      200 runs and seed 2 unless given; `host/prove editing_samples` first
 
 Every run comes with 40 single calls on files and journals that may be spoiled. Every run is held to the ledger as well.
-Packs the scenarios as make_editing_samples.py does, runs target/bin/editing_samples on them, a buffer at a time, and
+Packs the scenarios as make_editing_samples.py does, runs crates/editing_samples/out/editing_samples on them, a buffer at a time, and
 compares what it prints, line by line. Stops at the first difference, with the scenario up to there: both buffers before the
 first call as hexadecimal digits, and the calls.
 """
@@ -17,7 +17,7 @@ from itertools import chain
 from editing_generated import run_of_many, runs, singles
 from editing_run import ROOM, held_to_ledger, is_run, lines, packed, results
 
-PROGRAM = pathlib.Path(__file__).resolve().parent.parent / "target" / "bin" / "editing_samples"
+PROGRAM = pathlib.Path(__file__).resolve().parent.parent / "crates" / "editing_samples" / "out" / "editing_samples"
 
 
 def differs(x, k, answer, line):

@@ -1,11 +1,11 @@
 #!/usr/bin/env python3
 """Holds the library against reference.py on many generated files.
 
-usage: compare_reading.py [FILES [SEED]]      10,000 files and seed 2 unless given; `rt check reading_samples` first
+usage: compare_reading.py [FILES [SEED]]      10,000 files and seed 2 unless given; `host/prove reading_samples` first
 
 Half of the files may have types of the ADRIFT profile; the profiles, known and unknown, go by turns.
 
-Packs the files as make_reading_samples.py does, runs target/bin/reading_samples on them, a buffer at a time, and compares
+Packs the files as make_reading_samples.py does, runs crates/reading_samples/out/reading_samples on them, a buffer at a time, and compares
 what it prints, line by line. Stops at the first difference, with the file as hexadecimal digits.
 """
 import pathlib
@@ -17,7 +17,7 @@ from itertools import chain
 from make_reading_samples import FAR, PROFILES, ROOM, asked, lines, packed
 from reading_generated import ADRIFT_RESOURCES, RESOURCES, generated
 
-PROGRAM = pathlib.Path(__file__).resolve().parent.parent / "target" / "bin" / "reading_samples"
+PROGRAM = pathlib.Path(__file__).resolve().parent.parent / "crates" / "reading_samples" / "out" / "reading_samples"
 
 
 def compare(samples):

@@ -5,7 +5,7 @@ usage: make_editing_samples.py            writes both files and says what they c
        make_editing_samples.py --check    writes nothing; fails where a file is not as it would be written
 
 The program of that crate reads the packed scenarios (see editing_run.py) and prints what the library answers, with sums
-of both whole buffers after every call; `rt check` holds what it prints to the file stdout.
+of both whole buffers after every call; `rt ci` holds what it prints to the file stdout.
 
 How the expectations are computed: by editing_reference.py, an editor in Python written from 01 alone. The answers to every
 scenario of editing_by_hand.py, undo_by_hand.py, profile_by_hand.py, whole_by_hand.py and link_by_hand.py are stated there by hand as well, and every

@@ -4,7 +4,7 @@
 usage: make_form_samples.py            writes both files and says how many samples of each answer there are
        make_form_samples.py --check    writes nothing; fails where a file is not as it would be written
 
-The program of that crate reads the packed samples and prints what the library answers; `rt check` holds what it prints
+The program of that crate reads the packed samples and prints what the library answers; `rt ci` holds what it prints
 to the file stdout. The expectations come from forms_reference.py, written from 02 alone; the list's answer of every
 sample by hand is stated here as well, and this script stops where the reference says another.
 

@@ -4,7 +4,7 @@
 usage: make_reading_samples.py            writes both files and says how many samples of each verdict there are
        make_reading_samples.py --check    writes nothing; fails where a file is not as it would be written
 
-The program of that crate reads the packed samples and prints what the library answers; `rt check` holds what it prints
+The program of that crate reads the packed samples and prints what the library answers; `rt ci` holds what it prints
 to the file stdout.
 
 How the expectations are computed: by reference.py, a reader in Python written from the papers alone. The verdict of every

@@ -1,8 +1,8 @@
 """The first use of a fresh checkout: first_use.py ROOT ARCHIVE.
 
-host/build takes the kept archive exactly where it was made of the checkout's own sources, host/prove proves each crate behind all that it depends on
-and the longest way first, and host/keep-archive keeps what was built. All of it in a copy of the checkout, with a stand-in for rt that proves nothing
-and notes what it was asked for. That the real rt gives the kept bytes is another test (host/keep-archive --check)."""
+host/build takes the kept archive exactly where it was made of the checkout's own sources, host/prove asks rt for what is not there and for nothing
+else, and host/keep-archive keeps what was built. All of it in a copy of the checkout, with a stand-in for rt that proves nothing and notes what it was
+asked for. That the real rt gives the kept bytes is another test (host/keep-archive --check)."""
 import os
 import shutil
 import subprocess
@@ -14,31 +14,23 @@ ROOT, ARCHIVE = Path(sys.argv[1]), Path(sys.argv[2])
 checks = 0
 
 STAND_IN = r"""#!/bin/sh
-# rt version, check NAME, staticlib NAME and ci. RT_NOTES: where it notes what it did; RT_FAILS: a crate that is not proved; RT_ARCHIVE: what is built;
-# RT_MEETS: the crate that the crate `one` waits for.
+# rt version, and in a crate's folder lib and run, and at the top ci. RT_NOTES: where it notes what it did; RT_FAILS: a crate that is not proved;
+# RT_ARCHIVE: what is built.
 case $1 in
 version) echo 'stand-in 1' ;;
-check)
-    echo "begin $2" >> "$RT_NOTES"
-    turns=0
-    while [ "$2" = one ] && [ -n "${RT_MEETS:-}" ] && ! grep -qx "begin $RT_MEETS" "$RT_NOTES"; do
-        turns=$((turns + 1))
-        if [ "$turns" -gt 600 ]; then exit 1; fi
-        sleep 0.1
-    done
-    if [ "$2" = "${RT_FAILS:-}" ]; then echo "rt: $2 NOT PROVED (exit 1, 0 s)"; exit 1; fi
-    mkdir -p "target/rlib/$2.rlib"
-    echo "end $2" >> "$RT_NOTES"
-    echo "rt: $2 proved (7 s)"
-    ;;
-staticlib)
-    echo "archive $2" >> "$RT_NOTES"
-    mkdir -p target/staticlib && cp "$RT_ARCHIVE" "target/staticlib/lib$2.a"
+lib | run)
+    [ "crates/$2" = "$(basename "$(dirname "$PWD")")/$(basename "$PWD")" ] || exit 2
+    echo "$1 $2" >> "$RT_NOTES"
+    echo "fn $2::one: proved"
+    if [ "$2" = "${RT_FAILS:-}" ]; then echo "src/lib.rt:1:1: error[wrong]: so it is"; exit 1; fi
+    mkdir -p out
+    if [ "$1" = run ]; then printf '#!/bin/sh\ncat\n' > "out/$2" && chmod +x "out/$2" && exit 3; fi
+    if grep -q "^$2 staticlib:" ../../crates.txt; then cp "$RT_ARCHIVE" "out/lib$2.a"; else mkdir -p "out/rlib/$2.rlib"; fi
     ;;
 ci)
-    printf 'rt: one proved (1 s)\nrt: two proved (2 s)\n'
-    if [ -n "${RT_FAILS:-}" ]; then printf 'rt: three NOT PROVED (exit 1, 1 s)\nrt: FAILED: three\n2 passed, 1 failed\n'; exit 1; fi
-    printf 'rt: must-fail one/wrong: refused, as it must be (1 s)\nrt: ok, all\n3 passed, 0 failed\n'
+    printf 'rt: one proved\nrt: two is kept: as it was\n'
+    if [ -n "${RT_FAILS:-}" ]; then printf 'rt: three NOT PROVED\nrt: FAILED: three\n2 passed, 1 failed\n'; exit 1; fi
+    printf 'rt: must-fail one/wrong.edit: refused, as it must be: why\nrt: ok; handles allowed: none\n3 passed, 0 failed\n'
     ;;
 *) exit 2 ;;
 esac
@@ -93,8 +85,8 @@ class Checkout:
         (self.root / "host/cli").mkdir()
         (self.root / "host/cli/main.c").write_text(PROGRAM)
         for part in ("include", "crates", "samples"):
-            shutil.copytree(ROOT / part, self.root / part, ignore=shutil.ignore_patterns("must-fail", "mutants"))
-        for name in ("crates.txt", "blorb", "test"):
+            shutil.copytree(ROOT / part, self.root / part, ignore=shutil.ignore_patterns("must-fail", "out"))
+        for name in ("crates.txt", "blorb", "list", "test"):
             shutil.copy(ROOT / name, self.root / name)
         self.tools.mkdir()
         (self.tools / "rt").write_text(STAND_IN)
@@ -110,14 +102,15 @@ class Checkout:
         self.notes.write_text("")
         path = f"{self.tools}:{os.environ['PATH']}" if rt else str(self.without_rt)
         environment = {**os.environ, "PATH": path, "RT_NOTES": str(self.notes), "RT_ARCHIVE": str(self.proved), **more}
-        for name in ("BLORB_ARCHIVE", "RT_JOBS"):
+        for name in ("BLORB_ARCHIVE", "RT_FAILS"):
             if name not in more:
                 environment.pop(name, None)
         ended = subprocess.run([self.root / words[0], *words[1:]], cwd=self.root, env=environment, capture_output=True, text=True, check=False)
         return ended.returncode, ended.stdout, ended.stderr, self.notes.read_text().split("\n")[:-1]
 
     def clean(self):
-        shutil.rmtree(self.root / "target", ignore_errors=True)
+        for made in (self.root / "target", *(self.root / "crates").glob("*/out")):
+            shutil.rmtree(made, ignore_errors=True)
 
 
 def without_rt(folder):
@@ -139,8 +132,6 @@ def test_kept(checkout):
     same("host/keep-archive keeps what was built", (status, said), (0, "host/keep-archive: host/kept/libcapi.a is of exactly these sources now\n"))
     record = (checkout.root / "host/kept/libcapi.txt").read_text()
     holds("its record has three lines", [line.split(": ")[0] for line in record.splitlines()] == ["sources", "archive", "toolchain"], record)
-    seconds = (checkout.root / "host/prove-seconds.txt").read_text()
-    holds("it records what each crate took", "\nreader 7\n" in seconds, seconds)
     checkout.clean()
     status, said, told, asked = checkout.run("blorb", "list", "samples/eel.blb", rt=False)
     same("a first use without rt", (status, said, asked), (0, LISTED, []))
@@ -155,7 +146,7 @@ def test_prove_option(checkout):
     checkout.clean()
     checkout.run("host/build", rt=False)
     status, _, told, asked = checkout.run("host/build", "--prove")
-    same("--prove proves, though the kept one is good", (status, TAKEN in told, asked[-1]), (0, False, "archive capi"))
+    same("--prove proves, though the kept one is good", (status, TAKEN in told, asked[-1]), (0, False, "lib capi"))
     same("and once", checkout.run("host/build", "--prove")[3], [])
     same("what was proved serves a later build", checkout.run("host/build", rt=False)[0], 0)
     same("an unknown word", checkout.run("host/build", "--kept")[0], 2)
@@ -168,17 +159,17 @@ def refused_and_proved(checkout, what, reason):
     holds(f"{what}, without rt: nothing is built", status == 2 and reason in told and "missing: rt" in told, told)
     holds(f"{what}: nothing is left of it", not (checkout.root / "target/host/libblorb.a").exists())
     status, said, told, asked = checkout.run("blorb", "list", "samples/eel.blb")
-    same(f"{what}, with rt: it is proved", (status, said, asked[-1:], TAKEN in told), (0, LISTED, ["archive capi"], False))
+    same(f"{what}, with rt: it is proved", (status, said, asked[-1:], TAKEN in told), (0, LISTED, ["lib capi"], False))
 
 
 def test_not_right(checkout):
     """Whatever could be changed: code, a definition, a proof, a line of crates.txt, a file more; the archive itself; its record."""
     kept = checkout.root / "host/kept/libcapi.a"
     stale, damaged = "was made of other sources", "is not the file that was kept"
-    for name in ("crates/reader/src/lib.rt", "crates/format/specs/Bytes.antt", "crates/edit_laws/proofs/Demand3.antt", "crates.txt"):
+    for name in ("crates/reader/src/lib.rt", "crates/blorb/specs/Bytes.antt", "crates/edits/proofs/Lib.antt", "crates.txt"):
         path = checkout.root / name
         before = path.read_text()
-        path.write_text(before.replace("reader: format ", "reader: edit_laws format ") if name == "crates.txt" else before + "\n")
+        path.write_text(before.replace("reader: blorb ", "reader: utf8 blorb ") if name == "crates.txt" else before + "\n")
         refused_and_proved(checkout, f"{name} changed", stale)
         path.write_text(before)
     more = checkout.root / "crates/capi/src/more.rt"
@@ -204,7 +195,7 @@ def test_other_sources(checkout):
     path = checkout.root / "crates/lister/src/main.rt"
     before = path.read_text()
     path.write_text(before + "\n")
-    (checkout.root / "crates/reader/must-fail").mkdir()
+    (checkout.root / "crates/reader/must-fail").mkdir(exist_ok=True)
     (checkout.root / "crates/reader/must-fail/new.edit").write_text("file: src/lib.rt\n")
     checkout.clean()
     same("another crate changed", checkout.run("blorb", "list", "samples/eel.blb", rt=False)[:2], (0, LISTED))
@@ -221,57 +212,27 @@ def test_other_bytes(checkout):
     checkout.proved.write_bytes(proved)
 
 
-def needs_of(text):
-    needs = {}
-    for line in text.splitlines():
-        name, colon, below = line.split("#")[0].partition(":")
-        if colon:
-            needs[name.strip()] = below.split()
-    return needs
-
-
-def test_order(checkout):
-    """Of the whole library: each crate once, behind all that it depends on, however many are proved at a time."""
-    needs = needs_of((checkout.root / "crates.txt").read_text())
-    for jobs in ("1", "2", "4"):
-        checkout.clean()
-        status, _, told, asked = checkout.run("host/prove", "editor", RT_JOBS=jobs)
-        same(f"host/prove with {jobs} at a time", status, 0)
-        begun = [line.split()[1] for line in asked if line.startswith("begin")]
-        same("each crate once", len(begun), len(set(begun)))
-        running, most = 0, 0
-        for at, line in enumerate(asked):
-            word, name = line.split()
-            running += 1 if word == "begin" else -1
-            most = max(most, running)
-            if word == "begin":
-                for below in needs[name]:
-                    holds(f"{below} is proved before {name}", below not in needs or f"end {below}" in asked[:at], "\n".join(asked))
-        holds(f"{most} at a time, where {jobs} may be", most <= int(jobs), "\n".join(asked))
-        same("a second time nothing is asked for", checkout.run("host/prove", "editor")[3], [])
-
-
-def test_longest_first(checkout):
-    """A short crate is listed first, a chain of three behind it: the chain begins first, and the short one comes where there is room."""
-    (checkout.root / "crates.txt").write_text("short:\none:\ntwo: one\nthree: two\ntop: short three\n")
-    for name in ("short", "one", "two", "three", "top"):
-        (checkout.root / "crates" / name / "src").mkdir(parents=True)
-        (checkout.root / "crates" / name / "src/lib.rt").write_text("")
-    (checkout.root / "host/prove-seconds.txt").write_text("# a remark\nshort 20\none 9\ntwo 9\nthree 9\n")
-
-    def order(**more):
-        checkout.clean()
-        return [line for line in checkout.run("host/prove", "top", RT_JOBS="1", **more)[3] if line.startswith("begin")]
-
-    same("the longest way first", order(), ["begin one", "begin short", "begin two", "begin three", "begin top"])
-    (checkout.root / "host/prove-seconds.txt").unlink()
-    same("without a record by the crates on the way", order(), ["begin one", "begin two", "begin short", "begin three", "begin top"])
+def test_prove(checkout):
+    """Each kind of crate: rt is asked once for it, in its folder, and again only where something that it is made of has changed."""
     checkout.clean()
-    same("two at a time: one of them waits for the other", checkout.run("host/prove", "top", RT_JOBS="2", RT_MEETS="short")[0], 0)
-    checkout.clean()
-    status, _, told, asked = checkout.run("host/prove", "top", RT_JOBS="2", RT_FAILS="two")
-    holds("what is not proved ends it", status == 2 and "two was not proved" in told and "begin three" not in asked, told)
+    for crate, asked, made in (("editor", "lib editor", "out/rlib/editor.rlib"), ("capi", "lib capi", "out/libcapi.a"), ("lister", "run lister", "out/lister")):
+        status, _, told, found = checkout.run("host/prove", crate)
+        same(f"host/prove {crate}", (status, found), (0, [asked]))
+        holds(f"what {crate} is built as", (checkout.root / "crates" / crate / made).exists())
+        holds("what is being proved is told", f"proving {crate}, " in told, told)
+        same("a second time nothing is asked for", checkout.run("host/prove", crate)[3], [])
+    same("./list runs the lister", checkout.run("list", "samples/eel.blb")[3], [])
+    path = checkout.root / "crates/blorb/src/lib.rt"
+    before = path.read_text()
+    path.write_text(before + "\n")
+    same("something below has changed", checkout.run("host/prove", "editor")[3], ["lib editor"])
+    path.write_text(before)
+    for crate in ("editor", "lister"):
+        checkout.clean()
+        status, _, told, _ = checkout.run("host/prove", crate, RT_FAILS=crate)
+        holds("what is not proved ends it", status == 2 and f"{crate} was not proved" in told and "so it is" in told, told)
     same("a crate that is not listed", checkout.run("host/prove", "four")[0], 2)
+    same("it takes one word", checkout.run("host/prove")[0], 2)
 
 
 def test_both(checkout):
@@ -284,7 +245,7 @@ def test_both(checkout):
 
     status, last, told = ended()
     same("all passed", (status, last), (0, ["7 passed, 0 failed"]))
-    holds("progress of the gate", "[1 of " in told and "] two proved (2 s)" in told and "must-fail one/wrong" in told, told)
+    holds("progress of the gate", "[1 of " in told and "] two is kept" in told and "must-fail one/wrong" in told, told)
     same("a part that fails", ended(PARTS_FAILED="1")[:2], (1, ["7 passed, 1 failed"]))
     status, last, told = ended(RT_FAILS="three")
     same("a gate that fails", (status, last), (1, ["2 passed, 1 failed"]))
@@ -302,9 +263,8 @@ def main():
         test_not_right(checkout)
         test_other_sources(checkout)
         test_other_bytes(checkout)
-        test_order(checkout)
+        test_prove(checkout)
         test_both(checkout)
-        test_longest_first(checkout)
     print(f"first_use: ok, {checks} checks")
 
 

@@ -1,7 +1,6 @@
 /*
  * Every call on a stack of 8 KB, the smallest device's, with a page before it that may not be touched, and the C library's own memmove
- * and memset. The caller has used half of that stack already; but those on group files of 16 levels, which take more than the other
- * half, have all of it. What each call takes by itself: stack_depth.c.
+ * and memset; those on lists, which may take all of that, on one of 12 KB. What each call takes by itself: stack_depth.c.
  */
 #define _DEFAULT_SOURCE
 #include <stdio.h>
@@ -12,7 +11,7 @@
 
 #include "blorb.h"
 
-enum { PAGE = 4096, STACK = 2 * PAGE, USED = STACK / 2, ROOM = 200000, DATA = 40001, WHOLE = 10000 };
+enum { PAGE = 4096, STACK = 2 * PAGE, LARGER = 3 * PAGE, ROOM = 200000, DATA = 40001, WHOLE = 10000 };
 static uint8_t file[ROOM], wrong[ROOM], journal[ROOM], data[DATA], whole[WHOLE];
 enum { MANY = 2000000 };
 static uint8_t nested[BLORB_FORM_SIZE * MANY];
@@ -139,6 +138,7 @@ static void every_call(void)
     gives(blorb_version(), BLORB_VERSION);
     gives(blorb_sentence(BLORB_DONE) == NULL, 0);
     sound();
+    groups();
     blorb_edit_answer a = blorb_blank(file, ROOM);
     done(a.refusal);
     for (uint32_t i = 0; i < 3; i++) {
@@ -253,23 +253,14 @@ static void lists(void)
 
 static void both_profiles(void)
 {
-    for (profile = BLORB_PLAIN; profile <= BLORB_ADRIFT; profile++) {
+    for (profile = BLORB_PLAIN; profile <= BLORB_ADRIFT; profile++)
         every_call();
-        lists();
-    }
 }
 
-/* The calls where the stack is half used: these bytes are the caller's. */
-static void half_used(void)
+static void lists_under_both(void)
 {
-    volatile uint8_t used[USED];
-
-    for (size_t i = 0; i < USED; i++)
-        used[i] = (uint8_t)i;
-    both_profiles();
-    for (size_t i = 0; i < USED; i++)
-        gives(used[i], (uint8_t)i);
-    calls -= USED;
+    for (profile = BLORB_PLAIN; profile <= BLORB_ADRIFT; profile++)
+        lists();
 }
 
 /* Runs it on a stack of so many bytes. */
@@ -291,12 +282,12 @@ int main(void)
 {
     /* Once outside: the C library then has found its functions, for which it needs a stack of its own. */
     both_profiles();
-    groups();
+    lists_under_both();
     calls = 0;
-    on_stack(half_used, STACK);
-    printf("stack: ok, %d calls on %d bytes, %d of them used before\n", calls, (int)STACK, (int)USED);
+    on_stack(both_profiles, STACK);
+    printf("stack: ok, %d calls on %d bytes\n", calls, (int)STACK);
     calls = 0;
-    on_stack(groups, STACK);
-    printf("stack: ok, %d calls on group files on %d bytes\n", calls, (int)STACK);
+    on_stack(lists_under_both, LARGER);
+    printf("stack: ok, %d calls on %d bytes\n", calls, (int)LARGER);
     return 0;
 }

@@ -84,8 +84,8 @@ SOURCE = [
     ("another cycle in a grouping call", "lib", "self.bytes[0] as u64", "self.first()", "grouping", "recursion: one::Kept::first"),
     ("an array of 65 bytes in a grouping call", "deep", "[0u8; WIDTH]", "[0u8; 65]", "grouping", "array of 65 bytes"),
     ("a large array in an editing call", "deep", "[0u8; WIDTH]", "[0u8; 2048]", "editing", None),
-    ("a filter in a call on a list", "deep", "[0u8; WIDTH]", "[0u64; 256]", "lists", None),
-    ("a filter twice at once in a call on a list", "deep", "[0u8; WIDTH]", "[[0u64; 256]; 2]", "lists", "bytes of arrays by one::read"),
+    ("marks in a call on a list", "deep", "[0u8; WIDTH]", "[0u64; 896]", "lists", None),
+    ("marks twice at once in a call on a list", "deep", "[0u8; WIDTH]", "[[0u64; 896]; 2]", "lists", "bytes of arrays by one::read"),
     ("two arrays at once in an editing call", "deep", "[0u8; WIDTH]", "[[0u8; 2048]; 2]", "editing", "bytes of arrays by one::read"),
 ]
 
@@ -128,8 +128,8 @@ ARCHIVE = [
     ("recursion of one that may", NESTS.replace("@N@", "8"), "grouping", None),
     ("the same in a reading call", NESTS.replace("@N@", "8"), "reading", ("recursion",)),
     ("the same in an editing call", NESTS.replace("@N@", "8"), "editing", ("recursion",)),
-    ("all levels of it, more than the header allows", NESTS.replace("@N@", "60"), "grouping", ("header allows",)),
-    ("all levels of two that call each other, more than the header allows", NESTS.replace("@N@", "8").replace("step", "held"), "grouping", ("header allows",)),
+    ("16 levels of it, more than the header allows", NESTS.replace("@N@", "60"), "grouping", ("header allows",)),
+    ("16 levels of two that call each other, more than the header allows", NESTS.replace("@N@", "8").replace("step", "held"), "grouping", ("header allows",)),
     ("another one in its cycle", "return n < 2 ? 1 : s[n] ^ blorb_read(s, n - 2, f) * 3;", "grouping", ("recursion",)),
     ("an array of 72 bytes in a grouping call", NUMBERS.replace("@N@", "9"), "grouping", ("array of", "in bulk")),
 ]

@@ -86,9 +86,10 @@ class Source:
         while k < len(tokens):
             word = tokens[k]
             if word == "use":
-                path = tokens[k + 1]
-                self.uses[module, path.split("::")[-1]] = self.absolute(path, module)
-                k = tokens.index(";", k)
+                end = tokens.index(";", k)
+                for path in self.brought_in(tokens[k + 1:end]):
+                    self.uses[module, path.split("::")[-1]] = self.absolute(path, module)
+                k = end
             elif word == "const" and tokens[k + 1] != "fn":
                 end = self.end_of(tokens, k)
                 self.constants[f"{scope}::{tokens[k + 1]}"] = (module, tokens[k + 3:end])
@@ -111,6 +112,14 @@ class Source:
                     self.public.add(f"{scope}::{tokens[k + 1]}")
                 k = end
             k += 1
+
+    @staticmethod
+    def brought_in(tokens):
+        """The paths of a `use`: one, or those in braces behind what they share."""
+        if "{" not in tokens:
+            return ["".join(tokens)]
+        begin = tokens.index("{")
+        return ["".join(tokens[:begin] + part) for part in parts_of(tokens[begin + 1:closing(tokens, begin)], ",") if part]
 
     @staticmethod
     def end_of(tokens, k):

@@ -10,8 +10,9 @@
 ghost use Rattle.std.specs.Prelude.{◌≡◌, ◌+◌, ◌≤◌, length};
 
 use editing_steps::{lengths, step};
-use libc::STDIN_FILENO;
+use intake::read_full;
 use sampling::{field, fill, hex, labelled, text};
+use std::io;
 
 fn input() -> [u8; 1048576]
     ensures { 1048576 ≡ length result }
@@ -26,45 +27,54 @@ fn room() -> [u8; 65536]
 }
 
 // Both whole buffers.
-fn show(file: &[u8], jrn: &[u8]) {
-    text(b" buffer ");
-    hex(file);
-    text(b" journal ");
-    hex(jrn);
+fn show(rt: &impl Print, file: &[u8], jrn: &[u8]) -> io::Result<()> {
+    text(rt, b" buffer ")?;
+    hex(rt, file)?;
+    text(rt, b" journal ")?;
+    hex(rt, jrn)
 }
 
-fn heading(room: usize, journal: usize, len: usize, used: usize) {
-    labelled(b": buffer ", room as u64);
-    labelled(b" journal ", journal as u64);
-    lengths(len, used);
-    text(b"\n");
+fn heading(
+    rt: &impl Print,
+    room: usize,
+    journal: usize,
+    len: usize,
+    used: usize,
+) -> io::Result<()> {
+    labelled(rt, b": buffer ", room as u64)?;
+    labelled(rt, b" journal ", journal as u64)?;
+    lengths(rt, len, used)?;
+    text(rt, b"\n")
 }
 
 fn steps(
+    rt: &impl Print,
     s: &[u8],
     file: &mut [u8],
     jrn: &mut [u8],
     first_len: usize,
     first_used: usize,
     profile: u32,
-) {
+) -> io::Result<()> {
     let mut at = 0;
     let mut len = first_len;
     let mut used = first_used;
     while at < s.len() {
-        let next = step(s, at, file, jrn, len, used, profile);
+        let next = step(rt, s, at, file, jrn, len, used, profile)?;
         if next.at <= at {
-            text(b"bad packing\n");
-            return;
+            text(rt, b"bad packing\n")?;
+            return Ok(());
         }
         at = next.at;
         len = next.len;
         used = next.used;
     }
+    Ok(())
 }
 
 // The steps of a scenario, and at the end both buffers if they are to be shown.
 fn play(
+    rt: &impl Print,
     s: &[u8],
     file: &mut [u8],
     jrn: &mut [u8],
@@ -72,17 +82,19 @@ fn play(
     used: usize,
     profile: u32,
     shown: bool,
-) {
-    heading(file.len(), jrn.len(), len, used);
-    steps(s, file, jrn, len, used, profile);
+) -> io::Result<()> {
+    heading(rt, file.len(), jrn.len(), len, used)?;
+    steps(rt, s, file, jrn, len, used, profile)?;
     if shown {
-        show(file, jrn);
+        show(rt, file, jrn)?;
     }
+    Ok(())
 }
 
 // The scenario at `at`, in buffers of its own lengths: the packed bytes of the file buffer stand at `bytes`, those of the
 // journal at `records`, the steps from `rest` to `end`.
 fn stage(
+    rt: &impl Print,
     s: &[u8],
     at: usize,
     bytes: usize,
@@ -91,14 +103,15 @@ fn stage(
     end: usize,
     file: &mut [u8],
     jrn: &mut [u8],
-)
+) -> io::Result<()>
     requires { (at + 40 ≤ bytes) × ((bytes ≤ records) × ((records ≤ rest) × ((rest ≤ end) × (end ≤ length s.now)))) }
 {
     let name = at + 40;
-    text(&s[name..bytes]);
+    text(rt, &s[name..bytes])?;
     fill(file, &s[bytes..records]);
     fill(jrn, &s[records..rest]);
     play(
+        rt,
         &s[rest..end],
         file,
         jrn,
@@ -106,13 +119,19 @@ fn stage(
         field(s, at + 24),
         field(s, at + 36) as u32,
         field(s, at + 32) == 1,
-    );
+    )
 }
 
 // The scenario at `at`. Answers where the next one stands, or 0 where the packing is bad.
-fn scenario(s: &[u8], at: usize, file: &mut [u8], jrn: &mut [u8]) -> usize {
+fn scenario(
+    rt: &impl Print,
+    s: &[u8],
+    at: usize,
+    file: &mut [u8],
+    jrn: &mut [u8],
+) -> io::Result<usize> {
     if s.len() < at {
-        return 0;
+        return Ok(0);
     }
     let lent = field(s, at + 4);
     let journal = field(s, at + 8);
@@ -121,15 +140,16 @@ fn scenario(s: &[u8], at: usize, file: &mut [u8], jrn: &mut [u8]) -> usize {
     let rest = records + field(s, at + 16);
     let end = rest + field(s, at + 28);
     if s.len() < end {
-        return 0;
+        return Ok(0);
     }
     if file.len() < lent {
-        return 0;
+        return Ok(0);
     }
     if jrn.len() < journal {
-        return 0;
+        return Ok(0);
     }
     stage(
+        rt,
         s,
         at,
         bytes,
@@ -138,30 +158,31 @@ fn scenario(s: &[u8], at: usize, file: &mut [u8], jrn: &mut [u8]) -> usize {
         end,
         &mut file[0..lent],
         &mut jrn[0..journal],
-    );
-    end
+    )?;
+    Ok(end)
 }
 
-fn scenarios(s: &[u8], file: &mut [u8], jrn: &mut [u8]) {
+fn scenarios(rt: &impl Print, s: &[u8], file: &mut [u8], jrn: &mut [u8]) -> io::Result<()> {
     let mut at = 0;
     while at < s.len() {
-        let next = scenario(s, at, file, jrn);
+        let next = scenario(rt, s, at, file, jrn)?;
         if next <= at {
-            text(b"bad packing\n");
-            return;
+            text(rt, b"bad packing\n")?;
+            return Ok(());
         }
         at = next;
     }
+    Ok(())
 }
 
-fn main() {
+fn main(rt: HostRuntime) -> io::Result<()> {
     let mut buffer = input();
     let mut file = room();
     let mut jrn = room();
-    let n = io::read_full(STDIN_FILENO, &mut buffer);
+    let n = read_full(&mut rt.stdin(), &mut buffer)?;
     if 1048575 < n {
-        text(b"too long\n");
-        return;
+        text(&rt, b"too long\n")?;
+        return Ok(());
     }
-    scenarios(&buffer[..n], &mut file, &mut jrn);
+    scenarios(&rt, &buffer[..n], &mut file, &mut jrn)
 }

@@ -10,37 +10,38 @@ ghost use Rattle.std.specs.Prelude.{◌+◌, ◌≤◌, length};
 
 use editor::{Answer, Outcome};
 use sampling::{checksum, field, labelled, refused, text};
+use std::io;
 
-pub fn lengths(len: usize, used: usize) {
-    labelled(b" L ", len as u64);
-    labelled(b" U ", used as u64);
+pub fn lengths(rt: &impl Print, len: usize, used: usize) -> io::Result<()> {
+    labelled(rt, b" L ", len as u64)?;
+    labelled(rt, b" U ", used as u64)
 }
 
-fn told(a: Answer) {
+fn told(rt: &impl Print, a: Answer) -> io::Result<()> {
     let outcome = a.outcome;
     match outcome {
-        Outcome::Done => text(b"done"),
-        Outcome::Refused { number, place } => refused(number, place),
+        Outcome::Done => text(rt, b"done")?,
+        Outcome::Refused { number, place } => refused(rt, number, place)?,
     }
-    lengths(a.len, a.used);
+    lengths(rt, a.len, a.used)
 }
 
-fn sums(file: &[u8], jrn: &[u8]) {
-    labelled(b" sums ", checksum(file));
-    labelled(b" ", checksum(jrn));
-    text(b"\n");
+fn sums(rt: &impl Print, file: &[u8], jrn: &[u8]) -> io::Result<()> {
+    labelled(rt, b" sums ", checksum(file))?;
+    labelled(rt, b" ", checksum(jrn))?;
+    text(rt, b"\n")
 }
 
 // L and U for the next call, from the step at `at`.
-fn given(s: &[u8], at: usize) -> Answer
+fn given(rt: &impl Print, s: &[u8], at: usize) -> io::Result<Answer>
     requires { at + 17 ≤ length s.now }
 {
-    text(b" given ");
-    Answer {
+    text(rt, b" given ")?;
+    Ok(Answer {
         outcome: Outcome::Done,
         len: field(s, at + 1) * 4294967296 + field(s, at + 5),
         used: field(s, at + 9) * 4294967296 + field(s, at + 13),
-    }
+    })
 }
 
 fn four(s: &[u8], at: usize) -> [u8; 4]
@@ -49,18 +50,26 @@ fn four(s: &[u8], at: usize) -> [u8; 4]
     [s[at], s[at + 1], s[at + 2], s[at + 3]]
 }
 
-fn undo(file: &mut [u8], jrn: &[u8], len: usize, used: usize, profile: u32) -> Answer {
-    text(b" undo ");
-    editor::undo(file, len, jrn, used, profile)
+fn undo(
+    rt: &impl Print,
+    file: &mut [u8],
+    jrn: &[u8],
+    len: usize,
+    used: usize,
+    profile: u32,
+) -> io::Result<Answer> {
+    text(rt, b" undo ")?;
+    Ok(editor::undo(file, len, jrn, used, profile))
 }
 
-fn blank(file: &mut [u8]) -> Answer {
-    text(b" blank ");
-    editor::blank(file)
+fn blank(rt: &impl Print, file: &mut [u8]) -> io::Result<Answer> {
+    text(rt, b" blank ")?;
+    Ok(editor::blank(file))
 }
 
 // The edit of the step at `at`, with the data d.
 fn edit(
+    rt: &impl Print,
     s: &[u8],
     at: usize,
     d: &[u8],
@@ -69,7 +78,7 @@ fn edit(
     len: usize,
     used: usize,
     profile: u32,
-) -> Answer
+) -> io::Result<Answer>
     requires { at + 17 ≤ length s.now }
 {
     let usage = four(s, at + 1);
@@ -77,27 +86,28 @@ fn edit(
     let kind = four(s, at + 9);
     match s[at] {
         1 => {
-            text(b" add ");
-            editor::add(file, len, jrn, used, profile, usage, number, kind, d)
+            text(rt, b" add ")?;
+            Ok(editor::add(file, len, jrn, used, profile, usage, number, kind, d))
         }
         2 => {
-            text(b" replace ");
-            editor::replace(file, len, jrn, used, profile, usage, number, kind, d)
+            text(rt, b" replace ")?;
+            Ok(editor::replace(file, len, jrn, used, profile, usage, number, kind, d))
         }
         3 => {
-            text(b" remove ");
-            editor::remove(file, len, jrn, used, profile, usage, number)
+            text(rt, b" remove ")?;
+            Ok(editor::remove(file, len, jrn, used, profile, usage, number))
         }
         _ => {
-            text(b" link ");
+            text(rt, b" link ")?;
             let chosen = field(s, at + 13) as u32;
-            editor::link(file, len, jrn, used, profile, usage, number, kind, chosen)
+            Ok(editor::link(file, len, jrn, used, profile, usage, number, kind, chosen))
         }
     }
 }
 
 // The call of the step at `at`, with the data d.
 fn call(
+    rt: &impl Print,
     s: &[u8],
     at: usize,
     d: &[u8],
@@ -106,14 +116,14 @@ fn call(
     len: usize,
     used: usize,
     profile: u32,
-) -> Answer
+) -> io::Result<Answer>
     requires { at + 17 ≤ length s.now }
 {
     match s[at] {
-        0 => blank(file),
-        1..=3 | 6 => edit(s, at, d, file, jrn, len, used, profile),
-        5 => given(s, at),
-        _ => undo(file, jrn, len, used, profile),
+        0 => blank(rt, file),
+        1..=3 | 6 => edit(rt, s, at, d, file, jrn, len, used, profile),
+        5 => given(rt, s, at),
+        _ => undo(rt, file, jrn, len, used, profile),
     }
 }
 
@@ -134,6 +144,7 @@ pub struct Next {
 
 // The step at `at`: says what it answers, and the sums of both buffers after it.
 pub fn step(
+    rt: &impl Print,
     s: &[u8],
     at: usize,
     file: &mut [u8],
@@ -141,24 +152,24 @@ pub fn step(
     len: usize,
     used: usize,
     profile: u32,
-) -> Next {
+) -> io::Result<Next> {
     if s.len() < 17 {
-        return Next { at: 0, len, used };
+        return Ok(Next { at: 0, len, used });
     }
     if s.len() - 17 < at {
-        return Next { at: 0, len, used };
+        return Ok(Next { at: 0, len, used });
     }
     let from = at + 17;
     let end = from + size(s[at], field(s, at + 13));
     if s.len() < end {
-        return Next { at: 0, len, used };
+        return Ok(Next { at: 0, len, used });
     }
-    let a = call(s, at, &s[from..end], file, jrn, len, used, profile);
-    told(a);
-    sums(file, jrn);
-    Next {
+    let a = call(rt, s, at, &s[from..end], file, jrn, len, used, profile)?;
+    told(rt, a)?;
+    sums(rt, file, jrn)?;
+    Ok(Next {
         at: end,
         len: a.len,
         used: a.used,
-    }
+    })
 }

@@ -5,7 +5,7 @@
 use mathlib.Core.Path.{◌≡◌}
 use Prim.Native.Nat.{ℕ}
 use mathlib.Core.List.{List, [], ◌∷◌}
-use denote.Ref.{Bor}
+use denote.Ref.{Bor, MutBor}
 use contract.Lifetimes.{Lfts}
 use denote.Triple.Clauses.{AtExit}
 use borrow.Fn.World.{ArgsD, ResD}
@@ -44,11 +44,14 @@ pub data Act : Type 0 where
   by_link : CallOf 2 link-kinds.ps link-kinds.r link_reads.Learnt → Act
   by_undo : CallOf 2 undo-kinds.ps undo-kinds.r undo-reads.Learnt → Act
 
--- the first four parameters of each function: what it is lent and given; the fifth is the profile
-abbrev pub lent : {X : Type 0} → Bor (List ℕ) × (ℕ × (Bor (List ℕ) × (ℕ × X))) → State
+-- the first four parameters of each function: what it is lent and given; the fifth is the profile. An undo is lent the journal to read only.
+abbrev pub lent : {X : Type 0} → MutBor (List ℕ) × (ℕ × (MutBor (List ℕ) × (ℕ × X))) → State
 lent (buf, (len, (jrn, (used, rest)))) = state buf.now len jrn.now used
 
-abbrev pub profiled : {X : Type 0} → Bor (List ℕ) × (ℕ × (Bor (List ℕ) × (ℕ × (ℕ × X)))) → ℕ
+abbrev pub lent_to_undo : {X : Type 0} → MutBor (List ℕ) × (ℕ × (Bor (List ℕ) × (ℕ × X))) → State
+lent_to_undo (buf, (len, (jrn, (used, rest)))) = state buf.now len jrn.now used
+
+abbrev pub profiled : {J X : Type 0} → MutBor (List ℕ) × (ℕ × (J × (ℕ × (ℕ × X)))) → ℕ
 profiled (buf, (len, (jrn, (used, (profile, rest))))) = profile
 
 abbrev pub state_of : Act → State
@@ -56,7 +59,7 @@ state_of (by_add x) = lent x.given
 state_of (by_replace x) = lent x.given
 state_of (by_remove x) = lent x.given
 state_of (by_link x) = lent x.given
-state_of (by_undo x) = lent x.given
+state_of (by_undo x) = lent_to_undo x.given
 
 abbrev pub profile_of : Act → ℕ
 profile_of (by_add x) = profiled x.given

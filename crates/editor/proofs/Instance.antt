@@ -10,7 +10,7 @@ use lib.Dec.{ltb, lit<, lit≤}
 use borrow.Author.Tests.{ltb-true}
 use mir.Syntax.{w8}
 use mir.Val.{vint}
-use denote.Ref.{Bor}
+use denote.Ref.{Bor, MutBor}
 use denote.Shadow.{shadow}
 use denote.Plain.{UInt}
 use denote.Array.{each}
@@ -46,6 +46,9 @@ use Rattle.editor.proofs.DemandThree.{code_as_ledger}
 abbrev slice : List ℕ → Bor (List ℕ)
 slice xs = record { ref_ptr = (0, 0); now = xs }
 
+abbrev slice_to_write : List ℕ → MutBor (List ℕ)
+slice_to_write xs = record { ref_ptr = (0, 0); ghost_name = 0; now = xs }
+
 -- numbers and lengths below 1,000 fit every type, and four bytes are a `[u8; 4]`
 room : (n : ℕ) → n < 1000 → (n < 18446744073709551616) × (n * 1 < 9223372036854775808)
 room n h = (omega arith, omega arith)
@@ -74,9 +77,9 @@ module _ (s : State) (small : Small s) where
       let t : State = step (rules_of 1) s (edit (add (rd32 usage) n (rd32 kind) d)) in
       by_add (record {
         lifetimes = ([], ([], ([], tt)));
-        given = (slice s.buffer, (s.L, (slice s.journal, (s.U, (1, (usage, (n, (kind, (slice d, tt)))))))));
+        given = (slice_to_write s.buffer, (s.L, (slice_to_write s.journal, (s.U, (1, (usage, (n, (kind, (slice d, tt)))))))));
         answer = r;
-        left = (slice t.buffer, (s.L, (slice t.journal, (s.U, (1, (usage, (n, (kind, (slice d, tt)))))))));
+        left = (slice_to_write t.buffer, (s.L, (slice_to_write t.journal, (s.U, (1, (usage, (n, (kind, (slice d, tt)))))))));
         typed = (
           room _ small.buffer,
           (
@@ -112,9 +115,9 @@ module _ (s : State) (small : Small s) where
   undoing r told =
       by_undo (record {
         lifetimes = ([], ([], tt));
-        given = (slice s.buffer, (s.L, (slice s.journal, (s.U, (1, tt)))));
+        given = (slice_to_write s.buffer, (s.L, (slice s.journal, (s.U, (1, tt)))));
         answer = r;
-        left = (slice (step (rules_of 1) s undo).buffer, (s.L, (slice s.journal, (s.U, (1, tt)))));
+        left = (slice_to_write (step (rules_of 1) s undo).buffer, (s.L, (slice s.journal, (s.U, (1, tt)))));
         typed =
             (room _ small.buffer, ((refl, omega (arith, small.L)), (room _ small.journal, ((refl, omega (arith, small.U)), ((refl, lit< tt), tt)))));
         told = told;

@@ -7,7 +7,8 @@
 ghost use Rattle.std.specs.Prelude.{◌≡◌, length};
 
 use groups::{Listing, Picking};
-use libc::STDIN_FILENO;
+use intake::read_full;
+use std::io;
 
 fn room() -> [u8; 1048576]
     ensures { 1048576 ≡ length result }
@@ -22,55 +23,55 @@ fn slice_room() -> [u32; 16384]
 }
 
 // The answer of the list, and what is in the slice then.
-fn say_list(file: &[u8], rows: &mut [u32]) {
+fn say_list(rt: &impl Print, file: &[u8], rows: &mut [u32]) -> io::Result<()> {
     match groups::list(file, rows) {
-        Listing::Listed(n) => sampling::labelled(b"rows ", n as u64),
-        Listing::Refused { number, place } => sampling::refused(number, place),
+        Listing::Listed(n) => sampling::labelled(rt, b"rows ", n as u64)?,
+        Listing::Refused { number, place } => sampling::refused(rt, number, place)?,
     }
-    sampling::labelled(b" sum ", sampling::checksum_of_numbers(rows));
-    sampling::text(b"\n");
+    sampling::labelled(rt, b" sum ", sampling::checksum_of_numbers(rows))?;
+    sampling::text(rt, b"\n")
 }
 
-fn say_pick(file: &[u8], i: usize) {
-    sampling::labelled(b" ", i as u64);
-    sampling::text(b": ");
+fn say_pick(rt: &impl Print, file: &[u8], i: usize) -> io::Result<()> {
+    sampling::labelled(rt, b" ", i as u64)?;
+    sampling::text(rt, b": ")?;
     match groups::pick(file, i) {
         Picking::Picked { start, length } => {
-            sampling::labelled(b"at ", start as u64);
-            sampling::labelled(b" length ", length as u64);
+            sampling::labelled(rt, b"at ", start as u64)?;
+            sampling::labelled(rt, b" length ", length as u64)?;
         }
-        Picking::Refused { number, place } => sampling::refused(number, place),
+        Picking::Refused { number, place } => sampling::refused(rt, number, place)?,
     }
-    sampling::labelled(b" sum ", sampling::checksum(groups::picked(file, i)));
-    sampling::text(b"\n");
+    sampling::labelled(rt, b" sum ", sampling::checksum(groups::picked(file, i)))?;
+    sampling::text(rt, b"\n")
 }
 
 // The first rows are picked, and one that no file has.
-fn pick_rows(file: &[u8], picks: usize) {
+fn pick_rows(rt: &impl Print, file: &[u8], picks: usize) -> io::Result<()> {
     for i in 0..picks {
-        say_pick(file, i);
+        say_pick(rt, file, i)?;
     }
-    say_pick(file, 18446744073709551615);
+    say_pick(rt, file, 18446744073709551615)
 }
 
 // A slice of `count` numbers.
-fn ask(file: &[u8], count: usize, picks: usize) {
+fn ask(rt: &impl Print, file: &[u8], count: usize, picks: usize) -> io::Result<()> {
     let mut rows = slice_room();
     if 16384 < count {
-        sampling::text(b"too many numbers\n");
-        return;
+        sampling::text(rt, b"too many numbers\n")?;
+        return Ok(());
     }
-    say_list(file, &mut rows[..count]);
-    pick_rows(file, picks);
+    say_list(rt, file, &mut rows[..count])?;
+    pick_rows(rt, file, picks)
 }
 
 // The sample at `at`. Answers where the next one stands, or 0 where the packing is bad.
-fn sample(s: &[u8], at: usize) -> usize {
+fn sample(rt: &impl Print, s: &[u8], at: usize) -> io::Result<usize> {
     if s.len() < 16 {
-        return 0;
+        return Ok(0);
     }
     if s.len() - 16 < at {
-        return 0;
+        return Ok(0);
     }
     let name = at + 16;
     let file = name + blorb::be32_at(s, at) as usize;
@@ -78,32 +79,33 @@ fn sample(s: &[u8], at: usize) -> usize {
     let count = blorb::be32_at(s, at + 8) as usize;
     let picks = blorb::be32_at(s, at + 12) as usize;
     if s.len() < end {
-        return 0;
+        return Ok(0);
     }
-    sampling::text(&s[name..file]);
-    sampling::text(b": ");
-    ask(&s[file..end], count, picks);
-    end
+    sampling::text(rt, &s[name..file])?;
+    sampling::text(rt, b": ")?;
+    ask(rt, &s[file..end], count, picks)?;
+    Ok(end)
 }
 
-fn samples(s: &[u8]) {
+fn samples(rt: &impl Print, s: &[u8]) -> io::Result<()> {
     let mut at = 0;
     while at < s.len() {
-        let next = sample(s, at);
+        let next = sample(rt, s, at)?;
         if next <= at {
-            sampling::text(b"bad packing\n");
-            return;
+            sampling::text(rt, b"bad packing\n")?;
+            return Ok(());
         }
         at = next;
     }
+    Ok(())
 }
 
-fn main() {
+fn main(rt: HostRuntime) -> io::Result<()> {
     let mut buffer = room();
-    let n = io::read_full(STDIN_FILENO, &mut buffer);
+    let n = read_full(&mut rt.stdin(), &mut buffer)?;
     if 1048575 < n {
-        sampling::text(b"too long\n");
-        return;
+        sampling::text(&rt, b"too long\n")?;
+        return Ok(());
     }
-    samples(&buffer[..n]);
+    samples(&rt, &buffer[..n])
 }

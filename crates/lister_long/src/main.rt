@@ -1,6 +1,8 @@
 // Prints the listing of the Blorb file on standard input.
 #![tactic(auto)]
 
-fn main() {
-    listing_io::list_stdin();
+use std::io;
+
+fn main(rt: HostRuntime) -> io::Result<()> {
+    listing_io::list_stdin(&rt)
 }

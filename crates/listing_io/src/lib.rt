@@ -4,8 +4,10 @@
 ghost use Rattle.std.specs.Prelude.{◌≡◌, ◌≤◌, ◌++◌, length, drop};
 ghost use Rattle.listing.specs.Listing.{input_listing};
 
-use libc::{STDIN_FILENO, STDOUT_FILENO};
+use intake::read_full;
 use listing::Listed;
+use std::io;
+use std::io::Read;
 
 // The whole listing: 196,672 bytes are room for one of 4,096 entries, so that the other branch is never taken.
 fn list_whole(file: &[u8], longer: bool, out: &mut [u8]) -> usize
@@ -19,22 +21,24 @@ fn list_whole(file: &[u8], longer: bool, out: &mut [u8]) -> usize
     n
 }
 
-// Whether standard input has more, once n bytes were read into 65,536.
-fn more_follows(n: usize) -> bool {
+// Whether the input has more, once n bytes were read into 65,536.
+fn more_follows(reader: &mut impl Read, n: usize) -> io::Result<bool> {
     if n < 65536 {
-        return false;
+        return Ok(false);
     }
     let mut next = [0u8; 1];
-    0 < io::read_full(STDIN_FILENO, &mut next)
+    let more = read_full(reader, &mut next)?;
+    Ok(0 < more)
 }
 
 // Prints the listing of what stands on standard input: 65,536 bytes are read, and then one more shows longer input.
 // No contract can say what is read and written; list_whole's says what the bytes are.
-pub fn list_stdin() {
+pub fn list_stdin(rt: &(impl Input + Print)) -> io::Result<()> {
     let mut file = [0u8; 65536];
     let mut out = [0u8; 196672];
-    let n = io::read_full(STDIN_FILENO, &mut file);
-    let longer = more_follows(n);
+    let mut reader = rt.reader();
+    let n = read_full(&mut reader, &mut file)?;
+    let longer = more_follows(&mut reader, n)?;
     let to = list_whole(&file[..n], longer, &mut out);
-    io::write_all(STDOUT_FILENO, &out[..to]);
+    rt.write_all(&out[..to])
 }

@@ -11,7 +11,7 @@ use borrow.Author.Tests.{lt-ltb, le-ltb}
 use Rattle.blorb.specs.Bytes.{rd32}
 use Rattle.blorb.specs.Format.{Entry, Ref, ref_of, chunk_in, entry_from, entries_in}
 use Rattle.blorb.specs.Verdict.{Rules, Verdict, accept, refuse, entries_fault, known_usage_of, verdict}
-use Rattle.blorb.specs.Rules.{rules_of, profile_verdict, optional}
+use Rattle.blorb.specs.Rules.{rules_of, profile_verdict}
 use Rattle.chunks.specs.Walk.{chunk_from, skip_at, chunks_from}
 use Rattle.blorb.proofs.Checks.{then_accept, check_accept}
 use Rattle.chunks.proofs.ChunkLaws.{fine}

@@ -31,7 +31,6 @@ use Rattle.reader.specs.declared.Piece.{Piece}
 use Rattle.reader.specs.declared.Target.{Target}
 use Rattle.reader.specs.declared.Target.TheVariants as target
 use Rattle.reader.specs.declared.Front.{Front}
-use Rattle.reader.specs.declared.Front.TheVariants as front
 use Rattle.reader.specs.declared.Facts.{Facts}
 use Rattle.reader.specs.declared.Inspection.TheVariants as inspection
 use Rattle.reader.specs.declared.Judgement.{Judgement}

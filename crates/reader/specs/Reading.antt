@@ -8,7 +8,6 @@ use Rattle.blorb.specs.Lookup.{left_out_of}
 use Rattle.chunks.specs.Walk.{chunk_from}
 use Rattle.blorb.specs.declared.Known.{Known}
 use Rattle.blorb.specs.declared.Known.TheVariants.{Is, Unknown}
-use Rattle.blorb.specs.declared.Entry.{Entry}
 use Rattle.blorb.specs.Usages.{usage_of}
 use Rattle.index.specs.Entries.{place}
 use Rattle.index.specs.Hits.{hit_in}

@@ -8,9 +8,10 @@
 ghost use Rattle.std.specs.Prelude.{◌≡◌, length};
 
 use blorb::Entry;
-use libc::STDIN_FILENO;
+use intake::read_full;
 use reader::{Asked, Looked, Reading};
 use sampling::{checksum, four_bytes, labelled, refused, text};
+use std::io;
 
 fn room() -> [u8; 1048576]
     ensures { 1048576 ≡ length result }
@@ -19,93 +20,102 @@ fn room() -> [u8; 1048576]
 }
 
 // The four bytes of a usage or a type.
-fn tag(code: u64) {
-    text(&four_bytes(code));
+fn tag(rt: &impl Print, code: u64) -> io::Result<()> {
+    text(rt, &four_bytes(code))
 }
 
-fn verdict(file: &[u8], profile: u32) {
+fn verdict(rt: &impl Print, file: &[u8], profile: u32) -> io::Result<()> {
     match reader::read(file, profile) {
         Reading::Accepted { length, count } => {
-            labelled(b"accepted ", length as u64);
-            labelled(b" bytes ", count as u64);
-            text(b" entries\n");
+            labelled(rt, b"accepted ", length as u64)?;
+            labelled(rt, b" bytes ", count as u64)?;
+            text(rt, b" entries\n")?;
         }
         Reading::Refused { number, place } => {
-            refused(number, place);
-            text(b"\n");
+            refused(rt, number, place)?;
+            text(rt, b"\n")?;
         }
     }
+    Ok(())
 }
 
-fn given(e: Entry) {
+fn given(rt: &impl Print, e: Entry) -> io::Result<()> {
     let u = e.usage;
-    tag(u.code());
-    labelled(b" ", e.number as u64);
-    labelled(b" at ", e.start as u64);
+    tag(rt, u.code())?;
+    labelled(rt, b" ", e.number as u64)?;
+    labelled(rt, b" at ", e.start as u64)
 }
 
-fn ask_entry(file: &[u8], profile: u32, i: usize) {
-    labelled(b" entry ", i as u64);
-    text(b": ");
+fn ask_entry(rt: &impl Print, file: &[u8], profile: u32, i: usize) -> io::Result<()> {
+    labelled(rt, b" entry ", i as u64)?;
+    text(rt, b": ")?;
     match reader::entry(file, profile, i) {
-        Asked::Given(e) => given(e),
-        Asked::Refused { number, place } => refused(number, place),
+        Asked::Given(e) => given(rt, e)?,
+        Asked::Refused { number, place } => refused(rt, number, place)?,
     }
-    text(b"\n");
+    text(rt, b"\n")
 }
 
-fn ask_pair(file: &[u8], profile: u32, usage: [u8; 4], n: u32) {
-    text(b" ");
-    text(&usage);
-    labelled(b" ", n as u64);
-    text(b": ");
+fn ask_pair(rt: &impl Print, file: &[u8], profile: u32, usage: [u8; 4], n: u32) -> io::Result<()> {
+    text(rt, b" ")?;
+    text(rt, &usage)?;
+    labelled(rt, b" ", n as u64)?;
+    text(rt, b": ")?;
     match reader::lookup(file, profile, usage, n) {
         Looked::Found {
             kind,
             start,
             length,
         } => {
-            tag(kind as u64);
-            labelled(b" at ", start as u64);
-            labelled(b" length ", length as u64);
+            tag(rt, kind as u64)?;
+            labelled(rt, b" at ", start as u64)?;
+            labelled(rt, b" length ", length as u64)?;
         }
-        Looked::Refused { number, place } => refused(number, place),
+        Looked::Refused { number, place } => refused(rt, number, place)?,
     }
     let part = reader::data(file, profile, usage, n);
-    labelled(b"; part ", part.len() as u64);
-    labelled(b" sum ", checksum(part));
-    text(b"\n");
+    labelled(rt, b"; part ", part.len() as u64)?;
+    labelled(rt, b" sum ", checksum(part))?;
+    text(rt, b"\n")
 }
 
 // One row of eight bytes: a pair, or an entry's number.
-fn ask(file: &[u8], profile: u32, row: &[u8], pair: bool) {
+fn ask(rt: &impl Print, file: &[u8], profile: u32, row: &[u8], pair: bool) -> io::Result<()> {
     if row.len() < 8 {
-        return;
+        return Ok(());
     }
     let high = blorb::be32_at(row, 0);
     let low = blorb::be32_at(row, 4);
     if pair {
-        ask_pair(file, profile, [row[0], row[1], row[2], row[3]], low as u32);
+        ask_pair(
+            rt,
+            file,
+            profile,
+            [row[0], row[1], row[2], row[3]],
+            low as u32,
+        )?;
     } else {
-        ask_entry(file, profile, (high * 4294967296 + low) as usize);
+        ask_entry(rt, file, profile, (high * 4294967296 + low) as usize)?;
     }
+    Ok(())
 }
 
-fn ask_all(file: &[u8], profile: u32, rows: &[u8], pair: bool) {
+fn ask_all(rt: &impl Print, file: &[u8], profile: u32, rows: &[u8], pair: bool) -> io::Result<()> {
     for k in 0..rows.len() / 8 {
         let at = 8 * k;
         let end = at + 8;
-        ask(file, profile, &rows[at..end], pair);
+        ask(rt, file, profile, &rows[at..end], pair)?;
     }
+    Ok(())
 }
 
 // The sample at `at`. Answers where the next one stands, or 0 where the packing is bad.
-fn sample(s: &[u8], at: usize) -> usize {
+fn sample(rt: &impl Print, s: &[u8], at: usize) -> io::Result<usize> {
     if s.len() < 20 {
-        return 0;
+        return Ok(0);
     }
     if s.len() - 20 < at {
-        return 0;
+        return Ok(0);
     }
     let name = at + 20;
     let file = name + blorb::be32_at(s, at) as usize;
@@ -114,34 +124,35 @@ fn sample(s: &[u8], at: usize) -> usize {
     let end = paired + 8 * blorb::be32_at(s, at + 12) as usize;
     let profile = blorb::be32_at(s, at + 16) as u32;
     if s.len() < end {
-        return 0;
+        return Ok(0);
     }
-    text(&s[name..file]);
-    text(b": ");
-    verdict(&s[file..asked], profile);
-    ask_all(&s[file..asked], profile, &s[asked..paired], false);
-    ask_all(&s[file..asked], profile, &s[paired..end], true);
-    end
+    text(rt, &s[name..file])?;
+    text(rt, b": ")?;
+    verdict(rt, &s[file..asked], profile)?;
+    ask_all(rt, &s[file..asked], profile, &s[asked..paired], false)?;
+    ask_all(rt, &s[file..asked], profile, &s[paired..end], true)?;
+    Ok(end)
 }
 
-fn samples(s: &[u8]) {
+fn samples(rt: &impl Print, s: &[u8]) -> io::Result<()> {
     let mut at = 0;
     while at < s.len() {
-        let next = sample(s, at);
+        let next = sample(rt, s, at)?;
         if next <= at {
-            text(b"bad packing\n");
-            return;
+            text(rt, b"bad packing\n")?;
+            return Ok(());
         }
         at = next;
     }
+    Ok(())
 }
 
-fn main() {
+fn main(rt: HostRuntime) -> io::Result<()> {
     let mut buffer = room();
-    let n = io::read_full(STDIN_FILENO, &mut buffer);
+    let n = read_full(&mut rt.stdin(), &mut buffer)?;
     if 1048575 < n {
-        text(b"too long\n");
-        return;
+        text(&rt, b"too long\n")?;
+        return Ok(());
     }
-    samples(&buffer[..n]);
+    samples(&rt, &buffer[..n])
 }

@@ -5,25 +5,25 @@ ghost use Rattle.std.specs.Prelude.{◌≡◌, ◌<◌, ◌^◌};
 ghost use Rattle.blorb.specs.Bytes.{be32};
 ghost use Rattle.sampling.specs.Samples.{checksum_of, loaded};
 
-use libc::STDOUT_FILENO;
+use std::io;
 
-pub fn text(s: &[u8]) {
-    io::write_all(STDOUT_FILENO, s);
+pub fn text(rt: &impl Print, s: &[u8]) -> io::Result<()> {
+    rt.write_all(s)
 }
 
-pub fn number(n: u64) {
-    io::print_decimal(STDOUT_FILENO, n);
+pub fn number(rt: &impl Print, n: u64) -> io::Result<()> {
+    rt.print(n)
 }
 
 // A number and what stands before it.
-pub fn labelled(label: &[u8], n: u64) {
-    text(label);
-    number(n);
+pub fn labelled(rt: &impl Print, label: &[u8], n: u64) -> io::Result<()> {
+    text(rt, label)?;
+    number(rt, n)
 }
 
-pub fn refused(k: u64, place: usize) {
-    labelled(b"refused ", k);
-    labelled(b" at ", place as u64);
+pub fn refused(rt: &impl Print, k: u64, place: usize) -> io::Result<()> {
+    labelled(rt, b"refused ", k)?;
+    labelled(rt, b" at ", place as u64)
 }
 
 fn wide(x: u8) -> u64
@@ -43,12 +43,12 @@ fn digit(x: u64) -> u8 {
     (48 + d / 10 * 49 + d % 10) as u8
 }
 
-pub fn hex(s: &[u8]) {
+pub fn hex(rt: &impl Print, s: &[u8]) -> io::Result<()> {
     for i in 0..s.len() {
         let x = wide(s[i]);
-        text(&[digit(x / 16), digit(x)]);
+        text(rt, &[digit(x / 16), digit(x)])?;
     }
-    text(b"\n");
+    text(rt, b"\n")
 }
 
 // A sum of the bytes that depends on their order.

@@ -7,9 +7,10 @@
 
 ghost use Rattle.std.specs.Prelude.{◌≡◌, ◌+◌, ◌≤◌, length};
 
-use libc::STDIN_FILENO;
+use intake::read_full;
 use sampling::{field, labelled, refused, text};
 use scaling::Scaling;
+use std::io;
 
 fn room() -> [u8; 1048576]
     ensures { 1048576 ≡ length result }
@@ -24,60 +25,64 @@ fn side(s: &[u8], at: usize) -> u64
     field(s, at) as u64 * 4294967296 + field(s, at + 4) as u64
 }
 
-fn told(answer: Scaling) {
+fn told(rt: &impl Print, answer: Scaling) -> io::Result<()> {
     match answer {
         Scaling::Sides { width, height } => {
-            labelled(b"", width);
-            labelled(b" by ", height);
+            labelled(rt, b"", width)?;
+            labelled(rt, b" by ", height)?;
         }
-        Scaling::Refused { number, place } => refused(number, place),
+        Scaling::Refused { number, place } => refused(rt, number, place)?,
     }
-    text(b"\n");
+    text(rt, b"\n")
 }
 
 // The sample at `at`. Answers where the next one stands, or 0 where the packing is bad.
-fn sample(s: &[u8], at: usize) -> usize {
+fn sample(rt: &impl Print, s: &[u8], at: usize) -> io::Result<usize> {
     if s.len() < at {
-        return 0;
+        return Ok(0);
     }
     let name = at + 48;
     let file = name + field(s, at);
     let end = file + field(s, at + 4);
     if s.len() < end {
-        return 0;
+        return Ok(0);
     }
-    text(&s[name..file]);
-    text(b": ");
-    told(scaling::scaled(
-        &s[file..end],
-        field(s, at + 8) as u32,
-        side(s, at + 16),
-        side(s, at + 24),
-        field(s, at + 12) as u32,
-        side(s, at + 32),
-        side(s, at + 40),
-    ));
-    end
+    text(rt, &s[name..file])?;
+    text(rt, b": ")?;
+    told(
+        rt,
+        scaling::scaled(
+            &s[file..end],
+            field(s, at + 8) as u32,
+            side(s, at + 16),
+            side(s, at + 24),
+            field(s, at + 12) as u32,
+            side(s, at + 32),
+            side(s, at + 40),
+        ),
+    )?;
+    Ok(end)
 }
 
-fn samples(s: &[u8]) {
+fn samples(rt: &impl Print, s: &[u8]) -> io::Result<()> {
     let mut at = 0;
     while at < s.len() {
-        let next = sample(s, at);
+        let next = sample(rt, s, at)?;
         if next <= at {
-            text(b"bad packing\n");
-            return;
+            text(rt, b"bad packing\n")?;
+            return Ok(());
         }
         at = next;
     }
+    Ok(())
 }
 
-fn main() {
+fn main(rt: HostRuntime) -> io::Result<()> {
     let mut buffer = room();
-    let n = io::read_full(STDIN_FILENO, &mut buffer);
+    let n = read_full(&mut rt.stdin(), &mut buffer)?;
     if 1048575 < n {
-        text(b"too long\n");
-        return;
+        text(&rt, b"too long\n")?;
+        return Ok(());
     }
-    samples(&buffer[..n]);
+    samples(&rt, &buffer[..n])
 }

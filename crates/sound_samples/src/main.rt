@@ -7,8 +7,9 @@
 ghost use Rattle.std.specs.Prelude.{◌≡◌, length};
 
 use aiff::Measured;
-use libc::STDIN_FILENO;
+use intake::read_full;
 use sampling::{field, labelled, refused, text};
+use std::io;
 
 fn room() -> [u8; 262144]
     ensures { 262144 ≡ length result }
@@ -16,7 +17,7 @@ fn room() -> [u8; 262144]
     [0; 262144]
 }
 
-fn told(bytes: &[u8]) {
+fn told(rt: &impl Print, bytes: &[u8]) -> io::Result<()> {
     match aiff::length(bytes) {
         Measured::Sound {
             channels,
@@ -25,52 +26,53 @@ fn told(bytes: &[u8]) {
             rate,
             seconds,
         } => {
-            labelled(b"channels ", channels as u64);
-            labelled(b" frames ", frames as u64);
-            labelled(b" sample size ", sample_size as u64);
-            labelled(b" rate ", rate as u64);
-            labelled(b" seconds ", seconds as u64);
+            labelled(rt, b"channels ", channels as u64)?;
+            labelled(rt, b" frames ", frames as u64)?;
+            labelled(rt, b" sample size ", sample_size as u64)?;
+            labelled(rt, b" rate ", rate as u64)?;
+            labelled(rt, b" seconds ", seconds as u64)?;
         }
-        Measured::Refused { number, place } => refused(number, place),
+        Measured::Refused { number, place } => refused(rt, number, place)?,
     }
-    text(b"\n");
+    text(rt, b"\n")
 }
 
 // The sample at `at`. Answers where the next one stands, or 0 where the packing is bad.
-fn sample(s: &[u8], at: usize) -> usize {
+fn sample(rt: &impl Print, s: &[u8], at: usize) -> io::Result<usize> {
     if s.len() < at {
-        return 0;
+        return Ok(0);
     }
     let name = at + 8;
     let bytes = name + field(s, at);
     let end = bytes + field(s, at + 4);
     if s.len() < end {
-        return 0;
+        return Ok(0);
     }
-    text(&s[name..bytes]);
-    text(b": ");
-    told(&s[bytes..end]);
-    end
+    text(rt, &s[name..bytes])?;
+    text(rt, b": ")?;
+    told(rt, &s[bytes..end])?;
+    Ok(end)
 }
 
-fn samples(s: &[u8]) {
+fn samples(rt: &impl Print, s: &[u8]) -> io::Result<()> {
     let mut at = 0;
     while at < s.len() {
-        let next = sample(s, at);
+        let next = sample(rt, s, at)?;
         if next <= at {
-            text(b"bad packing\n");
-            return;
+            text(rt, b"bad packing\n")?;
+            return Ok(());
         }
         at = next;
     }
+    Ok(())
 }
 
-fn main() {
+fn main(rt: HostRuntime) -> io::Result<()> {
     let mut buffer = room();
-    let n = io::read_full(STDIN_FILENO, &mut buffer);
+    let n = read_full(&mut rt.stdin(), &mut buffer)?;
     if 262143 < n {
-        text(b"too long\n");
-        return;
+        text(&rt, b"too long\n")?;
+        return Ok(());
     }
-    samples(&buffer[..n]);
+    samples(&rt, &buffer[..n])
 }

@@ -8,8 +8,9 @@
 
 ghost use Rattle.std.specs.Prelude.{◌≡◌, length};
 
-use libc::STDIN_FILENO;
+use intake::read_full;
 use sampling::{checksum_of_numbers, labelled, load, refused, text};
+use std::io;
 use table::{Built, Checked, Found, Searched};
 
 fn room() -> [u8; 1048576]
@@ -24,122 +25,148 @@ fn slice_room() -> [u32; 16384]
     [7; 16384]
 }
 
-fn say_checked(answer: Checked) {
+fn say_checked(rt: &impl Print, answer: Checked) -> io::Result<()> {
     match answer {
-        Checked::Accepted => text(b"accepted"),
-        Checked::Refused { number, place } => refused(number, place),
+        Checked::Accepted => text(rt, b"accepted")?,
+        Checked::Refused { number, place } => refused(rt, number, place)?,
     }
+    Ok(())
 }
 
-fn say_searched(answer: Searched) {
+fn say_searched(rt: &impl Print, answer: Searched) -> io::Result<()> {
     let found = answer.found;
     match found {
         Found::At(start) => {
-            labelled(b"at ", start as u64);
+            labelled(rt, b"at ", start as u64)?;
         }
-        Found::Refused { number, place } => refused(number, place),
+        Found::Refused { number, place } => refused(rt, number, place)?,
     }
-    labelled(b" probes ", answer.probes as u64);
+    labelled(rt, b" probes ", answer.probes as u64)
 }
 
-fn say_search(t: &[u32], usage: [u8; 4], n: u32) {
-    labelled(b" ", blorb::be32_at(&usage, 0));
-    labelled(b" ", n as u64);
-    text(b": ");
-    say_searched(table::search(t, usage, n));
-    text(b"; in columns ");
-    say_searched(table::columns_search(t, usage, n));
-    text(b"\n");
+fn say_search(rt: &impl Print, t: &[u32], usage: [u8; 4], n: u32) -> io::Result<()> {
+    labelled(rt, b" ", blorb::be32_at(&usage, 0))?;
+    labelled(rt, b" ", n as u64)?;
+    text(rt, b": ")?;
+    say_searched(rt, table::search(t, usage, n))?;
+    text(rt, b"; in columns ")?;
+    say_searched(rt, table::columns_search(t, usage, n))?;
+    text(rt, b"\n")
 }
 
 // What was written in `t`.
-fn say_built(answer: Built, t: &[u32]) {
+fn say_built(rt: &impl Print, answer: Built, t: &[u32]) -> io::Result<()> {
     match answer {
         Built::Rows(rows) => {
-            labelled(b"rows ", rows as u64);
+            labelled(rt, b"rows ", rows as u64)?;
         }
-        Built::Refused { number, place } => refused(number, place),
+        Built::Refused { number, place } => refused(rt, number, place)?,
     }
-    labelled(b" sum ", checksum_of_numbers(t));
+    labelled(rt, b" sum ", checksum_of_numbers(t))
 }
 
-fn search_all(t: &[u32], pairs: &[u8]) {
+fn search_all(rt: &impl Print, t: &[u32], pairs: &[u8]) -> io::Result<()> {
     for k in 0..pairs.len() / 8 {
         let at = 8 * k;
         let number = blorb::be32_at(pairs, at + 4) as u32;
         say_search(
+            rt,
             t,
             [pairs[at], pairs[at + 1], pairs[at + 2], pairs[at + 3]],
             number,
-        );
+        )?;
     }
+    Ok(())
 }
 
 // The slice is checked as rows, and built anew.
-fn ask_rows(file: &[u8], profile: u32, t: &mut [u32]) {
-    say_checked(table::check(file, profile, t));
-    text(b"; ");
+fn ask_rows(rt: &impl Print, file: &[u8], profile: u32, t: &mut [u32]) -> io::Result<()> {
+    say_checked(rt, table::check(file, profile, t))?;
+    text(rt, b"; ")?;
     let built = table::build(file, profile, t);
-    say_built(built, t);
-    text(b"; then ");
-    say_checked(table::check(file, profile, t));
-    text(b"\n");
+    say_built(rt, built, t)?;
+    text(rt, b"; then ")?;
+    say_checked(rt, table::check(file, profile, t))?;
+    text(rt, b"\n")
 }
 
 // The slice is checked as columns, and turned in a second one: into columns, and as columns into rows.
-fn ask_columns(file: &[u8], profile: u32, t: &[u32], second: &mut [u32]) {
-    text(b" columns: ");
-    say_checked(table::columns_check(file, profile, t));
-    text(b"; to columns ");
+fn ask_columns(
+    rt: &impl Print,
+    file: &[u8],
+    profile: u32,
+    t: &[u32],
+    second: &mut [u32],
+) -> io::Result<()> {
+    text(rt, b" columns: ")?;
+    say_checked(rt, table::columns_check(file, profile, t))?;
+    text(rt, b"; to columns ")?;
     let turned = table::to_columns(t, second);
-    say_built(turned, second);
-    text(b"; then ");
-    say_checked(table::columns_check(file, profile, second));
-    text(b"; to rows ");
+    say_built(rt, turned, second)?;
+    text(rt, b"; then ")?;
+    say_checked(rt, table::columns_check(file, profile, second))?;
+    text(rt, b"; to rows ")?;
     let back = table::to_rows(t, second);
-    say_built(back, second);
-    text(b"; then ");
-    say_checked(table::check(file, profile, second));
-    text(b"\n");
+    say_built(rt, back, second)?;
+    text(rt, b"; then ")?;
+    say_checked(rt, table::check(file, profile, second))?;
+    text(rt, b"\n")
 }
 
-fn ask(file: &[u8], profile: u32, numbers: &[u8], pairs: &[u8], t: &mut [u32], second: &mut [u32]) {
+fn ask(
+    rt: &impl Print,
+    file: &[u8],
+    profile: u32,
+    numbers: &[u8],
+    pairs: &[u8],
+    t: &mut [u32],
+    second: &mut [u32],
+) -> io::Result<()> {
     load(numbers, t);
-    ask_rows(file, profile, t);
+    ask_rows(rt, file, profile, t)?;
     load(numbers, t);
-    ask_columns(file, profile, t, second);
-    search_all(t, pairs);
+    ask_columns(rt, file, profile, t, second)?;
+    search_all(rt, t, pairs)
 }
 
 // A slice of `count` numbers, and a second one of `room` numbers.
-fn ask_slices(file: &[u8], profile: u32, numbers: &[u8], count: usize, room: usize, pairs: &[u8]) {
+fn ask_slices(
+    rt: &impl Print,
+    file: &[u8],
+    profile: u32,
+    numbers: &[u8],
+    count: usize,
+    room: usize,
+    pairs: &[u8],
+) -> io::Result<()> {
     let mut t = slice_room();
     let mut second = slice_room();
     if 16384 < count {
-        text(b"too many numbers\n");
-        return;
+        text(rt, b"too many numbers\n")?;
+        return Ok(());
     }
     if 16384 < room {
-        text(b"too many numbers\n");
-        return;
+        text(rt, b"too many numbers\n")?;
+        return Ok(());
     }
     ask(
+        rt,
         file,
         profile,
         numbers,
         pairs,
         &mut t[..count],
         &mut second[..room],
-    );
+    )
 }
 
 // The sample at `at`. Answers where the next one stands, or 0 where the packing is bad.
-fn sample(s: &[u8], at: usize) -> usize {
+fn sample(rt: &impl Print, s: &[u8], at: usize) -> io::Result<usize> {
     if s.len() < 24 {
-        return 0;
+        return Ok(0);
     }
     if s.len() - 24 < at {
-        return 0;
+        return Ok(0);
     }
     let name = at + 24;
     let file = name + blorb::be32_at(s, at) as usize;
@@ -150,39 +177,41 @@ fn sample(s: &[u8], at: usize) -> usize {
     let end = pairs + 8 * blorb::be32_at(s, at + 16) as usize;
     let profile = blorb::be32_at(s, at + 20) as u32;
     if s.len() < end {
-        return 0;
+        return Ok(0);
     }
-    text(&s[name..file]);
-    text(b": ");
+    text(rt, &s[name..file])?;
+    text(rt, b": ")?;
     ask_slices(
+        rt,
         &s[file..numbers],
         profile,
         &s[numbers..pairs],
         count,
         room,
         &s[pairs..end],
-    );
-    end
+    )?;
+    Ok(end)
 }
 
-fn samples(s: &[u8]) {
+fn samples(rt: &impl Print, s: &[u8]) -> io::Result<()> {
     let mut at = 0;
     while at < s.len() {
-        let next = sample(s, at);
+        let next = sample(rt, s, at)?;
         if next <= at {
-            text(b"bad packing\n");
-            return;
+            text(rt, b"bad packing\n")?;
+            return Ok(());
         }
         at = next;
     }
+    Ok(())
 }
 
-fn main() {
+fn main(rt: HostRuntime) -> io::Result<()> {
     let mut buffer = room();
-    let n = io::read_full(STDIN_FILENO, &mut buffer);
+    let n = read_full(&mut rt.stdin(), &mut buffer)?;
     if 1048575 < n {
-        text(b"too long\n");
-        return;
+        text(&rt, b"too long\n")?;
+        return Ok(());
     }
-    samples(&buffer[..n]);
+    samples(&rt, &buffer[..n])
 }

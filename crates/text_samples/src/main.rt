@@ -8,8 +8,9 @@
 ghost use Rattle.std.specs.Prelude.{◌≡◌, length};
 
 use descriptions::{Described, Told};
-use libc::STDIN_FILENO;
+use intake::read_full;
 use sampling::{field, four_bytes, hex, labelled, refused, text};
+use std::io;
 
 fn room() -> [u8; 262144]
     ensures { 262144 ≡ length result }
@@ -18,13 +19,13 @@ fn room() -> [u8; 262144]
 }
 
 // The bytes of the text, in hexadecimal; there are none where a call refuses.
-fn part(bytes: &[u8]) {
-    text(b" text ");
-    hex(bytes);
+fn part(rt: &impl Print, bytes: &[u8]) -> io::Result<()> {
+    text(rt, b" text ")?;
+    hex(rt, bytes)
 }
 
-fn entry(file: &[u8], profile: u32, i: u64) {
-    labelled(b"  entry ", i);
+fn entry(rt: &impl Print, file: &[u8], profile: u32, i: u64) -> io::Result<()> {
+    labelled(rt, b"  entry ", i)?;
     match descriptions::describe(file, profile, i) {
         Described::Given {
             usage,
@@ -32,86 +33,95 @@ fn entry(file: &[u8], profile: u32, i: u64) {
             start,
             length,
         } => {
-            labelled(b": usage ", usage as u64);
-            labelled(b" number ", number as u64);
-            labelled(b" start ", start as u64);
-            labelled(b" length ", length as u64);
+            labelled(rt, b": usage ", usage as u64)?;
+            labelled(rt, b" number ", number as u64)?;
+            labelled(rt, b" start ", start as u64)?;
+            labelled(rt, b" length ", length as u64)?;
         }
         Described::Refused { number, place } => {
-            text(b": ");
-            refused(number, place);
+            text(rt, b": ")?;
+            refused(rt, number, place)?;
         }
     }
-    part(descriptions::text(file, profile, i));
+    part(rt, descriptions::text(file, profile, i))
 }
 
-fn pair(file: &[u8], profile: u32, usage: [u8; 4], number: u32) {
-    text(b"  pair: ");
+fn pair(rt: &impl Print, file: &[u8], profile: u32, usage: [u8; 4], number: u32) -> io::Result<()> {
+    text(rt, b"  pair: ")?;
     match descriptions::tell(file, profile, usage, number) {
         Told::Text { start, length } => {
-            labelled(b"start ", start as u64);
-            labelled(b" length ", length as u64);
+            labelled(rt, b"start ", start as u64)?;
+            labelled(rt, b" length ", length as u64)?;
         }
         Told::Refused { number: k, place } => {
-            refused(k, place);
+            refused(rt, k, place)?;
         }
     }
-    part(descriptions::told_text(file, profile, usage, number));
+    part(rt, descriptions::told_text(file, profile, usage, number))
 }
 
-fn ask(file: &[u8], profile: usize, usage: usize, number: usize) {
+fn ask(
+    rt: &impl Print,
+    file: &[u8],
+    profile: usize,
+    usage: usize,
+    number: usize,
+) -> io::Result<()> {
     let p = (profile % 4294967296) as u32;
-    entry(file, p, 0);
-    entry(file, p, 1);
-    entry(file, p, 2);
+    entry(rt, file, p, 0)?;
+    entry(rt, file, p, 1)?;
+    entry(rt, file, p, 2)?;
     pair(
+        rt,
         file,
         p,
         four_bytes(usage as u64),
         (number % 4294967296) as u32,
-    );
+    )
 }
 
 // The sample at `at`. Answers where the next one stands, or 0 where the packing is bad.
-fn sample(s: &[u8], at: usize) -> usize {
+fn sample(rt: &impl Print, s: &[u8], at: usize) -> io::Result<usize> {
     if s.len() < at {
-        return 0;
+        return Ok(0);
     }
     let name = at + 20;
     let file = name + field(s, at);
     let end = file + field(s, at + 4);
     if s.len() < end {
-        return 0;
+        return Ok(0);
     }
-    text(&s[name..file]);
-    text(b"\n");
+    text(rt, &s[name..file])?;
+    text(rt, b"\n")?;
     ask(
+        rt,
         &s[file..end],
         field(s, at + 8),
         field(s, at + 12),
         field(s, at + 16),
-    );
-    end
+    )?;
+    Ok(end)
 }
 
-fn samples(s: &[u8]) {
+fn samples(rt: &impl Print, s: &[u8]) -> io::Result<()> {
     let mut at = 0;
     while at < s.len() {
-        let next = sample(s, at);
+        let next = sample(rt, s, at)?;
         if next <= at {
-            text(b"bad packing\n");
-            return;
+            text(rt, b"bad packing\n")?;
+            return Ok(());
         }
         at = next;
     }
+    Ok(())
 }
 
-fn main() {
+fn main(rt: HostRuntime) -> io::Result<()> {
     let mut buffer = room();
-    let n = io::read_full(STDIN_FILENO, &mut buffer);
+    let n = read_full(&mut rt.stdin(), &mut buffer)?;
     if 262143 < n {
-        text(b"too long\n");
-        return;
+        text(&rt, b"too long\n")?;
+        return Ok(());
     }
-    samples(&buffer[..n]);
+    samples(&rt, &buffer[..n])
 }

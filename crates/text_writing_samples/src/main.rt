@@ -8,8 +8,9 @@
 ghost use Rattle.std.specs.Prelude.{◌≡◌, length};
 
 use describing::Writing;
-use libc::STDIN_FILENO;
+use intake::read_full;
 use sampling::{field, labelled, load, refused, text};
+use std::io;
 
 fn room() -> [u8; 524288]
     ensures { 524288 ≡ length result }
@@ -30,49 +31,61 @@ fn buffer_room() -> [u8; 65536]
 }
 
 // A short buffer is shown whole.
-fn show(buf: &[u8]) {
-    labelled(b" sum ", sampling::checksum(buf));
+fn show(rt: &impl Print, buf: &[u8]) -> io::Result<()> {
+    labelled(rt, b" sum ", sampling::checksum(buf))?;
     if 96 < buf.len() {
-        text(b"\n");
-        return;
+        text(rt, b"\n")?;
+        return Ok(());
     }
-    text(b" ");
-    sampling::hex(buf);
+    text(rt, b" ")?;
+    sampling::hex(rt, buf)
 }
 
-fn write(rows: &[u32], texts: &[u8], buf: &mut [u8]) {
+fn write(rt: &impl Print, rows: &[u32], texts: &[u8], buf: &mut [u8]) -> io::Result<()> {
     sampling::fill(buf, b"");
     match describing::write(rows, texts, buf) {
-        Writing::Written { length } => labelled(b"written ", length as u64),
-        Writing::Refused { number, place } => refused(number, place),
+        Writing::Written { length } => labelled(rt, b"written ", length as u64)?,
+        Writing::Refused { number, place } => refused(rt, number, place)?,
     }
-    show(buf);
+    show(rt, buf)
 }
 
-fn ask(numbers: &[u8], texts: &[u8], rows: &mut [u32], buf: &mut [u8]) {
+fn ask(
+    rt: &impl Print,
+    numbers: &[u8],
+    texts: &[u8],
+    rows: &mut [u32],
+    buf: &mut [u8],
+) -> io::Result<()> {
     load(numbers, rows);
-    write(rows, texts, buf);
+    write(rt, rows, texts, buf)
 }
 
 // A list of `count` numbers, and a buffer of `size` bytes.
-fn ask_slices(numbers: &[u8], count: usize, texts: &[u8], size: usize) {
+fn ask_slices(
+    rt: &impl Print,
+    numbers: &[u8],
+    count: usize,
+    texts: &[u8],
+    size: usize,
+) -> io::Result<()> {
     let mut rows = list_room();
     let mut buf = buffer_room();
     if 8192 < count {
-        text(b"too many numbers\n");
-        return;
+        text(rt, b"too many numbers\n")?;
+        return Ok(());
     }
     if 65536 < size {
-        text(b"too long a buffer\n");
-        return;
+        text(rt, b"too long a buffer\n")?;
+        return Ok(());
     }
-    ask(numbers, texts, &mut rows[..count], &mut buf[..size]);
+    ask(rt, numbers, texts, &mut rows[..count], &mut buf[..size])
 }
 
 // The sample at `at`. Answers where the next one stands, or 0 where the packing is bad.
-fn sample(s: &[u8], at: usize) -> usize {
+fn sample(rt: &impl Print, s: &[u8], at: usize) -> io::Result<usize> {
     if s.len() < at {
-        return 0;
+        return Ok(0);
     }
     let name = at + 16;
     let numbers = name + field(s, at);
@@ -80,32 +93,39 @@ fn sample(s: &[u8], at: usize) -> usize {
     let texts = numbers + 4 * count;
     let end = texts + field(s, at + 8);
     if s.len() < end {
-        return 0;
+        return Ok(0);
     }
-    text(&s[name..numbers]);
-    text(b": ");
-    ask_slices(&s[numbers..texts], count, &s[texts..end], field(s, at + 12));
-    end
+    text(rt, &s[name..numbers])?;
+    text(rt, b": ")?;
+    ask_slices(
+        rt,
+        &s[numbers..texts],
+        count,
+        &s[texts..end],
+        field(s, at + 12),
+    )?;
+    Ok(end)
 }
 
-fn samples(s: &[u8]) {
+fn samples(rt: &impl Print, s: &[u8]) -> io::Result<()> {
     let mut at = 0;
     while at < s.len() {
-        let next = sample(s, at);
+        let next = sample(rt, s, at)?;
         if next <= at {
-            text(b"bad packing\n");
-            return;
+            text(rt, b"bad packing\n")?;
+            return Ok(());
         }
         at = next;
     }
+    Ok(())
 }
 
-fn main() {
+fn main(rt: HostRuntime) -> io::Result<()> {
     let mut buffer = room();
-    let n = io::read_full(STDIN_FILENO, &mut buffer);
+    let n = read_full(&mut rt.stdin(), &mut buffer)?;
     if 524287 < n {
-        text(b"too long\n");
-        return;
+        text(&rt, b"too long\n")?;
+        return Ok(());
     }
-    samples(&buffer[..n]);
+    samples(&rt, &buffer[..n])
 }

@@ -19,7 +19,7 @@ IS(BLORB_TEXT_NUMBERS, 4);
 /* Profiles (02, P12): 0 plain and 1 ADRIFT. The version is one number. */
 IS(BLORB_PLAIN, 0);
 IS(BLORB_ADRIFT, 1);
-IS(BLORB_VERSION, 2007000);
+IS(BLORB_VERSION, 2006000);
 IS(BLORB_VERSION, BLORB_VERSION_MAJOR * 1000000 + BLORB_VERSION_MINOR * 1000 + BLORB_VERSION_PATCH);
 
 /* Usages as numbers: four bytes, big-endian. */

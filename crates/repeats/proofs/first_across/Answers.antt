@@ -1,5 +1,4 @@
 use native.Mathlib.Omega.{arith}
-use mathlib.Core.Bool.{true}
 use Rattle.repeats.specs.Source.{Source, source, key}
 use Rattle.repeats.proofs.SearchLaws.{across_none, across_to, hit_among}
 use Rattle.repeats.proofs.SuspectLaws.{across_round, held-among}

@@ -1,5 +1,5 @@
 -- The four bytes are those of the definition.
-use mathlib.Core.Path.{refl}
+use Rattle.std.proofs.Common.{refl}
 use Rattle.blorb.specs.Bytes.{be32}
 use Rattle.sampling.proofs.four_bytes.Goals as goal
 

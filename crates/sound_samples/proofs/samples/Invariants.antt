@@ -1,10 +1,6 @@
--- The place of the next sample rises, whatever `sample` answers. Nothing has to hold from turn to turn.
-use Prim.Native.Nat.{◌-◌}
-use lib.ListN.{length}
+-- The place of the next sample rises, whatever `sample` answers. Nothing else has to hold from turn to turn.
+use Rattle.std.proofs.Common.{length, ◌-◌}
 use Rattle.sound_samples.proofs.samples.Given as goal
 
-abbrev pub invariant-loop-at : goal.invariant-loop-at
-invariant-loop-at l = Unit {0}
-
 abbrev pub decreases-loop-at : goal.decreases-loop-at
-decreases-loop-at l = length l.s - l.at
+decreases-loop-at g l = length l.initial.s - l.at

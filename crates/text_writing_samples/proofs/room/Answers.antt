@@ -1,8 +1,7 @@
--- By the law of `replicate`: computing a list of so many zeros is too much for the check.
-use mathlib.Core.Path.{sym}
-use Prim.Native.Nat.{ℕ}
-use lib.ListN.{length-replicate}
+-- By the law of `replicate`: computing the list of so many zeros is too much for the check.
+use Rattle.std.proofs.Common.{ℕ, sym}
+use Rattle.std.proofs.lemmas.List.{length-replicate}
 use Rattle.text_writing_samples.proofs.room.Goals as goal
 
 pub returns : goal.returns
-returns c = sym (length-replicate {0} {A = ℕ} 524288 0)
+returns c = sym (length-replicate {A = ℕ} 524288 0)

@@ -1,8 +1,0 @@
--- By the law of `replicate`: computing the list of so many numbers is too much for the check.
-use mathlib.Core.Path.{sym}
-use Prim.Native.Nat.{ℕ}
-use lib.ListN.{length-replicate}
-use Rattle.form_samples.proofs.slice_room.Goals as goal
-
-pub returns : goal.returns
-returns c = sym (length-replicate {0} {A = ℕ} 16384 7)
