@@ -167,7 +167,7 @@ module _ (l : List ℕ) (u : ℕ) (inside : u ≤ length l) where
         turn true b c d = refl
         turn false b c d = refl
 
--- what a well_formed_lem last record tells: where its data lie, and that U less its length is U - (29 + m)
+-- what a well-formed last record tells: where its data lie, and that U less its length is U - (29 + m)
 pub record WellFormed (l : List ℕ) (u : ℕ) : Type 0 where
   pub room : 29 + length (last_rec (take u l)).body ≤ u
   pub lies : (last_rec (take u l)).body ≡ take (length (last_rec (take u l)).body) (drop (u - 4 - length (last_rec (take u l)).body) l)

@@ -79,7 +79,7 @@ zeros r =
     && (not (eqb r.kind 4 || eqb r.kind 5) || (eqb r.type 0 && eqb (length r.body) 0))
 
 -- "The last record is well formed if U is at least 29, its trailer lies between 25 and U − 4, m agrees, the kind is 1 to 4 and the fields
--- named zero are zero"; "a well_formed_lem kind is now 1 to 5" (02, P8)
+-- named zero are zero"; "a well-formed kind is now 1 to 5" (02, P8)
 unfoldable pub well_formed : List ℕ → Bool
 well_formed j =
     leb 29 (length j) && leb 25 (trailer j) && leb (trailer j) (length j - 4)

@@ -25,7 +25,7 @@ entry_line usage number start type size =
     be32 usage ++ text " " ++ decimal number ++ text " at " ++ decimal start ++ text " " ++ be32 type ++ text " " ++ decimal size ++ text "\n"
 
 -- an entry's line: type and length are what a lookup of its usage and number gives ("The lister prints the length of what a lookup gives", 02, P3),
--- the number after `at` is the entry's start. An accepted file's entries are all found (reader/proofs/Promises, entry-at).
+-- the number after `at` is the entry's start. An accepted file's entries are all found (reader/proofs/Promises, entry_at).
 abbrev pub line_by : Entry → Looked → List ℕ
 line_by e (Found type start size) = entry_line e.usage e.number e.start type size
 line_by e (Missing number place) = []

@@ -59,7 +59,7 @@ asked-none r h = rw h
 pub asked-start : (r : Record) → (eqb r.kind 3 || eqb r.kind 4) ≡ true → r.start - 12 ≡ asked_at r
 asked-start r h = rw h
 
--- a well_formed_lem record, by its kind
+-- a well-formed record, by its kind
 module _ (profile : ℕ) (b : List ℕ) (l : ℕ) (j : List ℕ) (u : ℕ) (r : Record) (t : Facts) (a : UndoReady profile b l j u r t) where
   abbrev rec : Rec
   rec = last_rec (take u j)
@@ -167,7 +167,7 @@ module _ (profile : ℕ) (b : List ℕ) (l : ℕ) (j : List ℕ) (u : ℕ) where
   unfolding undo_plan_of fault undo_fault check ◌then◌
   short_journal known h = rw (le-leb profile 1 known, lt-leb u (length j) h, and-false (leb l (length b)))
 
-  -- the refusals behind the reader's; fit is refusal 21's test of a well_formed_lem record
+  -- the refusals behind the reader's; fit is refusal 21's test of a well-formed record
   abbrev fit : Bool
   fit = fits (last_rec (take u j)) (model (take l b)) && accepted (verdict (rules_of profile) (undone_file (take l b) (take u j)))
 

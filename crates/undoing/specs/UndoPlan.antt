@@ -73,7 +73,7 @@ numbers_in Bad = record { kind = 0; usage = 0; number = 0; place = 0; start = 0;
 abbrev pub asked_at : Record → ℕ
 asked_at r = cond (eqb r.kind 3 || eqb r.kind 4) (r.start - 12) 0
 
--- the well_formed_lem last record r of the first u journal bytes, and what the reader tells of the accepted file in the first l bytes
+-- the well-formed last record r of the first u journal bytes, and what the reader tells of the accepted file in the first l bytes
 pub record UndoReady (profile : ℕ) (b : List ℕ) (l : ℕ) (j : List ℕ) (u : ℕ) (r : Record) (t : Facts) : Type 0 where
   pub inside : l ≤ length b
   pub within : u ≤ length j

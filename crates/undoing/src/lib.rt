@@ -337,7 +337,7 @@ fn plan_linked(facts: Facts, len: usize, r: Record) -> Undoing
     }
 }
 
-// 21 of a well_formed_lem last record `r`, or how its undo goes on, by its kind.
+// 21 of a well-formed last record `r`, or how its undo goes on, by its kind.
 fn plan_fitting(
     buf: &[u8],
     len: usize,

@@ -1,4 +1,4 @@
--- Each test decides as wholeOf does of a number over its own denominator.
+-- Each test decides as whole_of does of a number over its own denominator.
 use Rattle.aiff.proofs.RateLaws.{range-zero, range_big, range_whole}
 use Rattle.aiff.proofs.rate.in_range.Goals as goal
 
