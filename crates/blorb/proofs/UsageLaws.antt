@@ -16,25 +16,25 @@ use Rattle.blorb.specs.Verdict.{known_usage_of}
 use Rattle.blorb.specs.Rules.{plain_allows_of, adrift_allows_of, allows, one_of}
 use Rattle.blorb.specs.declared.Usage.{Usage}
 use Rattle.blorb.specs.declared.Usage.TheVariants.{Pict, Snd, Data, Exec}
-use Rattle.blorb.specs.declared.Known.TheVariants.{Is, Unknown}
+use Rattle.std.specs.Prelude.{Some, None}
 use Rattle.blorb.specs.Usages.{code_of, pick_known, usage_of, pict_type_of, snd_type_of, data_type_of, exec_type_of}
 
 -- usages
 known_go : (a b c d : Bool) (k : Usage) (u : ℕ) → (a ≡ true → u ≡ code_of Pict) → (b ≡ true → u ≡ code_of Snd) → (c ≡ true → u ≡ code_of Data)
     → (d ≡ true → u ≡ code_of Exec)
-    → pick_known a (Is Pict) (pick_known b (Is Snd) (pick_known c (Is Data) (pick_known d (Is Exec) Unknown))) ≡ Is k → (a || b || c || d ≡ true) × (u ≡ code_of k)
+    → pick_known a (Some Pict) (pick_known b (Some Snd) (pick_known c (Some Data) (pick_known d (Some Exec) None))) ≡ Some k → (a || b || c || d ≡ true) × (u ≡ code_of k)
 known_go true b c d k u p q r s e = (refl, let z : Pict ≡ k = cc in rw (← z) (p refl))
 known_go false true c d k u p q r s e = (refl, let z : Snd ≡ k = cc in rw (← z) (q refl))
 known_go false false true d k u p q r s e = (refl, let z : Data ≡ k = cc in rw (← z) (r refl))
 known_go false false false true k u p q r s e = (refl, let z : Exec ≡ k = cc in rw (← z) (s refl))
 known_go false false false false k u p q r s e = let z : ◌≡◌ {A = ℕ} 0 1 = cc in absurd (omega arith)
 
-pub known_is : (u : ℕ) (k : Usage) → usage_of u ≡ Is k → (known_usage_of u ≡ true) × (u ≡ code_of k)
+pub known_is : (u : ℕ) (k : Usage) → usage_of u ≡ Some k → (known_usage_of u ≡ true) × (u ≡ code_of k)
 unfolding usage_of
 known_is u k e = known_go (eqb u (code_of Pict)) (eqb u (code_of Snd)) (eqb u (code_of Data)) (eqb u (code_of Exec)) k u (eqb-true _ _) (eqb-true _ _)
     (eqb-true _ _) (eqb-true _ _) e
 
-unknown_go : (a b c d : Bool) → pick_known a (Is Pict) (pick_known b (Is Snd) (pick_known c (Is Data) (pick_known d (Is Exec) Unknown))) ≡ Unknown
+unknown_go : (a b c d : Bool) → pick_known a (Some Pict) (pick_known b (Some Snd) (pick_known c (Some Data) (pick_known d (Some Exec) None))) ≡ None
     → a || b || c || d ≡ false
 unknown_go true b c d e = cc
 unknown_go false true c d e = cc
@@ -42,7 +42,7 @@ unknown_go false false true d e = cc
 unknown_go false false false true e = cc
 unknown_go false false false false e = refl
 
-pub known_not : (u : ℕ) → usage_of u ≡ Unknown → known_usage_of u ≡ false
+pub known_not : (u : ℕ) → usage_of u ≡ None → known_usage_of u ≡ false
 unfolding usage_of
 known_not u e = unknown_go (eqb u (code_of Pict)) (eqb u (code_of Snd)) (eqb u (code_of Data)) (eqb u (code_of Exec)) e
 
@@ -69,26 +69,26 @@ rd32-take m s h = rw (get_or-take m s 0 0 (omega arith), get_or-take m s 1 0 (om
 
 -- the answers of of_code
 module _ (u : ℕ) where
-  pub code_pict : u ≡ code_of Pict → Is Pict ≡ usage_of u
+  pub code_pict : u ≡ code_of Pict → Some Pict ≡ usage_of u
   unfolding usage_of
   code_pict e = rw (eq-eqb u (code_of Pict) e)
 
   module _ (n1 : u ≡ code_of Pict → ⊥) where
-    pub code_snd : u ≡ code_of Snd → Is Snd ≡ usage_of u
+    pub code_snd : u ≡ code_of Snd → Some Snd ≡ usage_of u
     unfolding usage_of
     code_snd e = rw (ne_eqb u (code_of Pict) n1, eq-eqb u (code_of Snd) e)
 
     module _ (n2 : u ≡ code_of Snd → ⊥) where
-      pub code-data : u ≡ code_of Data → Is Data ≡ usage_of u
+      pub code-data : u ≡ code_of Data → Some Data ≡ usage_of u
       unfolding usage_of
       code-data e = rw (ne_eqb u (code_of Pict) n1, ne_eqb u (code_of Snd) n2, eq-eqb u (code_of Data) e)
 
       module _ (n3 : u ≡ code_of Data → ⊥) where
-        pub code_exec : u ≡ code_of Exec → Is Exec ≡ usage_of u
+        pub code_exec : u ≡ code_of Exec → Some Exec ≡ usage_of u
         unfolding usage_of
         code_exec e = rw (ne_eqb u (code_of Pict) n1, ne_eqb u (code_of Snd) n2, ne_eqb u (code_of Data) n3, eq-eqb u (code_of Exec) e)
 
-        pub code-none : (u ≡ code_of Exec → ⊥) → Unknown ≡ usage_of u
+        pub code-none : (u ≡ code_of Exec → ⊥) → None ≡ usage_of u
         unfolding usage_of
         code-none n4 = rw (ne_eqb u (code_of Pict) n1, ne_eqb u (code_of Snd) n2, ne_eqb u (code_of Data) n3, ne_eqb u (code_of Exec) n4)
 
@@ -100,7 +100,7 @@ none_allowed false false true d x y z w h = let q : ◌≡◌ {A = ℕ} 0 1 = cc
 none_allowed false false false true x y z w h = let q : ◌≡◌ {A = ℕ} 0 1 = cc in absurd (omega arith)
 none_allowed false false false false x y z w h = refl
 
-pub plain_unknown : (u : ℕ) (c : Chunk) → usage_of u ≡ Unknown → plain_allows_of u c ≡ false
+pub plain_unknown : (u : ℕ) (c : Chunk) → usage_of u ≡ None → plain_allows_of u c ≡ false
 unfolding plain_allows_of
 plain_unknown u c e = none_allowed (eqb u (code_of Pict)) (eqb u (code_of Snd)) (eqb u (code_of Data)) (eqb u (code_of Exec)) _ _ _ _ (known_not u e)
 
@@ -115,7 +115,7 @@ module _ (t : ℕ) (d : List ℕ) where
   pub snd_form : t ≡ FORM → 4 ≤ length d → eqb (rd32 d) AIFF ≡ plain_allows_of (code_of Snd) (chunk_of t d)
   snd_form e l = sym (plain_snd (chunk_of t d) ∙ rw (e, le-leb 4 (length d) l))
 
-pub allows_known : (p u : ℕ) (k : Usage) (c : Chunk) → usage_of u ≡ Is k → allows p (code_of k) c ≡ allows p u c
+pub allows_known : (p u : ℕ) (k : Usage) (c : Chunk) → usage_of u ≡ Some k → allows p (code_of k) c ≡ allows p u c
 allows_known p u k c e = ap (λ (v : ℕ). allows p v c) (sym (known_is u k e).1)
 
 -- rule 5 of a profile: what plain allows, or else what ADRIFT does
@@ -135,7 +135,7 @@ allows_also p u c e = rw e (go (plain_allows_of u c))
     go true = refl
     go false = refl
 
-pub allows_unknown : (p u : ℕ) (c : Chunk) → usage_of u ≡ Unknown → allows p u c ≡ false
+pub allows_unknown : (p u : ℕ) (c : Chunk) → usage_of u ≡ None → allows p u c ≡ false
 unfolding allows adrift_allows_of
 allows_unknown p u c e =
     rw (plain_unknown u c e) (none_more (eqb p 1) (eqb u (code_of Pict)) (eqb u (code_of Snd)) (eqb u (code_of Data)) (eqb u (code_of Exec)) _ _ (known_not u e))

@@ -13,3 +13,5 @@ pub mod Sound
 pub mod Keeps
 pub mod Lookup
 pub mod Usages
+pub mod Faults
+pub mod Refusals

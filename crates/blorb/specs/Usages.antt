@@ -1,5 +1,5 @@
 -- The four usages as one of four kinds each (01, rule 4), and rule 5 for each usage over a chunk's type and length.
-use Rattle.std.specs.Prelude.{ℕ, Bool, true, false, ◌&&◌, ◌||◌, eqb}
+use Rattle.std.specs.Prelude.{ℕ, Bool, true, false, ◌&&◌, ◌||◌, eqb, Option, Some, None}
 use Rattle.blorb.specs.Tags as tags
 use Rattle.blorb.specs.Tags.{
   JPEG,
@@ -25,8 +25,6 @@ use Rattle.blorb.specs.Tags.{
 }
 use Rattle.blorb.specs.declared.Usage.{Usage}
 use Rattle.blorb.specs.declared.Usage.TheVariants.{Pict, Snd, Data, Exec}
-use Rattle.blorb.specs.declared.Known.{Known}
-use Rattle.blorb.specs.declared.Known.TheVariants.{Is, Unknown}
 
 -- the four usages, as the four bytes of each
 abbrev pub code_of : Usage → ℕ
@@ -35,16 +33,16 @@ code_of Snd = tags.Snd
 code_of Data = tags.Data
 code_of Exec = tags.Exec
 
-abbrev pub pick_known : Bool → Known → Known → Known
+abbrev pub pick_known : Bool → Option Usage → Option Usage → Option Usage
 pick_known true a b = a
 pick_known false a b = b
 
-unfoldable pub usage_of : ℕ → Known
+unfoldable pub usage_of : ℕ → Option Usage
 usage_of n =
-    pick_known (eqb n (code_of Pict)) (Is Pict)
-    (pick_known (eqb n (code_of Snd)) (Is Snd)
-    (pick_known (eqb n (code_of Data)) (Is Data)
-    (pick_known (eqb n (code_of Exec)) (Is Exec) Unknown)))
+    pick_known (eqb n (code_of Pict)) (Some Pict)
+    (pick_known (eqb n (code_of Snd)) (Some Snd)
+    (pick_known (eqb n (code_of Data)) (Some Data)
+    (pick_known (eqb n (code_of Exec)) (Some Exec) None)))
 
 -- rule 5 by usage, as the code asks it: over a chunk's type and, for a picture, its length; a sound of type 'FORM' is asked apart
 abbrev pub pict_type_of : ℕ → ℕ → Bool

@@ -1,6 +1,8 @@
 // The terms of the Blorb format that reader and editor share: a number in four bytes, the four usages, and rule 5.
 #![tactic(auto)]
 
+mod refusal;
+
 ghost use Rattle.std.specs.Prelude.{◌≡◌, ◌+◌, ◌≤◌, ◌<◌, ◌^◌, ◌&&◌, eqb, length, drop};
 ghost use Rattle.blorb.specs.Bytes.{rd32};
 ghost use Rattle.blorb.specs.Little.{Little, swapped};
@@ -10,19 +12,15 @@ ghost use Rattle.blorb.specs.Rules.{plain_allows_of, adrift_allows_of, allows};
 ghost use Rattle.blorb.specs.declared.Usage.TheVariants.{Snd};
 ghost use Rattle.blorb.specs.Usages.{code_of, usage_of, pict_type_of, snd_type_of, data_type_of, exec_type_of};
 
+pub use refusal::{Fault, Refusal};
+
 // An entry's usage, once read: one of four kinds.
-#[derive(Clone, Copy)]
+#[derive(Clone, Copy, PartialEq, Eq, Debug)]
 pub enum Usage {
     Pict,
     Snd,
     Data,
     Exec,
-}
-
-#[derive(Clone, Copy)]
-pub enum Known {
-    Is(Usage),
-    Unknown,
 }
 
 // An entry of the index, its usage one of four kinds.
@@ -189,22 +187,22 @@ impl Usage {
     pub const EXEC: u64 = 0x45786563;
 
     // The usage that four bytes name, read as a number.
-    pub fn of_code(code: u64) -> Known
+    pub fn of_code(code: u64) -> Option<Usage>
         ensures { result ≡ usage_of code }
     {
         if code == Usage::PICT {
-            return Known::Is(Usage::Pict);
+            return Some(Usage::Pict);
         }
         if code == Usage::SND {
-            return Known::Is(Usage::Snd);
+            return Some(Usage::Snd);
         }
         if code == Usage::DATA {
-            return Known::Is(Usage::Data);
+            return Some(Usage::Data);
         }
         if code == Usage::EXEC {
-            return Known::Is(Usage::Exec);
+            return Some(Usage::Exec);
         }
-        Known::Unknown
+        None
     }
 
     // Its four bytes as a number.
@@ -265,7 +263,7 @@ impl Usage {
 pub fn type_allowed(profile: u32, code: u64, kind: u64, d: &[u8]) -> bool
     ensures { result ≡ allows profile code (chunk_of kind d.now) }
 {
-    let Known::Is(usage) = Usage::of_code(code) else {
+    let Some(usage) = Usage::of_code(code) else {
         return false;
     };
     usage.allows(profile, kind, d)
