@@ -1,9 +1,10 @@
 -- Chunks that no rule but those of chunks and entries speaks of.
-use Rattle.std.specs.Prelude.{◌≡◌, ℕ, List, [], ◌∷◌, Bool, true, ◌&&◌, ◌||◌, not, eqb}
+use Rattle.std.specs.Prelude.{◌≡◌, ℕ, List, [], ◌∷◌, Bool, true, ◌&&◌, ◌||◌, not, eqb, Result, IfOk}
 use Rattle.blorb.specs.Tags.{RIdx, RelN, Fspc}
 use Rattle.blorb.specs.Format.{Chunk}
-use Rattle.chunks.specs.Walk.{walk_from, chunks_from, verdict_of}
-use Rattle.chunks.specs.declared.Walked.{Walked}
+use Rattle.blorb.specs.Refusals.{verdict_of}
+use Rattle.blorb.specs.declared.refusal.Refusal.{Refusal}
+use Rattle.chunks.specs.Walk.{walk_from, chunks_from}
 
 abbrev pub ordinary_type : ℕ → Bool
 ordinary_type t = not (eqb t RIdx || (eqb t RelN || eqb t Fspc))
@@ -18,5 +19,5 @@ pub record Along (f : List ℕ) (from at : ℕ) (p : Bool) : Type 0 where
   pub ordinary : p ≡ true → all_ordinary (chunks_from f at) ≡ all_ordinary (chunks_from f from)
 
 -- what a walk from `from` on answers; if it says so, the chunks from `behind` on are ordinary
-abbrev pub Walks : Walked → List ℕ → ℕ → ℕ → Type 0
-Walks r f from behind = (verdict_of r.check ≡ walk_from f from) × (r.ordinary ≡ true → all_ordinary (chunks_from f behind) ≡ true)
+abbrev pub Walks : Result Bool Refusal → List ℕ → ℕ → ℕ → Type 0
+Walks r f from behind = (verdict_of r ≡ walk_from f from) × IfOk r (λ ordinary. ordinary ≡ true → all_ordinary (chunks_from f behind) ≡ true)

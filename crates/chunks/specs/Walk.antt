@@ -4,8 +4,6 @@ use Rattle.blorb.specs.Bytes.{rd32}
 use Rattle.blorb.specs.Tags.{RIdx}
 use Rattle.blorb.specs.Format.{Chunk, size, chunk_in, chunks_in, is_start}
 use Rattle.blorb.specs.Verdict.{Verdict, accept, refuse, check, walk_fault}
-use Rattle.chunks.specs.declared.Check.{Check}
-use Rattle.chunks.specs.declared.Check.TheVariants.{Good, Refused}
 
 -- the chunk at offset at, and the offset behind it
 abbrev pub chunk_from : List ℕ → ℕ → Chunk
@@ -29,11 +27,6 @@ walk_from f at = walk_fault (length f) at (drop at f)
 -- 8
 unfoldable pub first_fault : List ℕ → Verdict
 first_fault f = check (ltb 12 (length f) && eqb (rd32 (drop 12 f)) RIdx) 8 12
-
--- a check's answer as a verdict
-abbrev pub verdict_of : Check → Verdict
-verdict_of Good = accept
-verdict_of (Refused k p) = refuse k p
 
 -- what is found from base on is what is found from g on, for a start that is not before g
 abbrev pub Reached : List ℕ → ℕ → ℕ → Type 0

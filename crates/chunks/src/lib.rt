@@ -5,88 +5,84 @@ ghost use Rattle.std.specs.Prelude.{◌≡◌, ◌+◌, ◌≤◌, ◌<◌, leng
 ghost use Rattle.chunks.specs.Ordinary.{ordinary_type, all_ordinary, Walks};
 ghost use Rattle.blorb.specs.Verdict.{accept, head_fault, chunk_fault, second_index};
 ghost use Rattle.blorb.specs.Format.{is_start};
-ghost use Rattle.chunks.specs.Walk.{skip_at, chunks_from, walk_from, first_fault, verdict_of};
+ghost use Rattle.blorb.specs.Refusals.{verdict_of};
+ghost use Rattle.chunks.specs.Walk.{skip_at, chunks_from, walk_from, first_fault};
 
-// The answer of a part of the rules: nothing against the file, or the refusal.
-#[derive(Clone, Copy)]
-pub enum Check {
-    Good,
-    Refused { number: u64, place: usize },
-}
+use blorb::{Fault, Refusal};
 
 // Refusals 1 to 5: the file's length and its header.
-pub fn head(s: &[u8]) -> Check
+pub fn head(s: &[u8]) -> Result<(), Refusal>
     ensures { verdict_of result ≡ head_fault s.now }
 {
     if 16777216 < s.len() {
-        return Check::Refused {
-            number: 1,
+        return Err(Refusal {
+            fault: Fault::TooLong,
             place: 0,
-        };
+        });
     }
     if s.len() < 12 {
-        return Check::Refused {
-            number: 2,
+        return Err(Refusal {
+            fault: Fault::TooShort,
             place: 0,
-        };
+        });
     }
     if blorb::be32_at(s, 0) != blorb::FORM {
-        return Check::Refused {
-            number: 3,
+        return Err(Refusal {
+            fault: Fault::NoForm,
             place: 0,
-        };
+        });
     }
     if blorb::be32_at(s, 8) != blorb::IFRS {
-        return Check::Refused {
-            number: 4,
+        return Err(Refusal {
+            fault: Fault::NoIfrs,
             place: 8,
-        };
+        });
     }
     if 8 + blorb::be32_at(s, 4) as usize != s.len() {
-        return Check::Refused {
-            number: 5,
+        return Err(Refusal {
+            fault: Fault::FormLength,
             place: 4,
-        };
+        });
     }
-    Check::Good
+    Ok(())
 }
 
 // Refusals 6, 28, 29 and 7 of the chunk at `at`.
-pub fn chunk(s: &[u8], at: usize) -> Check
+pub fn chunk(s: &[u8], at: usize) -> Result<(), Refusal>
     requires { at < length s.now }
     ensures { verdict_of result ≡ chunk_fault at (drop at s.now) }
 {
     if s.len() - at < 8 {
-        return Check::Refused {
-            number: 6,
+        return Err(Refusal {
+            fault: Fault::ChunkCut,
             place: at,
-        };
+        });
     }
     let field = at + 4;
     let m = blorb::be32_at(s, field) as usize;
     let end = at + (8 + m);
     if s.len() < end {
-        return Check::Refused {
-            number: 28,
+        return Err(Refusal {
+            fault: Fault::ChunkLength,
             place: field,
-        };
+        });
     }
     if m % 2 == 0 {
-        return Check::Good;
+        return Ok(());
     }
     if s.len() <= end {
-        return Check::Refused {
-            number: 29,
+        return Err(Refusal {
+            fault: Fault::NoPadding,
             place: s.len(),
-        };
+        });
     }
     if s[end] == 0 {
-        return Check::Good;
+        return Ok(());
     }
-    Check::Refused {
-        number: 7,
+    Err(Refusal {
+        fault: Fault::Padding,
         place: end,
-    }
+    })
 }
 
 // Where the chunk behind the one at `at` begins.
@@ -98,109 +94,82 @@ pub fn skip(s: &[u8], at: usize) -> usize
     at + (8 + (m + m % 2))
 }
 
-// The answer of the walk; `ordinary` is true only where no chunk walked behind the first is an index, a 'RelN' or an 'Fspc'.
-#[derive(Clone, Copy)]
-pub struct Walked {
-    pub check: Check,
-    pub ordinary: bool,
-}
-
 pub fn is_ordinary(t: u64) -> bool
     ensures { result ≡ ordinary_type t }
 {
-    !((t == blorb::RIDX) | ((t == blorb::RELN) | (t == blorb::FSPC)))
+    !matches!(t, blorb::RIDX | blorb::RELN | blorb::FSPC)
 }
 
-// Refusals 6, 28, 29 and 7: the walk over the chunks from `from` on.
-fn walk_rest(s: &[u8], from: usize) -> Walked
+// Refusals 6, 28, 29 and 7: the walk over the chunks from `from` on. True only where no chunk walked is an index, a 'RelN' or an 'Fspc'.
+fn walk_rest(s: &[u8], from: usize) -> Result<bool, Refusal>
     ensures { Walks result s.now from from }
 {
     let mut at = from;
     let mut ordinary = true;
     while at < s.len() {
-        match chunk(s, at) {
-            Check::Good => {
-                ordinary = ordinary & is_ordinary(blorb::be32_at(s, at));
-                at = skip(s, at);
-            }
-            Check::Refused { number, place } => {
-                return Walked {
-                    check: Check::Refused { number, place },
-                    ordinary: false,
-                };
-            }
-        }
+        chunk(s, at)?;
+        ordinary &= is_ordinary(blorb::be32_at(s, at));
+        at = skip(s, at);
     }
-    Walked {
-        check: Check::Good,
-        ordinary,
-    }
+    Ok(ordinary)
 }
 
-// Refusals 6, 28, 29 and 7: the walk over all chunks.
-pub fn walk(s: &[u8]) -> Walked
+// Refusals 6, 28, 29 and 7: the walk over all chunks. True only where no chunk behind the first is an index, a 'RelN' or an 'Fspc'.
+pub fn walk(s: &[u8]) -> Result<bool, Refusal>
     ensures { Walks result s.now 12 (skip_at s.now 12) }
 {
     if s.len() <= 12 {
-        return Walked {
-            check: Check::Good,
-            ordinary: false,
-        };
+        return Ok(false);
     }
-    match chunk(s, 12) {
-        Check::Refused { number, place } => Walked {
-            check: Check::Refused { number, place },
-            ordinary: false,
-        },
-        Check::Good => walk_rest(s, skip(s, 12)),
-    }
+    chunk(s, 12)?;
+    walk_rest(s, skip(s, 12))
 }
 
 // Refusal 8, unless the first chunk is the index.
-pub fn first(s: &[u8]) -> Check
+pub fn first(s: &[u8]) -> Result<(), Refusal>
     requires { walk_from s.now 12 ≡ accept }
     ensures { verdict_of result ≡ first_fault s.now }
 {
     if s.len() <= 12 {
-        return Check::Refused {
-            number: 8,
+        return Err(Refusal {
+            fault: Fault::NoIndex,
             place: 12,
-        };
+        });
     }
     if blorb::be32_at(s, 12) != blorb::RIDX {
-        return Check::Refused {
-            number: 8,
+        return Err(Refusal {
+            fault: Fault::NoIndex,
             place: 12,
-        };
+        });
     }
-    Check::Good
+    Ok(())
 }
 
 // Refusal 9, unless no chunk from `from` on is an index.
-pub fn second(s: &[u8], from: usize) -> Check
+pub fn second(s: &[u8], from: usize) -> Result<(), Refusal>
     requires { walk_from s.now from ≡ accept }
     ensures { verdict_of result ≡ second_index from (chunks_from s.now from) }
 {
     let mut at = from;
     while at < s.len() {
         if blorb::be32_at(s, at) == blorb::RIDX {
-            return Check::Refused {
-                number: 9,
+            return Err(Refusal {
+                fault: Fault::SecondIndex,
                 place: at,
-            };
+            });
         }
         at = skip(s, at);
     }
-    Check::Good
+    Ok(())
 }
 
 // The same, where it may be known that there is none.
-pub fn second_if(ordinary: bool, s: &[u8], from: usize) -> Check
+pub fn second_if(ordinary: bool, s: &[u8], from: usize) -> Result<(), Refusal>
     requires { (walk_from s.now from ≡ accept) × (ordinary ≡ true → all_ordinary (chunks_from s.now from) ≡ true) }
     ensures { verdict_of result ≡ second_index from (chunks_from s.now from) }
 {
     if ordinary {
-        return Check::Good;
+        return Ok(());
     }
     second(s, from)
 }

@@ -1,5 +1,5 @@
 -- The entries of an index by their offsets, and refusals 12 to 16 and 27 from an entry on.
-use Rattle.std.specs.Prelude.{ℕ, zero, suc, ◌+◌, ◌*◌, ◌/◌, ◌%◌, ◌≤◌, ◌<◌, ◌≡◌, List, [], ◌∷◌, ◌++◌, Bool, false, ◌&&◌, ◌||◌, not, cond, length, get_or, drop, eqb}
+use Rattle.std.specs.Prelude.{ℕ, zero, suc, ◌+◌, ◌*◌, ◌/◌, ◌%◌, ◌≤◌, ◌<◌, ◌≡◌, List, [], ◌∷◌, ◌++◌, Bool, false, ◌&&◌, ◌||◌, not, cond, length, get_or, drop, eqb, ltb, Result, Ok, Option, Some, None}
 use Rattle.blorb.specs.Bytes.{rd32}
 use Rattle.blorb.specs.Usages.{code_of}
 use Rattle.blorb.specs.Format.{Entry, Ref, ref_of, entry_from, entries_in, is_start}
@@ -8,8 +8,8 @@ use Rattle.blorb.specs.Model.{start_of}
 use Rattle.blorb.specs.Rules.{allows, rules_of}
 use Rattle.chunks.specs.Walk.{chunk_from, chunks_from}
 use Rattle.blorb.specs.declared.Usage.TheVariants.{Exec}
-use Rattle.index.specs.declared.entries.Judged.{Judged}
-use Rattle.index.specs.declared.entries.Judged.TheVariants.{At, Fault}
+use Rattle.blorb.specs.declared.refusal.Refusal.{Refusal}
+use Rattle.blorb.specs.Refusals.{Refused}
 
 -- the usage, number and start of the entry at p
 abbrev pub usage_at : List ℕ → ℕ → ℕ
@@ -42,9 +42,9 @@ unfoldable pub unstarted_fault : List ℕ → ℕ → Verdict
 unstarted_fault f p = check (known_usage_of (usage_at f p)) 12 p then refuse 13 (p + 8)
 
 -- its start, or its fault
-abbrev pub judged_by : Verdict → ℕ → Judged
-judged_by accept x = At x
-judged_by (refuse k p) x = Fault k p
+abbrev pub judged_by : Verdict → ℕ → Result ℕ Refusal
+judged_by accept x = Ok x
+judged_by (refuse k p) x = Refused k p
 
 -- the first j entries
 unfoldable pub earlier : List ℕ → ℕ → ℕ → List Ref
@@ -79,6 +79,10 @@ Below f tops j = (i : ℕ) → i < j → number_at f (place i) < get_or tops (sl
 unfoldable pub pair_place : ℕ → ℕ → List Entry → ℕ
 pair_place u n [] = 0
 pair_place u n (e ∷ es) = cond (eqb e.usage u && eqb e.number n) 0 (suc (pair_place u n es))
+
+-- that place, where there is such an entry
+abbrev pub place_in : ℕ → ℕ → List Entry → Option ℕ
+place_in u n es = cond (ltb (pair_place u n es) (length es)) (Some (pair_place u n es)) None
 
 -- an entry other than entry i has the start x; the entries stand from place j on
 unfoldable pub start_again_of : ℕ → ℕ → ℕ → List Entry → Bool

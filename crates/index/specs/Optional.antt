@@ -1,18 +1,16 @@
 -- Refusals 17 to 19 from a chunk on, and the frontispiece's picture by the lookup.
-use Rattle.std.specs.Prelude.{ℕ, ◌+◌, ◌≤◌, ◌≡◌, List, [], ◌∷◌, Bool, false, ◌||◌, not, cond, length, drop, eqb}
+use Rattle.std.specs.Prelude.{ℕ, ◌+◌, ◌≤◌, ◌≡◌, List, [], ◌∷◌, Bool, false, ◌||◌, not, cond, length, drop, eqb, Option, Some, None}
 use Rattle.blorb.specs.Bytes.{rd32}
 use Rattle.blorb.specs.Format.{Chunk, size, entries_in}
 use Rattle.blorb.specs.Verdict.{Rules, Verdict, accept, ◌then◌, check, entries_fault}
 use Rattle.blorb.specs.Tags.{Pict, Rect, RelN, Fspc}
 use Rattle.chunks.specs.Walk.{chunks_from, walk_from}
 use Rattle.index.specs.Entries.{place}
-use Rattle.index.specs.declared.entries.Hit.{Hit}
-use Rattle.index.specs.declared.entries.Hit.TheVariants.{At, Nothing}
 use Rattle.index.specs.Hits.{hit_in}
 
-abbrev pub picture_by : List ℕ → Hit → Bool
-picture_by f (At x) = not (eqb (rd32 (drop x f)) Rect)
-picture_by f Nothing = false
+abbrev pub picture_by : List ℕ → Option ℕ → Bool
+picture_by f (Some x) = not (eqb (rd32 (drop x f)) Rect)
+picture_by f None = false
 
 -- the picture n is in the index of count entries, and isn't a 'Rect'
 unfoldable pub pictured : List ℕ → ℕ → ℕ → Bool

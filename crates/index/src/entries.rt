@@ -1,13 +1,15 @@
 // The entries of an index, and refusals 12 to 16 and 27.
-ghost use Rattle.std.specs.Prelude.{◌≡◌, ◌+◌, ◌*◌, ◌≤◌, ◌<◌, ◌||◌, not, length, drop, eqb};
-ghost use Rattle.blorb.specs.Verdict.{accept, refuse, chunk_fault, index_fault};
+ghost use Rattle.std.specs.Prelude.{◌≡◌, ℕ, ◌+◌, ◌*◌, ◌≤◌, ◌<◌, ◌||◌, not, length, drop, eqb};
+ghost use Rattle.blorb.specs.Verdict.{accept, chunk_fault, index_fault, pair_in};
 ghost use Rattle.blorb.specs.Format.{is_start, entries_in};
 ghost use Rattle.blorb.specs.Rules.{plain_allows_of};
 ghost use Rattle.blorb.specs.Usages.{code_of};
 ghost use Rattle.blorb.specs.declared.Usage.TheVariants.{Exec};
-ghost use Rattle.chunks.specs.Walk.{chunk_from, chunks_from, walk_from, verdict_of, Reached};
+ghost use Rattle.chunks.specs.Walk.{chunk_from, chunks_from, walk_from, Reached};
+ghost use Rattle.blorb.specs.Refusals.{verdict_of};
 ghost use Rattle.index.specs.Entries.{
   start_at,
+  earlier,
   place,
   typed_at,
   entry_fault,
@@ -18,80 +20,61 @@ ghost use Rattle.index.specs.Entries.{
   number_at,
   slot_of,
   entries_from,
-  pair_place,
+  place_in,
 };
 ghost use Rattle.index.specs.Hits.{hit_in};
 
-use blorb::{Known, Usage};
-use chunks::Check;
-
-// An entry's judgement: its start, where a chunk begins, or its fault.
-#[derive(Clone, Copy)]
-pub enum Judged {
-    At(usize),
-    Fault { number: u64, place: usize },
-}
-
-#[derive(Clone, Copy)]
-pub enum Hit {
-    At(usize),
-    Nothing,
-}
+use blorb::{Fault, Refusal, Usage};
 
 // Refusals 10 and 11: the index's length and count.
-pub fn shape(s: &[u8]) -> Check
+pub fn shape(s: &[u8]) -> Result<(), Refusal>
     requires { (12 < length s.now) × (walk_from s.now 12 ≡ accept) }
     ensures { verdict_of result ≡ index_fault (chunk_from s.now 12).body }
 {
     let m = blorb::be32_at(s, 16);
     if m < 4 {
-        return Check::Refused {
-            number: 10,
+        return Err(Refusal {
+            fault: Fault::IndexLength,
             place: 16,
-        };
+        });
     }
     let count = blorb::be32_at(s, 20);
     if m != 4 + 12 * count {
-        return Check::Refused {
-            number: 10,
+        return Err(Refusal {
+            fault: Fault::IndexLength,
             place: 16,
-        };
+        });
     }
     if 4096 < count {
-        return Check::Refused {
-            number: 11,
+        return Err(Refusal {
+            fault: Fault::TooMany,
             place: 20,
-        };
+        });
     }
-    Check::Good
+    Ok(())
 }
 
-// The place of the entry (code, number) among `count` entries: `count` where there is none.
-pub fn find_place(s: &[u8], count: usize, code: u64, number: u64) -> usize
+// The place of the entry (code, number) among `count` entries.
+pub fn find_place(s: &[u8], count: usize, code: u64, number: u64) -> Option<usize>
     requires { (count ≤ 4096) × (place count ≤ length s.now) }
-    ensures { result ≡ pair_place code number (entries_in count (drop 24 s.now)) }
+    ensures { result ≡ place_in code number (entries_in count (drop 24 s.now)) }
 {
-    let mut i: usize = 0;
-    while i < count {
+    for i in 0..count {
         let p = 24 + 12 * i;
         if (blorb::be32_at(s, p) == code) & (blorb::be32_at(s, p + 4) == number) {
-            return i;
+            return Some(i);
         }
-        i += 1;
     }
-    count
+    None
 }
 
 // Where its chunk begins.
-pub fn find(s: &[u8], count: usize, code: u64, number: u64) -> Hit
+pub fn find(s: &[u8], count: usize, code: u64, number: u64) -> Option<usize>
     requires { (count ≤ 4096) × (place count ≤ length s.now) }
     ensures { result ≡ hit_in code number (entries_in count (drop 24 s.now)) }
 {
-    let i = find_place(s, count, code, number);
-    if i < count {
-        return Hit::At(blorb::be32_at(s, 24 + 12 * i + 8) as usize);
-    }
-    Hit::Nothing
+    let i = find_place(s, count, code, number)?;
+    Some(blorb::be32_at(s, 24 + 12 * i + 8) as usize)
 }
 
 pub fn numbered(code: u64, number: u64) -> bool
@@ -156,24 +139,24 @@ fn begins_behind(s: &[u8], base: usize, from: usize, start: usize) -> bool
 }
 
 // The fault of the entry at `p` where no chunk begins at its start: refusal 12 or 13.
-fn unstarted(s: &[u8], p: usize) -> Judged
+fn unstarted(s: &[u8], p: usize) -> Result<usize, Refusal>
     requires { p + 12 ≤ length s.now }
     ensures { result ≡ judged_by (unstarted_fault s.now p) 0 }
 {
-    let Known::Is(_) = Usage::of_code(blorb::be32_at(s, p)) else {
-        return Judged::Fault {
-            number: 12,
+    if Usage::of_code(blorb::be32_at(s, p)).is_none() {
+        return Err(Refusal {
+            fault: Fault::UnknownUsage,
             place: p,
-        };
-    };
-    Judged::Fault {
-        number: 13,
-        place: p + 8,
+        });
     }
+    Err(Refusal {
+        fault: Fault::Start,
+        place: p + 8,
+    })
 }
 
 // Refusals 12 to 15 of the entry at `p`. The start is looked for first: the usage's test then leads straight to the one of its types.
-fn judge(s: &[u8], profile: u32, base: usize, from: usize, p: usize) -> Judged
+fn judge(s: &[u8], profile: u32, base: usize, from: usize, p: usize) -> Result<usize, Refusal>
     requires { (p + 12 ≤ length s.now) × (walk_from s.now base ≡ accept) × (walk_from s.now from ≡ accept) × Reached s.now base from }
     ensures { result ≡ judged_by (entry_fault profile s.now base p) (start_at s.now p) }
 {
@@ -182,84 +165,69 @@ fn judge(s: &[u8], profile: u32, base: usize, from: usize, p: usize) -> Judged
         return unstarted(s, p);
     }
     let code = blorb::be32_at(s, p);
-    let Known::Is(usage) = Usage::of_code(code) else {
-        return Judged::Fault {
-            number: 12,
+    let Some(usage) = Usage::of_code(code) else {
+        return Err(Refusal {
+            fault: Fault::UnknownUsage,
             place: p,
-        };
+        });
     };
     if !typed(s, profile, usage, start) {
-        return Judged::Fault {
-            number: 14,
+        return Err(Refusal {
+            fault: Fault::Type,
             place: p,
-        };
+        });
     }
     if !numbered(code, blorb::be32_at(s, p + 4)) {
-        return Judged::Fault {
-            number: 15,
+        return Err(Refusal {
+            fault: Fault::ExecNumber,
             place: p + 4,
-        };
+        });
     }
-    Judged::At(start)
+    Ok(start)
 }
 
-// Refusal 27 of the entry at `p`: its start is lower than that of the entry before it.
-fn unordered(p: usize) -> Check
-    requires { p ≤ 65536 }
-    ensures { verdict_of result ≡ refuse 27 (p + 8) }
+// Whether an entry before entry j has its pair.
+fn repeated(s: &[u8], j: usize) -> bool
+    requires { (j < 4096) × (place j + 8 ≤ length s.now) }
+    ensures { (base : ℕ) → result ≡ pair_in (usage_at s.now (place j)) (number_at s.now (place j)) (earlier s.now base j) }
 {
-    let field = p + 8;
-    Check::Refused {
-        number: 27,
-        place: field,
+    for i in 0..j {
+        if same_pair(s, i, j) {
+            return true;
+        }
     }
+    false
 }
 
 // Refusals 12 to 16 and 27, entry by entry. For each usage a number above all of its numbers so far is kept, so that
 // the search among the earlier entries runs only for an entry that could repeat one of them.
-pub fn entries(s: &[u8], profile: u32, count: usize) -> Check
+pub fn entries(s: &[u8], profile: u32, count: usize) -> Result<(), Refusal>
     requires { (count ≤ 4096) × (place count ≤ length s.now) × (walk_from s.now (place count) ≡ accept) }
     ensures { verdict_of result ≡ entries_from profile s.now (place count) 0 count }
 {
     let base = 24 + 12 * count;
-    let mut answer = Check::Good;
     let mut tops = [0u64; 8];
     let mut found = base;
-    let mut j: usize = 0;
-    'entries: while j < count {
+    for j in 0..count {
         let p = 24 + 12 * j;
         let before = found;
-        match judge(s, profile, base, before, p) {
-            Judged::Fault { number, place } => return Check::Refused { number, place },
-            Judged::At(start) => {
-                found = start;
-            }
-        }
+        found = judge(s, profile, base, before, p)?;
         let k = slot(blorb::be32_at(s, p));
         let number = blorb::be32_at(s, p + 4);
         if tops[k] <= number {
-            if found < before {
-                return unordered(p);
-            }
             tops[k] = number + 1;
-            j += 1;
-            continue 'entries;
-        }
-        let mut i: usize = 0;
-        while i < j {
-            if same_pair(s, i, j) {
-                answer = Check::Refused {
-                    number: 16,
-                    place: p,
-                };
-                break 'entries;
-            }
-            i += 1;
+        } else if repeated(s, j) {
+            return Err(Refusal {
+                fault: Fault::Repeated,
+                place: p,
+            });
         }
         if found < before {
-            return unordered(p);
+            return Err(Refusal {
+                fault: Fault::Order,
+                place: p + 8,
+            });
         }
-        j += 1;
     }
-    answer
+    Ok(())
 }

@@ -2,55 +2,55 @@
 ghost use Rattle.std.specs.Prelude.{◌≡◌, ◌+◌, ◌≤◌, ◌<◌, length, drop, eqb, ◌||◌};
 ghost use Rattle.blorb.specs.Bytes.{rd32};
 ghost use Rattle.blorb.specs.Verdict.{accept, check};
-ghost use Rattle.chunks.specs.Walk.{chunk_from, walk_from, verdict_of};
+ghost use Rattle.chunks.specs.Walk.{chunk_from, walk_from};
+ghost use Rattle.blorb.specs.Refusals.{verdict_of};
 ghost use Rattle.index.specs.Optional.{pictured, single_by, one_rule, optional_fault, EntriesPassed};
 
-use crate::entries::{Hit, find};
-use blorb::Usage;
-use chunks::Check;
+use crate::entries::find;
+use blorb::{Fault, Refusal, Usage};
 
 // Refusals 17 and 18 of an optional chunk at `at`: the first of its type, unless one stands `before`, with `right` bytes of data.
-fn single(s: &[u8], before: bool, right: u64, at: usize) -> Check
+fn single(s: &[u8], before: bool, right: u64, at: usize) -> Result<(), Refusal>
     requires { (at < length s.now) × (walk_from s.now at ≡ accept) }
     ensures { verdict_of result ≡ single_by before right at (chunk_from s.now at) }
 {
     if before {
-        return Check::Refused {
-            number: 17,
+        return Err(Refusal {
+            fault: Fault::SecondOptional,
             place: at,
-        };
+        });
     }
     if blorb::be32_at(s, at + 4) != right {
-        return Check::Refused {
-            number: 18,
+        return Err(Refusal {
+            fault: Fault::OptionalLength,
             place: at + 4,
-        };
+        });
     }
-    Check::Good
+    Ok(())
 }
 
 // Refusal 19 of the frontispiece at `at`: its picture is in the index, and no 'Rect'.
-fn frontispiece(s: &[u8], count: usize, at: usize) -> Check
+fn frontispiece(s: &[u8], count: usize, at: usize) -> Result<(), Refusal>
     requires { EntriesPassed s.now count × (at + 12 ≤ length s.now) }
     ensures { verdict_of result ≡ check (pictured s.now count (rd32 (drop (at + 8) s.now))) 19 (at + 8) }
 {
-    let Hit::At(start) = find(s, count, Usage::PICT, blorb::be32_at(s, at + 8)) else {
-        return Check::Refused {
-            number: 19,
+    let Some(start) = find(s, count, Usage::PICT, blorb::be32_at(s, at + 8)) else {
+        return Err(Refusal {
+            fault: Fault::Frontispiece,
             place: at + 8,
-        };
+        });
     };
     if blorb::be32_at(s, start) == blorb::RECT {
-        return Check::Refused {
-            number: 19,
+        return Err(Refusal {
+            fault: Fault::Frontispiece,
             place: at + 8,
-        };
+        });
     }
-    Check::Good
+    Ok(())
 }
 
 // Refusals 17 to 19 of the chunk at `at`; `reln` and `fspc` tell whether a 'RelN' and an 'Fspc' stand before it.
-fn optional_chunk(s: &[u8], count: usize, reln: bool, fspc: bool, at: usize) -> Check
+fn optional_chunk(s: &[u8], count: usize, reln: bool, fspc: bool, at: usize) -> Result<(), Refusal>
     requires { EntriesPassed s.now count × (at < length s.now) × (walk_from s.now at ≡ accept) }
     ensures { verdict_of result ≡ one_rule (pictured s.now count) reln fspc at (chunk_from s.now at) }
 {
@@ -59,22 +59,14 @@ fn optional_chunk(s: &[u8], count: usize, reln: bool, fspc: bool, at: usize) -> 
         return single(s, reln, 2, at);
     }
     if t != blorb::FSPC {
-        return Check::Good;
+        return Ok(());
     }
-    if let Check::Refused { number, place } = single(s, fspc, 4, at) {
-        return Check::Refused { number, place };
-    }
+    single(s, fspc, 4, at)?;
     frontispiece(s, count, at)
 }
 
-fn or_is(before: bool, t: u64, kind: u64) -> bool
-    ensures { result ≡ (before || eqb t kind) }
-{
-    before | (t == kind)
-}
-
 // Refusals 17 to 19: the optional chunks, by file position.
-pub fn optional(s: &[u8], count: usize) -> Check
+pub fn optional(s: &[u8], count: usize) -> Result<(), Refusal>
     requires { EntriesPassed s.now count }
     ensures { verdict_of result ≡ optional_fault s.now count }
 {
@@ -82,17 +74,11 @@ pub fn optional(s: &[u8], count: usize) -> Check
     let mut reln = false;
     let mut fspc = false;
     while at < s.len() {
-        match optional_chunk(s, count, reln, fspc, at) {
-            Check::Refused { number, place } => {
-                return Check::Refused { number, place };
-            }
-            Check::Good => {
-                let t = blorb::be32_at(s, at);
-                reln = or_is(reln, t, blorb::RELN);
-                fspc = or_is(fspc, t, blorb::FSPC);
-                at = chunks::skip(s, at);
-            }
-        }
+        optional_chunk(s, count, reln, fspc, at)?;
+        let t = blorb::be32_at(s, at);
+        reln |= t == blorb::RELN;
+        fspc |= t == blorb::FSPC;
+        at = chunks::skip(s, at);
     }
-    Check::Good
+    Ok(())
 }

@@ -1,5 +1,5 @@
 -- What is known along the straight way through a file, where chunks and entries are gone through side by side.
-use Rattle.std.specs.Prelude.{ℕ, ◌-◌, ◌≤◌, ◌<◌, ◌≡◌, List, Bool, true, false, ◌&&◌, not, length, drop, eqb}
+use Rattle.std.specs.Prelude.{ℕ, ◌-◌, ◌≤◌, ◌<◌, ◌≡◌, List, Bool, true, false, ◌&&◌, not, length, drop, eqb, Ok, Option, Some, None}
 use Rattle.blorb.specs.Bytes.{rd32}
 use Rattle.blorb.specs.Format.{is_start, chunk_of}
 use Rattle.blorb.specs.Usages.{code_of}
@@ -10,17 +10,7 @@ use Rattle.chunks.specs.Walk.{chunks_from, walk_from, skip_at, Reached}
 use Rattle.chunks.specs.Ordinary.{ordinary_type, all_ordinary, Along}
 use Rattle.index.specs.Entries.{usage_at, number_at, start_at, place, entry_fault, entries_from, earlier, Before}
 use Rattle.reader.specs.Passed.{JudgesEntries}
-use Rattle.reader.specs.declared.Judgement.TheVariants as judgement
-use Rattle.reader.specs.declared.straight.Fit.{Fit}
-use Rattle.reader.specs.declared.straight.Fit.TheVariants.{Suited, Unfit}
-use Rattle.reader.specs.declared.straight.Pair.{Pair}
-use Rattle.reader.specs.declared.straight.Pair.TheVariants.{New, Repeated}
-use Rattle.reader.specs.declared.straight.Next.{Next}
-use Rattle.reader.specs.declared.straight.Next.TheVariants.{At, Faulty}
-use Rattle.reader.specs.declared.straight.Step.{Step}
-use Rattle.reader.specs.declared.straight.Step.TheVariants.{To, Away}
-use Rattle.reader.specs.declared.straight.Straight.{Straight}
-use Rattle.reader.specs.declared.straight.Straight.TheVariants.{Good, Unsure}
+use Rattle.reader.specs.declared.Judged.{Judged}
 
 -- a walk has come from `from` to `at` over good chunks, none of them an index; where p holds, over ordinary ones alone
 pub record CameTo (f : List ℕ) (from at : ℕ) (p : Bool) : Type 0 where
@@ -41,16 +31,16 @@ pub record Stands (f : List ℕ) (base found at : ℕ) (p : Bool) : Type 0 where
   pub chunk : found < 4294967296 → ChunkAt f base found × (found ≤ at)
 
 -- what stands at start reads as a good chunk, which ends at `behind`; whether a chunk begins there is not said
-abbrev pub Over : Next → List ℕ → ℕ → Type 0
-Over (At behind) f start = (start < length f) × (chunk_fault start (drop start f) ≡ accept) × (behind ≡ skip_at f start)
-Over Faulty f start = Unit {0}
+abbrev pub Over : Option ℕ → List ℕ → ℕ → Type 0
+Over (Some behind) f start = (start < length f) × (chunk_fault start (drop start f) ≡ accept) × (behind ≡ skip_at f start)
+Over None f start = Unit {0}
 
 -- the walk has gone on to the chunk at start, and over it if its type is an ordinary one, or there is nothing to say
-abbrev pub Stepped : Step → List ℕ → ℕ → ℕ → ℕ → ℕ → Bool → Type 0
-Stepped (To behind ordinary) f base found at start q =
+abbrev pub Stepped : Option (ℕ × Bool) → List ℕ → ℕ → ℕ → ℕ → ℕ → Bool → Type 0
+Stepped (Some (behind, ordinary)) f base found at start q =
     (start < 4294967296 → ChunkAt f base start × (ordinary_type (rd32 (drop start f)) ≡ true → Stands f base start behind (q && ordinary)))
     × ((start ≡ found → ⊥) → at ≤ start)
-Stepped Away f base found at start q = Unit {0}
+Stepped None f base found at start q = Unit {0}
 
 -- 12, 14 and 15 are ruled out, so that only 13 is left to judge
 abbrev pub Suits : (profile : ℕ) → Bool → List ℕ → ℕ → Type 0
@@ -66,18 +56,18 @@ pub record Allowed (profile usage kind : ℕ) : Type 0 where
 abbrev pub Remembered : (profile usage kind : ℕ) → Type 0
 Remembered profile usage kind = usage < 4294967296 → Allowed profile usage kind
 
-abbrev pub Fitted : (profile : ℕ) → Fit → List ℕ → ℕ → Type 0
-Fitted profile (Suited usage kind) f p = Suits profile true f p × Remembered profile usage kind
-Fitted profile Unfit f p = Unit {0}
+abbrev pub Fitted : (profile : ℕ) → Option (ℕ × ℕ) → List ℕ → ℕ → Type 0
+Fitted profile (Some (usage, kind)) f p = Suits profile true f p × Remembered profile usage kind
+Fitted profile None f p = Unit {0}
 
 -- none of the first i entries has the pair of entry j
 abbrev pub FreshTo : List ℕ → (base j i : ℕ) → Type 0
 FreshTo f base j i = pair_in (usage_at f (place j)) (number_at f (place j)) (earlier f base i) ≡ false
 
 -- no earlier entry has the pair of entry j, and `above` is over its number and not under top
-abbrev pub Freshly : Pair → List ℕ → (j number top : ℕ) → Type 0
-Freshly (New above) f j number top = ((base : ℕ) → FreshTo f base j j) × (number < above) × (top ≤ above)
-Freshly Repeated f j number top = Unit {0}
+abbrev pub Freshly : Option ℕ → List ℕ → (j number top : ℕ) → Type 0
+Freshly (Some above) f j number top = ((base : ℕ) → FreshTo f base j j) × (number < above) × (top ≤ above)
+Freshly None f j number top = Unit {0}
 
 -- of an accepted walk: what the first j of count entries leave to judge
 pub record SoFar (profile : ℕ) (f : List ℕ) (base count j found at : ℕ) : Type 0 where
@@ -88,13 +78,13 @@ pub record SoFar (profile : ℕ) (f : List ℕ) (base count j found at : ℕ) : 
   pub level : found < 4294967296 → last ≤ found
 
 -- the whole index and all chunks have been gone through
-abbrev pub Alongside : (profile : ℕ) → Straight → List ℕ → ℕ → Type 0
-Alongside profile (Good n ordinary) f count =
-    (n ≡ count) × (walk_from f (place count) ≡ accept) × (second_index (place count) (chunks_from f (place count)) ≡ accept)
-    × (ordinary ≡ true → all_ordinary (chunks_from f (place count)) ≡ true) × (entries_from profile f (place count) 0 count ≡ accept)
-Alongside profile Unsure f count = Unit {0}
+abbrev pub Alongside : (profile : ℕ) → Option Judged → List ℕ → ℕ → Type 0
+Alongside profile (Some j) f count =
+    (j.count ≡ count) × (walk_from f (place count) ≡ accept) × (second_index (place count) (chunks_from f (place count)) ≡ accept)
+    × (j.ordinary ≡ true → all_ordinary (chunks_from f (place count)) ≡ true) × (entries_from profile f (place count) 0 count ≡ accept)
+Alongside profile None f count = Unit {0}
 
 -- refusals 1 to 16 and 27 to 29 are ruled out: 17 to 19 decide
-abbrev pub Straightly : (profile : ℕ) → Straight → List ℕ → Type 0
-Straightly profile (Good n ordinary) f = JudgesEntries profile (judgement.Good n ordinary) f
-Straightly profile Unsure f = Unit {0}
+abbrev pub Straightly : (profile : ℕ) → Option Judged → List ℕ → Type 0
+Straightly profile (Some j) f = JudgesEntries profile (Ok j) f
+Straightly profile None f = Unit {0}

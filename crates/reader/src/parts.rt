@@ -8,7 +8,7 @@ ghost use Rattle.index.specs.Entries.{place, start_at, start_again_of};
 ghost use Rattle.reader.specs.Inspecting.{piece_of, target_of, front_of, facts_of};
 ghost use Rattle.reader.specs.Passed.{Passed, model_at, Fronts, front_from_of};
 
-use crate::{Facts, Front, Piece, Target};
+use crate::{Facts, Frontispiece, Judged, Piece};
 use index::entries;
 
 // Whether an entry other than entry `i` has its start. Entries stand in the order of their chunks, so it would stand beside it.
@@ -44,42 +44,39 @@ fn piece(s: &[u8], count: usize, i: usize) -> Piece
 }
 
 // The chunk of the entry (code, number).
-fn target(s: &[u8], count: usize, code: u64, number: u64) -> Target
+fn target(s: &[u8], count: usize, code: u64, number: u64) -> Option<Piece>
     requires { Passed s.now count }
     ensures { result ≡ target_of (model_at s.now count) code number }
 {
-    let i = entries::find_place(s, count, code, number);
-    if i < count {
-        return Target::At(piece(s, count, i));
-    }
-    Target::Nothing
+    let i = entries::find_place(s, count, code, number)?;
+    Some(piece(s, count, i))
 }
 
 // The first frontispiece among the chunks from `from` on.
-fn front_from(s: &[u8], from: usize) -> Front
+fn front_from(s: &[u8], from: usize) -> Option<Frontispiece>
     requires { (length s.now ≤ 16777216) × (walk_from s.now from ≡ accept) × Fronts (chunks_from s.now from) }
     ensures { result ≡ front_from_of from (chunks_from s.now from) }
 {
     let mut at = from;
     while at < s.len() {
         if blorb::be32_at(s, at) == blorb::FSPC {
-            return Front::At {
+            return Some(Frontispiece {
                 start: at as u32,
                 number: blorb::be32_at(s, at + 8) as u32,
-            };
+            });
         }
         at = chunks::skip(s, at);
     }
-    Front::Nothing
+    None
 }
 
 // The frontispiece, where it may be known that there is none.
-fn front_if(ordinary: bool, s: &[u8], count: usize) -> Front
+fn front_if(ordinary: bool, s: &[u8], count: usize) -> Option<Frontispiece>
     requires { Passed s.now count × (ordinary ≡ true → all_ordinary (chunks_from s.now (place count)) ≡ true) }
     ensures { result ≡ front_of (model_at s.now count) }
 {
     if ordinary {
-        return Front::Nothing;
+        return None;
     }
     front_from(s, 24 + 12 * count)
 }
@@ -96,21 +93,14 @@ fn begins_at(s: &[u8], base: usize, at: usize) -> bool
 }
 
 // All that an accepted file tells.
-pub(crate) fn facts(
-    s: &[u8],
-    count: usize,
-    ordinary: bool,
-    code: u64,
-    number: u64,
-    at: usize,
-) -> Facts
-    requires { Passed s.now count × (ordinary ≡ true → all_ordinary (chunks_from s.now (place count)) ≡ true) }
-    ensures { result ≡ facts_of (model_at s.now count) code number at }
+pub(crate) fn facts(s: &[u8], judged: Judged, code: u64, number: u64, at: usize) -> Facts
+    requires { Passed s.now judged.count × (judged.ordinary ≡ true → all_ordinary (chunks_from s.now (place judged.count)) ≡ true) }
+    ensures { result ≡ facts_of (model_at s.now judged.count) code number at }
 {
     Facts {
-        count,
-        target: target(s, count, code, number),
-        front: front_if(ordinary, s, count),
-        begins: begins_at(s, 24 + 12 * count, at),
+        count: judged.count,
+        target: target(s, judged.count, code, number),
+        front: front_if(judged.ordinary, s, judged.count),
+        begins: begins_at(s, 24 + 12 * judged.count, at),
     }
 }

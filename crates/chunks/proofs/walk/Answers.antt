@@ -2,7 +2,8 @@
 use Prim.Native.Nat.{ℕ}
 use mathlib.Core.Path.{sym, ap, ◌∙◌}
 use Rattle.chunks.specs.Ordinary.{all_ordinary}
-use Rattle.chunks.specs.Walk.{walk_from, chunks_from, verdict_of}
+use Rattle.chunks.specs.Walk.{walk_from, chunks_from}
+use Rattle.blorb.specs.Refusals.{verdict_of}
 use Rattle.chunks.proofs.ChunkLaws.{walk-next, walk-fault, walk_end, chunk_good_header, no_ordinary}
 use Rattle.chunks.proofs.walk.Goals as goal
 

@@ -1,6 +1,6 @@
 use mathlib.Core.Path.{refl, sym, ap, ◌∙◌}
 use native.Mathlib.Omega.{arith}
-use Rattle.chunks.specs.Walk.{verdict_of}
+use Rattle.blorb.specs.Refusals.{verdict_of}
 use Rattle.chunks.proofs.ChunkLaws.{chunk_good_header, along_next, walk-fault, walk_end, ordinary_end, no_ordinary}
 use Rattle.chunks.proofs.walk_rest.Goals as goal
 

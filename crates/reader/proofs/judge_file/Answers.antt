@@ -1,6 +1,6 @@
 use mathlib.Core.Path.{sym, ap, ◌∙◌}
 use Rattle.blorb.specs.Verdict.{accept, refuse}
-use Rattle.chunks.specs.Walk.{verdict_of}
+use Rattle.blorb.specs.Refusals.{verdict_of}
 use Rattle.index.proofs.OptionalLaws.{ordinary_optional}
 use Rattle.reader.proofs.PartLaws.{unknown_is, entries_no, entries-good, rest-is}
 use Rattle.reader.proofs.judge_file.Goals as goal

@@ -3,7 +3,8 @@ use native.Mathlib.Omega.{arith}
 use mathlib.Core.Path.{sym, ap, ◌∙◌}
 use Prim.Native.Nat.{ℕ}
 use Rattle.chunks.specs.Ordinary.{all_ordinary}
-use Rattle.chunks.specs.Walk.{verdict_of, chunks_from}
+use Rattle.chunks.specs.Walk.{chunks_from}
+use Rattle.blorb.specs.Refusals.{verdict_of}
 use Rattle.chunks.proofs.ChunkLaws.{fine, walked}
 use Rattle.index.proofs.IndexLaws.{shaped}
 use Rattle.reader.proofs.ReadLaws.{first-long, is-shaped, is-judged, ordinary_behind, read_1, read_2, read_3, read_4, read_5, read_6, read-rest}

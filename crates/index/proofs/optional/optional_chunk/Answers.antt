@@ -1,6 +1,6 @@
 use mathlib.Core.Path.{sym, ap, ◌∙◌}
 use native.Mathlib.Omega.{arith}
-use Rattle.chunks.specs.Walk.{verdict_of}
+use Rattle.blorb.specs.Refusals.{verdict_of}
 use Rattle.chunks.proofs.ChunkLaws.{fine}
 use Rattle.index.proofs.OptionalLaws.{single-length, rule_none, rule_reln, fspc_stop, fspc_on}
 use Rattle.index.proofs.optional.optional_chunk.Goals as goal

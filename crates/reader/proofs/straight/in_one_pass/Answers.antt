@@ -1,6 +1,6 @@
 -- The head and the index's length are tested here, the rest by the pass over chunks and entries.
 use mathlib.Core.Path.{sym, ap, ◌∙◌}
-use Rattle.chunks.specs.Walk.{verdict_of}
+use Rattle.blorb.specs.Refusals.{verdict_of}
 use Rattle.reader.proofs.StraightLaws.{straight_told}
 use Rattle.reader.proofs.straight.in_one_pass.Goals as goal
 

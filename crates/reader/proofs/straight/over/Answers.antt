@@ -1,7 +1,7 @@
 -- The chunk is judged as the walk would judge it.
 use native.Mathlib.Omega.{arith}
 use mathlib.Core.Path.{sym, ap, ◌∙◌}
-use Rattle.chunks.specs.Walk.{verdict_of}
+use Rattle.blorb.specs.Refusals.{verdict_of}
 use Rattle.reader.proofs.straight.over.Goals as goal
 
 pub returns : goal.returns

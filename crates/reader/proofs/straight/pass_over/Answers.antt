@@ -3,7 +3,7 @@ use mathlib.Core.Path.{◌≡◌, sym, ap, ◌∙◌}
 use Prim.Native.Nat.{◌+◌, ◌≤◌}
 use lib.ListN.{length, drop}
 use Rattle.blorb.specs.Verdict.{accept, chunk_fault}
-use Rattle.chunks.specs.Walk.{verdict_of}
+use Rattle.blorb.specs.Refusals.{verdict_of}
 use Rattle.chunks.proofs.ChunkLaws.{chunk_good_header}
 use Rattle.reader.proofs.StraightLaws.{came_none, came_next}
 use Rattle.reader.proofs.straight.pass_over.Goals as goal
