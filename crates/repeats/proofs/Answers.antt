@@ -8,20 +8,8 @@ use native.Mathlib.Omega.{arith}
 use native.Mathlib.Nat.{eq-or-lt_of_le, le_of_suc-le-suc}
 use borrow.Author.Tests.{eq-eqb, ne_eqb, eqb-true}
 use lib.Dec.{eqb}
-use Rattle.repeats.specs.declared.First.{First}
-use Rattle.repeats.specs.declared.First.TheVariants.{At, Nothing}
+use Rattle.std.specs.Prelude.{Some, None}
 use Rattle.repeats.specs.Repeats.{among, pick_first, repeat_from, first_repeat_of, Apart}
-
-abbrev place_of : First → ℕ
-place_of (At j) = j
-place_of Nothing = 0
-
-abbrev is_at : First → Bool
-is_at (At j) = true
-is_at Nothing = false
-
-apart_answers : (j : ℕ) → Nothing ≡ At j → ⊥
-apart_answers j q = false≢true (ap is_at q)
 
 module _ (k : ℕ → ℕ) where
   pub among_none : (v n : ℕ) → ((i : ℕ) → i < n → k i ≡ v → ⊥) → among k v n ≡ false
@@ -39,43 +27,43 @@ module _ (k : ℕ → ℕ) where
       (eq-or-lt_of_le (le_of_suc-le-suc l))
 
   -- the answer
-  first_from : (n a j : ℕ) → a ≤ j → j < a + n → Apart k 0 j → among k (k j) j ≡ true → At j ≡ repeat_from k n a
+  first_from : (n a j : ℕ) → a ≤ j → j < a + n → Apart k 0 j → among k (k j) j ≡ true → Some j ≡ repeat_from k n a
   unfolding repeat_from Apart
   first_from zero a j h l d e = absurd (omega arith)
   first_from (suc n) a j h l d e =
       ⊎_elim
-      (λ q. subst (λ (x : ℕ). At j ≡ repeat_from k (suc n) x) (sym q) (rw e))
+      (λ q. subst (λ (x : ℕ). Some j ≡ repeat_from k (suc n) x) (sym q) (rw e))
       (λ m. rw (among_none (k a) a (λ i x. d i a (omega arith) x m)) (first_from n (suc a) j m (omega arith) d e))
       (eq-or-lt_of_le h)
 
-  none_from : (n a e : ℕ) → e ≡ a + n → Apart k 0 e → Nothing ≡ repeat_from k n a
+  none_from : (n a e : ℕ) → e ≡ a + n → Apart k 0 e → None ≡ repeat_from k n a
   unfolding repeat_from Apart
   none_from zero a e q d = refl
   none_from (suc n) a e q d =
       rw (among_none (k a) a (λ i x. d i a (omega arith) x (omega arith))) (none_from n (suc a) e (omega arith) d)
 
-  pub first-at : (n j : ℕ) → j < n → Apart k 0 j → among k (k j) j ≡ true → At j ≡ first_repeat_of k n
+  pub first-at : (n j : ℕ) → j < n → Apart k 0 j → among k (k j) j ≡ true → Some j ≡ first_repeat_of k n
   unfolding first_repeat_of
   first-at n j l d e = first_from n 0 j (omega arith) (omega arith) d e
 
-  pub first-none : (n b : ℕ) → b ≤ n → n ≤ b → Apart k 0 b → Nothing ≡ first_repeat_of k n
+  pub first-none : (n b : ℕ) → b ≤ n → n ≤ b → Apart k 0 b → None ≡ first_repeat_of k n
   unfolding first_repeat_of
   first-none n b h g d = none_from n 0 b (omega arith) d
 
-  pub at_answer : (n j : ℕ) → j < n → Apart k 0 j → among k (k j) j ≡ true → first_repeat_of k n ≡ At j
+  pub at_answer : (n j : ℕ) → j < n → Apart k 0 j → among k (k j) j ≡ true → first_repeat_of k n ≡ Some j
   at_answer n j l d e = sym (first-at n j l d e)
 
-  pub nothing_answer : (n : ℕ) → Apart k 0 n → first_repeat_of k n ≡ Nothing
+  pub nothing_answer : (n : ℕ) → Apart k 0 n → first_repeat_of k n ≡ None
   nothing_answer n d = sym (first-none n n (omega arith) (omega arith) d)
 
   -- and back from the answer: the entry has a key that is among the earlier ones, and each before it, from the a-th on, has not
   abbrev Stops : ℕ → ℕ → ℕ → Type 0
   Stops n a j = (j < a + n) × (among k (k j) j ≡ true) × ((m : ℕ) → a ≤ m → m < j → among k (k m) m ≡ false)
 
-  at-step : (n a j : ℕ) (b : Bool) → among k (k a) a ≡ b → ((x : ℕ) → repeat_from k n x ≡ At j → Stops n x j)
-      → pick_first b a (λ next. repeat_from k n next) (suc a) ≡ At j → Stops (suc n) a j
+  at-step : (n a j : ℕ) (b : Bool) → among k (k a) a ≡ b → ((x : ℕ) → repeat_from k n x ≡ Some j → Stops n x j)
+      → pick_first b a (λ next. repeat_from k n next) (suc a) ≡ Some j → Stops (suc n) a j
   at-step n a j true e ih q =
-      let p : a ≡ j = ap place_of q in
+      let p : a ≡ j = cc in
       (omega arith, subst (λ (x : ℕ). among k (k x) x ≡ true) p e, λ m l h. absurd (omega arith))
   at-step n a j false e ih q =
       let h = ih (suc a) q in (
@@ -84,9 +72,9 @@ module _ (k : ℕ → ℕ) where
         λ m l u. ⊎_elim (λ (p : a ≡ m). subst (λ (x : ℕ). among k (k x) x ≡ false) p e) (λ (v : a < m). h.2 m v u) (eq-or-lt_of_le l),
       )
 
-  at_from : (n a j : ℕ) → repeat_from k n a ≡ At j → Stops n a j
+  at_from : (n a j : ℕ) → repeat_from k n a ≡ Some j → Stops n a j
   unfolding repeat_from
-  at_from zero a j q = absurd (apart_answers j q)
+  at_from zero a j q = cc
   at_from (suc n) a j q = at-step n a j (among k (k a) a) refl (λ x. at_from n x j) q
 
   -- no entry's key is among the earlier ones: no two are the same
@@ -94,7 +82,7 @@ module _ (k : ℕ → ℕ) where
   unfolding Apart
   all_apart e h i j z l m q = false≢true (sym (h j m) ∙ among_hit (k j) j i l q)
 
-  pub answer_at : (n j : ℕ) → first_repeat_of k n ≡ At j → (j < n) × (among k (k j) j ≡ true) × Apart k 0 j
+  pub answer_at : (n j : ℕ) → first_repeat_of k n ≡ Some j → (j < n) × (among k (k j) j ≡ true) × Apart k 0 j
   unfolding first_repeat_of
   answer_at n j q = let h = at_from n 0 j q in (omega (arith, h.0), h.1, all_apart j (λ m l. h.2 m (omega arith) l))
 
@@ -109,20 +97,20 @@ module _ (k : ℕ → ℕ) where
       go true e h ih = (n, (omega arith, eqb-true _ _ e))
       go false e h ih = let r = ih h in (r.0, (omega (arith, r.1.0), r.1.1))
 
-  none-step : (n a : ℕ) (b : Bool) → among k (k a) a ≡ b → ((x : ℕ) → repeat_from k n x ≡ Nothing → (j : ℕ) → x ≤ j → j < x + n → among k (k j) j ≡ false)
-      → pick_first b a (λ next. repeat_from k n next) (suc a) ≡ Nothing → (j : ℕ) → a ≤ j → j < a + suc n → among k (k j) j ≡ false
-  none-step n a true e ih q j h l = absurd (apart_answers a (sym q))
+  none-step : (n a : ℕ) (b : Bool) → among k (k a) a ≡ b → ((x : ℕ) → repeat_from k n x ≡ None → (j : ℕ) → x ≤ j → j < x + n → among k (k j) j ≡ false)
+      → pick_first b a (λ next. repeat_from k n next) (suc a) ≡ None → (j : ℕ) → a ≤ j → j < a + suc n → among k (k j) j ≡ false
+  none-step n a true e ih q j h l = cc
   none-step n a false e ih q j h l =
       ⊎_elim
       (λ (p : a ≡ j). subst (λ (x : ℕ). among k (k x) x ≡ false) p e)
       (λ (m : a < j). ih (suc a) q j m (omega arith))
       (eq-or-lt_of_le h)
 
-  none-back : (n a : ℕ) → repeat_from k n a ≡ Nothing → (j : ℕ) → a ≤ j → j < a + n → among k (k j) j ≡ false
+  none-back : (n a : ℕ) → repeat_from k n a ≡ None → (j : ℕ) → a ≤ j → j < a + n → among k (k j) j ≡ false
   unfolding repeat_from
   none-back zero a q j h l = absurd (omega arith)
   none-back (suc n) a q j h l = none-step n a (among k (k a) a) refl (λ x. none-back n x) q j h l
 
-  pub answer_nothing : (n : ℕ) → first_repeat_of k n ≡ Nothing → Apart k 0 n
+  pub answer_nothing : (n : ℕ) → first_repeat_of k n ≡ None → Apart k 0 n
   unfolding first_repeat_of
   answer_nothing n q = all_apart n (λ m l. none-back n 0 q m (omega arith) (omega arith))

@@ -11,12 +11,6 @@ ghost use Rattle.repeats.specs.Marks.{stirred, mixed, word_of, bits_of, Covers, 
 ghost use Rattle.repeats.specs.Repeats.{among, first_repeat_of, Apart, Across, Without};
 ghost use Rattle.repeats.specs.Suspects.{held, Caught, Earlier, Free, RepeatsHeld, Once};
 
-#[derive(Clone, Copy)]
-pub enum First {
-    At(usize),
-    Nothing,
-}
-
 // Where keys are read: rows of `step` bytes that begin with a number; entries of two numbers, a text's length and the text; rows of four numbers.
 #[derive(Clone, Copy)]
 enum Layout {
@@ -500,7 +494,7 @@ fn first_repeat(
     base: usize,
     n: usize,
     marks: &mut [u64; 896],
-) -> First
+) -> Option<usize>
     requires { Inside (source layout s.now t.now base) n × (length marks.old ≡ 896) }
     ensures { result ≡ first_repeat_of (key (source layout s.now t.now base)) n }
 {
@@ -514,28 +508,28 @@ fn first_repeat(
         let end = block.end;
         let best = first_across(s, t, layout, base, from, b, end, marks, &mut suspects);
         if best < e {
-            return First::At(best);
+            return Some(best);
         }
         from = block.at;
         b = e;
     }
-    First::Nothing
+    None
 }
 
 // The search in a file. Its marks are made only where they are needed: clearing them takes longer than a short list that rises.
-fn first_in_file(s: &[u8], layout: Layout, base: usize, n: usize) -> First
+fn first_in_file(s: &[u8], layout: Layout, base: usize, n: usize) -> Option<usize>
     requires { Inside (source layout s.now [] base) n }
     ensures { result ≡ first_repeat_of (key (source layout s.now [] base)) n }
 {
     if n <= rising(s, &[], layout, base, n).end {
-        return First::Nothing;
+        return None;
     }
     let mut marks = [0u64; 896];
     first_repeat(s, &[], layout, base, n, &mut marks)
 }
 
 // The first of n rows of `step` bytes from `base` on whose first number an earlier row has.
-pub fn in_rows(s: &[u8], step: usize, base: usize, n: usize) -> First
+pub fn in_rows(s: &[u8], step: usize, base: usize, n: usize) -> Option<usize>
     requires { (4 ≤ step) × (base + step * n ≤ length s.now) }
     ensures { result ≡ first_repeat_of (row_key_of s.now step base) n }
 {
@@ -543,7 +537,7 @@ pub fn in_rows(s: &[u8], step: usize, base: usize, n: usize) -> First
 }
 
 // The first of n entries from `base` on, each with a text behind it, whose pair of numbers an earlier entry has.
-pub fn in_entries(s: &[u8], base: usize, n: usize) -> First
+pub fn in_entries(s: &[u8], base: usize, n: usize) -> Option<usize>
     requires { EntriesInside s.now base n }
     ensures { result ≡ first_repeat_of (entry_key_of s.now base) n }
 {
@@ -551,7 +545,7 @@ pub fn in_entries(s: &[u8], base: usize, n: usize) -> First
 }
 
 // The first of n rows of four numbers whose first two an earlier row has. The caller lends the marks: it may have used the array for something else before.
-pub fn in_list(rows: &[u32], n: usize, marks: &mut [u64; 896]) -> First
+pub fn in_list(rows: &[u32], n: usize, marks: &mut [u64; 896]) -> Option<usize>
     requires { (4 * n ≤ length rows.now) × (length marks.old ≡ 896) }
     ensures { result ≡ first_repeat_of (list_key rows.now) n }
 {
