@@ -10,6 +10,7 @@ use lib.Dec.{eqb, leb, ltb}
 use borrow.Author.Tests.{eq-eqb, ne_eqb, le-leb, lt-leb}
 use Rattle.blorb.specs.Format.{Ref, Chunk, total, chunk_of}
 use Rattle.blorb.specs.Tags.{RIdx, Exec}
+use Rattle.std.specs.Prelude.{Option, Some, None}
 use Rattle.blorb.specs.Verdict.{Verdict, accept, refuse, ◌then◌, check, no_chunk, known_usage_of, ref_fault, verdict}
 use Rattle.blorb.specs.Rules.{allows, optional, rules_of}
 use Rattle.blorb.specs.Model.{Model, base, file, model}
@@ -27,8 +28,6 @@ use Rattle.edits.proofs.FitLaws.{added-sound}
 use Rattle.edits.proofs.Lengths.{length-added}
 use Rattle.edits.specs.Run.{hundred}
 use Rattle.reader.specs.declared.Piece.{Piece}
-use Rattle.reader.specs.declared.Target.{Target}
-use Rattle.reader.specs.declared.Target.TheVariants as target
 use Rattle.reader.specs.Inspecting.{target_of}
 use Rattle.judging.specs.Told.{Counted}
 use Rattle.judging.proofs.OpenLaws.{target_at, target-nothing}
@@ -128,7 +127,7 @@ add-fault profile f k b u n t d bytes fine co eb hu hn ht =
     ∙ (λ j. add_judged profile (length (g.0 j)) (sym co.entries j) (eb j) u n t d)
 
 -- the ways out of the code
-module _ (profile : ℕ) (f : List ℕ) (k : ℕ) (g : Target) (u n t : ℕ) (d : List ℕ) (bytes : All Byte f)
+module _ (profile : ℕ) (f : List ℕ) (k : ℕ) (g : Option Piece) (u n t : ℕ) (d : List ℕ) (bytes : All Byte f)
     (pre : (verdict (rules_of profile) f ≡ accept) × (Counted f k × (g ≡ target_of (model f) u n))) (hu : u < W) (hn : n < W) (ht : t < W) where
   abbrev H : Verdict
   H = hundred (verdict (rules_of profile) (file (added (model f) u n (chunk_of t d))))
@@ -169,12 +168,12 @@ module _ (profile : ℕ) (f : List ℕ) (k : ℕ) (g : Target) (u n t : ℕ) (d 
             out_115 e = sym (shape there refl ∙ rw (le-leb _ _ h1, ne_eqb t RIdx h2, le-leb _ _ h3, h4, h5, e))
 
             module _ (h6 : (not (eqb u Exec) || eqb n 0) ≡ true) where
-              pub out_116 : (p : Piece) → g ≡ target.At p → refuse 116 (24 + 12 * k) ≡ H
+              pub out_116 : (p : Piece) → g ≡ Some p → refuse 116 (24 + 12 * k) ≡ H
               unfolding add_judged check ◌then◌
               out_116 p e = sym (shape true (target_at (model f) u n p (sym pre.1.1 ∙ e)).0
                   ∙ rw (le-leb _ _ h1, ne_eqb t RIdx h2, le-leb _ _ h3, h4, h5, h6))
 
-              pub out_done : g ≡ target.Nothing → accept ≡ H
+              pub out_done : g ≡ None → accept ≡ H
               unfolding add_judged check ◌then◌
               out_done e = sym (shape false (target-nothing (model f) u n (sym pre.1.1 ∙ e))
                   ∙ rw (le-leb _ _ h1, ne_eqb t RIdx h2, le-leb _ _ h3, h4, h5, h6))

@@ -9,6 +9,7 @@ use lib.ListN.{length, get_or, take, drop, length-map}
 use lib.Dec.{eqb, ltb}
 use borrow.Author.Tests.{ne_eqb, eqb-false, le-leb, lt-ltb, le-ltb, ltb-true, ltb-false}
 use Rattle.blorb.specs.Format.{Ref, Chunk, size, total}
+use Rattle.std.specs.Prelude.{Option, Some, None}
 use Rattle.blorb.specs.Verdict.{Verdict, accept, refuse, check, no_chunk, second_index, verdict}
 use Rattle.blorb.specs.Tags.{Pict, Fspc}
 use Rattle.blorb.specs.Rules.{picture, type_in, optional, rules_of}
@@ -31,8 +32,7 @@ use Rattle.edits.specs.GoneSize.{gone_size_of}
 use Rattle.edits.proofs.Starts.{fell}
 use Rattle.edits.specs.Run.{hundred}
 use Rattle.judging.specs.Told.{Listed}
-use Rattle.reader.specs.declared.Front.{Front}
-use Rattle.reader.specs.declared.Front.TheVariants as front
+use Rattle.reader.specs.declared.Frontispiece.{Frontispiece}
 use Rattle.reader.specs.Inspecting.{front_of}
 use Rattle.judging.proofs.OpenLaws.{front-nothing, front_at}
 use Rattle.edits.proofs.Lengths.{length_removed}
@@ -231,30 +231,30 @@ remove-fault profile f u n bytes fine hu hn found =
     (gone_size_of m i) (start m (front_place m.chunks)) + 8))
 
 -- the ways out of the code
-module _ (profile : ℕ) (f : List ℕ) (r : Front) (u n s a : ℕ) (bytes : All Byte f)
+module _ (profile : ℕ) (f : List ℕ) (r : Option Frontispiece) (u n s a : ℕ) (bytes : All Byte f)
     (pre : (verdict (rules_of profile) f ≡ accept) × (Listed f u n s a × (r ≡ front_of (model f)))) (hu : u < W) (hn : n < W) where
   li : Listed f u n s a
   li = pre.1.0
 
-  pub no_front : r ≡ front.Nothing → accept ≡ hundred (verdict (rules_of profile) (file (removed (model f) (find u n (model f).refs))))
+  pub no_front : r ≡ None → accept ≡ hundred (verdict (rules_of profile) (file (removed (model f) (find u n (model f).refs))))
   no_front e = sym (remove-fault profile f u n bytes pre.0 hu hn li.found ∙ rw (front-nothing (model f) (sym pre.1.1 ∙ e)))
 
-  module _ (at q : ℕ) (e : r ≡ front.At at q) where
+  module _ (fr : Frontispiece) (e : r ≡ Some fr) where
     shape : hundred (verdict (rules_of profile) (file (removed (model f) (find u n (model f).refs))))
-        ≡ check (not (eqb u Pict && eqb n q)) 119 (fallen s a at + 8)
+        ≡ check (not (eqb u Pict && eqb n fr.number)) 119 (fallen s a fr.start + 8)
     shape =
-        let w = front_at (model f) at q (sym pre.1.1 ∙ e) in
+        let w = front_at (model f) fr (sym pre.1.1 ∙ e) in
         remove-fault profile f u n bytes pre.0 hu hn li.found
         ∙ ap (λ (b : Bool). cond b (check (not (eqb u Pict && eqb n (front_number (model f).chunks))) 119
         (fallen (start (model f) (ref_at (model f) (find u n (model f).refs)).chunk) (gone_size_of (model f) (find u n (model f).refs))
         (start (model f) (front_place (model f).chunks)) + 8)) accept) w.0
         ∙ (λ z. check (not (eqb u Pict && eqb n (sym w.2 z))) 119 (fallen (sym li.starts z) (sym li.gone z) (sym w.1 z) + 8))
 
-    pub lost_front_lem : (eqb u Pict && eqb n q) ≡ true → refuse 119 (fallen s a at + 8) ≡ hundred
+    pub lost_front_lem : (eqb u Pict && eqb n fr.number) ≡ true → refuse 119 (fallen s a fr.start + 8) ≡ hundred
         (verdict (rules_of profile) (file (removed (model f) (find u n (model f).refs))))
     unfolding check
     lost_front_lem t = sym (shape ∙ rw t)
 
-    pub kept-front : (eqb u Pict && eqb n q) ≡ false → accept ≡ hundred (verdict (rules_of profile) (file (removed (model f) (find u n (model f).refs))))
+    pub kept-front : (eqb u Pict && eqb n fr.number) ≡ false → accept ≡ hundred (verdict (rules_of profile) (file (removed (model f) (find u n (model f).refs))))
     unfolding check
     kept-front t = sym (shape ∙ rw t)

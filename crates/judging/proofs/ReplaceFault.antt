@@ -10,6 +10,7 @@ use lib.Dec.{eqb, leb}
 use borrow.Author.Tests.{eq-eqb, ne_eqb, le-leb, lt-leb}
 use Rattle.blorb.specs.Format.{Ref, Chunk, size, total, chunk_of}
 use Rattle.blorb.specs.Tags.{RIdx, Pict, Rect, Fspc}
+use Rattle.std.specs.Prelude.{Option, Some, None}
 use Rattle.blorb.specs.Verdict.{Verdict, accept, refuse, ◌then◌, check, no_chunk, second_index, verdict}
 use Rattle.blorb.specs.Rules.{allows, type_in, optional, rules_of}
 use Rattle.blorb.specs.Model.{Model, base, start_of, file, model}
@@ -32,8 +33,7 @@ use Rattle.blorb.proofs.Parts.{file-length, size_of}
 use Rattle.blorb.proofs.FindLaws.{find-pair}
 use Rattle.edits.specs.Run.{hundred}
 use Rattle.reader.specs.declared.Piece.{Piece}
-use Rattle.reader.specs.declared.Front.{Front}
-use Rattle.reader.specs.declared.Front.TheVariants as front
+use Rattle.reader.specs.declared.Frontispiece.{Frontispiece}
 use Rattle.reader.specs.Inspecting.{front_of}
 use Rattle.judging.proofs.OpenLaws.{shared-is, front-nothing, front_at}
 use Rattle.judging.specs.Told.{Own}
@@ -164,7 +164,7 @@ replace-fault profile f u n t d bytes fine hu hn ht found alone =
     spread a b c p q v = simp (hundred_then, hundred-check)
 
 -- the ways out of the code
-module _ (profile : ℕ) (f : List ℕ) (r : Front) (p : Piece) (u n t : ℕ) (d : List ℕ) (bytes : All Byte f)
+module _ (profile : ℕ) (f : List ℕ) (r : Option Frontispiece) (p : Piece) (u n t : ℕ) (d : List ℕ) (bytes : All Byte f)
     (pre : (verdict (rules_of profile) f ≡ accept) × (Own f u n p × (r ≡ front_of (model f)))) (hu : u < W) (hn : n < W) (ht : t < W) where
   o : Own f u n p
   o = pre.1.0
@@ -207,18 +207,18 @@ module _ (profile : ℕ) (f : List ℕ) (r : Front) (p : Piece) (u n t : ℕ) (d
   out_114 h e q = sym (shape (type_in Fspc (model f).chunks) refl ∙ rw (le-leb _ _ h, ne_eqb t RIdx e, q))
 
   module _ (h : length f - a + (8 + (length d + length d % 2)) ≤ 16777216) (e : t ≡ RIdx → ⊥) (pl : allows profile u (chunk_of t d) ≡ true) where
-    pub out_nothing : r ≡ front.Nothing → accept ≡ H
+    pub out_nothing : r ≡ None → accept ≡ H
     unfolding check ◌then◌
     out_nothing q = sym (shape false (front-nothing (model f) (sym pre.1.1 ∙ q)) ∙ rw (le-leb _ _ h, ne_eqb t RIdx e, pl))
 
-    module _ (at q : ℕ) (fr : r ≡ front.At at q) where
-      there-is : H ≡ check (not ((eqb u Pict && eqb n q) && eqb t Rect)) 119 (behind p.start a (8 + (length d + length d % 2)) at + 8)
+    module _ (fr : Frontispiece) (is : r ≡ Some fr) where
+      there-is : H ≡ check (not ((eqb u Pict && eqb n fr.number) && eqb t Rect)) 119 (behind p.start a (8 + (length d + length d % 2)) fr.start + 8)
       there-is =
-          let w = front_at (model f) at q (sym pre.1.1 ∙ fr) in
+          let w = front_at (model f) fr (sym pre.1.1 ∙ is) in
           let g : check (leb (length f - a + (8 + (length d + length d % 2))) 16777216) 101 0 then (check (not (eqb t RIdx)) 109 p.start then
           (check (allows profile u (chunk_of t d)) 114 (24 + 12 * p.place)
-          then check (not ((eqb u Pict && eqb n q) && eqb t Rect)) 119 (behind p.start a (8 + (length d + length d % 2)) at + 8)))
-          ≡ check (not ((eqb u Pict && eqb n q) && eqb t Rect)) 119 (behind p.start a (8 + (length d + length d % 2)) at + 8)
+          then check (not ((eqb u Pict && eqb n fr.number) && eqb t Rect)) 119 (behind p.start a (8 + (length d + length d % 2)) fr.start + 8)))
+          ≡ check (not ((eqb u Pict && eqb n fr.number) && eqb t Rect)) 119 (behind p.start a (8 + (length d + length d % 2)) fr.start + 8)
           = pass _ _ _ _ (le-leb _ _ h) ∙ pass _ _ _ _ (ap not (ne_eqb t RIdx e)) ∙ pass _ _ _ _ pl in
           shape true w.0
           ∙ (λ z. check (leb (length f - a + (8 + (length d + length d % 2))) 16777216) 101 0 then (check (not (eqb t RIdx)) 109 p.start then
@@ -226,10 +226,10 @@ module _ (profile : ℕ) (f : List ℕ) (r : Front) (p : Piece) (u n t : ℕ) (d
           then check (not ((eqb u Pict && eqb n (sym w.2 z)) && eqb t Rect)) 119 (behind p.start a (8 + (length d + length d % 2)) (sym w.1 z) + 8))))
           ∙ g
 
-      pub out_119 : ((eqb u Pict && eqb n q) && eqb t Rect) ≡ true → refuse 119 (behind p.start a (8 + (length d + length d % 2)) at + 8) ≡ H
+      pub out_119 : ((eqb u Pict && eqb n fr.number) && eqb t Rect) ≡ true → refuse 119 (behind p.start a (8 + (length d + length d % 2)) fr.start + 8) ≡ H
       unfolding check
       out_119 x = sym (there-is ∙ rw x)
 
-      pub out_kept : ((eqb u Pict && eqb n q) && eqb t Rect) ≡ false → accept ≡ H
+      pub out_kept : ((eqb u Pict && eqb n fr.number) && eqb t Rect) ≡ false → accept ≡ H
       unfolding check
       out_kept x = sym (there-is ∙ rw x)

@@ -2,9 +2,3 @@
 #![tactic(auto)]
 
 pub mod judge;
-
-#[derive(Clone, Copy)]
-pub enum Outcome {
-    Done,
-    Refused { number: u64, place: usize },
-}

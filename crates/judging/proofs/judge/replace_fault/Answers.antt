@@ -1,11 +1,14 @@
+-- Each way out is a law of ReplaceFault; the tests that came before it are the same at every later one.
 use native.Mathlib.Omega.{arith}
-use mathlib.Core.Path.{sym, ap, ◌∙◌}
+use mathlib.Core.Path.{◌≡◌, sym, ap, ◌∙◌}
+use mathlib.Core.Bool.{Bool, ◌&&◌}
+use lib.Dec.{eqb}
+use Rattle.blorb.specs.Tags.{Rect}
 use Prim.Native.Nat.{ℕ, ◌+◌}
 use Rattle.blorb.specs.Verdict.{refuse}
 use Rattle.blorb.specs.Bytes.{Byte}
 use Rattle.blorb.proofs.Accept.{bytes-all}
 use Rattle.blorb.specs.All.{All}
-use Rattle.judging.specs.Outcomes.{verdict_of}
 use Rattle.judging.proofs.ReplaceFault.{out_101, out_109, out_114, out_nothing, out_119, out_kept}
 use Rattle.judging.proofs.judge.replace_fault.Goals as goal
 
@@ -14,7 +17,7 @@ returns-then-len-old-gt16777216 c =
     let a = c.args in
     let f = a.s.now in
     let bytes : All Byte f = bytes-all f (λ i. omega (arith, c.type_inv.s i)) in
-    ap verdict_of c.refused.ensures ∙ out_101 a.profile f a.front a.piece a.usage a.number a.kind a.d.now bytes
+    out_101 a.profile f a.front a.piece a.usage a.number a.kind a.d.now bytes
     c.requires (omega arith) (omega arith) (omega arith) c.if-len-old-gt16777216.true
 
 pub returns-then-kind-eq-RIDX : goal.returns-then-kind-eq-RIDX
@@ -22,7 +25,7 @@ returns-then-kind-eq-RIDX c =
     let a = c.args in
     let f = a.s.now in
     let bytes : All Byte f = bytes-all f (λ i. omega (arith, c.type_inv.s i)) in
-    ap verdict_of c.refused-then-kind-eq-RIDX.ensures ∙ out_109 a.profile f a.front a.piece a.usage a.number a.kind a.d.now bytes
+    out_109 a.profile f a.front a.piece a.usage a.number a.kind a.d.now bytes
     c.requires (omega arith) (omega arith) (omega arith)
     c.if-len-old-gt16777216.false c.if-kind-eq-RIDX.true
 
@@ -32,52 +35,39 @@ returns-then-not-type_allowed c =
     let f = a.s.now in
     let bytes : All Byte f = bytes-all f
     (λ i. omega (arith, c.type_inv.s i)) in
-    ap verdict_of c.refused-then-not-type_allowed.ensures ∙ out_114 a.profile f a.front a.piece a.usage a.number a.kind a.d.now bytes
+    out_114 a.profile f a.front a.piece a.usage a.number a.kind a.d.now bytes
     c.requires (omega arith) (omega arith) (omega arith)
     c.if-len-old-gt16777216.false c.if-kind-eq-RIDX.false
     (sym c.type_allowed.ensures ∙ c.if-not-type_allowed.true)
 
-pub returns-then-makes_rect : goal.returns-then-makes_rect
-returns-then-makes_rect c =
+pub returns-in_default : goal.returns-in_default
+returns-in_default c =
     let a = c.args in
     let f = a.s.now in
-    let bytes : All Byte f = bytes-all f
-    (λ i. omega (
-      arith,
-      c.type_inv.s i,
-    )) in
-    ap verdict_of c.refused-then-makes_rect.ensures ∙ ap (λ (z : ℕ). refuse 119 (z + 8)) c.behind_start-p.ensures.0 ∙ out_119 a.profile f a.front
-    a.piece a.usage a.number a.kind a.d.now bytes
-    c.requires (omega arith)
-    (omega arith) (omega arith) c.if-len-old-gt16777216.false
-    c.if-kind-eq-RIDX.false
-    (sym c.type_allowed.ensures
-    ∙ c.if-not-type_allowed.false) c.in-At.at
-    c.in-At.q c.in-At.is
-    (sym c.makes_rect.ensures ∙ c.if-makes_rect.true)
-
-pub returns-in-Nothing : goal.returns-in-Nothing
-returns-in-Nothing c =
-    let a = c.args in
-    let f = a.s.now in
-    let bytes : All Byte f = bytes-all f
-    (λ i. omega (arith, c.type_inv.s i)) in
+    let bytes : All Byte f = bytes-all f (λ i. omega (arith, c.type_inv.s i)) in
     out_nothing a.profile f a.front a.piece a.usage a.number a.kind a.d.now bytes
     c.requires (omega arith) (omega arith) (omega arith)
     c.if-len-old-gt16777216.false c.if-kind-eq-RIDX.false
-    (sym c.type_allowed.ensures ∙ c.if-not-type_allowed.false) c.in-Nothing.is
+    (sym c.type_allowed.ensures ∙ c.if-not-type_allowed.false) c.in_default.is
 
-pub returns-else-makes_rect : goal.returns-else-makes_rect
-returns-else-makes_rect c =
+pub returns-then-is_picture-kind : goal.returns-then-is_picture-kind
+returns-then-is_picture-kind c =
     let a = c.args in
     let f = a.s.now in
-    let bytes : All Byte f = bytes-all f
-    (λ i. omega (arith, c.type_inv.s i))
-    in
-    out_kept a.profile f a.front a.piece a.usage a.number a.kind a.d.now bytes
-    c.requires (omega arith) (omega arith)
-    (omega arith) c.if-len-old-gt16777216.false
-    c.if-kind-eq-RIDX.false
+    let bytes : All Byte f = bytes-all f (λ i. omega (arith, c.type_inv.s i)) in
+    ap (λ (z : ℕ). refuse 119 (z + 8)) c.behind_start.ensures.0 ∙ out_119 a.profile f a.front a.piece a.usage a.number a.kind a.d.now bytes
+    c.requires (omega arith) (omega arith) (omega arith)
+    c.if-len-old-gt16777216.false c.if-kind-eq-RIDX.false
     (sym c.type_allowed.ensures ∙ c.if-not-type_allowed.false)
-    c.in-At.at c.in-At.q c.in-At.is
-    (sym c.makes_rect.ensures ∙ c.if-makes_rect.false)
+    c.in-Some.front c.in-Some.is (ap (λ (b : Bool). b && eqb a.kind Rect) (sym c.is_picture.ensures) ∙ c.if-is_picture-kind.true)
+
+pub returns : goal.returns
+returns c =
+    let a = c.args in
+    let f = a.s.now in
+    let bytes : All Byte f = bytes-all f (λ i. omega (arith, c.type_inv.s i)) in
+    out_kept a.profile f a.front a.piece a.usage a.number a.kind a.d.now bytes
+    c.requires (omega arith) (omega arith) (omega arith)
+    c.if-len-old-gt16777216.false c.if-kind-eq-RIDX.false
+    (sym c.type_allowed.ensures ∙ c.if-not-type_allowed.false)
+    c.in-Some.front c.in-Some.is (ap (λ (b : Bool). b && eqb a.kind Rect) (sym c.is_picture.ensures) ∙ c.if-is_picture-kind.false)
