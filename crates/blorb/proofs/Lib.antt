@@ -17,3 +17,4 @@ pub mod Parts
 pub mod UsageLaws
 pub mod AllowedTypes
 pub mod ShownLaws
+pub mod RefusalLaws

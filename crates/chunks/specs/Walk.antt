@@ -3,7 +3,7 @@ use Rattle.std.specs.Prelude.{ℕ, ◌+◌, ◌%◌, ◌≤◌, ◌≡◌, List,
 use Rattle.blorb.specs.Bytes.{rd32}
 use Rattle.blorb.specs.Tags.{RIdx}
 use Rattle.blorb.specs.Format.{Chunk, size, chunk_in, chunks_in, is_start}
-use Rattle.blorb.specs.Verdict.{Verdict, accept, refuse, check, walk_fault}
+use Rattle.blorb.specs.Verdict.{Verdict, check, walk_fault}
 
 -- the chunk at offset at, and the offset behind it
 abbrev pub chunk_from : List ℕ → ℕ → Chunk

@@ -24,8 +24,9 @@ use Rattle.blorb.proofs.Checks.{pass, stop, holds_last, fails_last, accepts, ref
 use Rattle.chunks.proofs.StartLaws.{begun}
 use Rattle.blorb.specs.declared.Usage.{Usage}
 use Rattle.blorb.specs.declared.Usage.TheVariants.{Exec}
-use Rattle.blorb.specs.declared.Known.TheVariants.{Is, Unknown}
-use Rattle.index.specs.declared.entries.Judged.TheVariants.{At, Fault}
+use Rattle.std.specs.Prelude.{Ok, Some, None}
+use Rattle.blorb.specs.Refusals.{Refused}
+use Rattle.blorb.proofs.RefusalLaws.{same_refusal}
 use Rattle.blorb.specs.Usages.{code_of, usage_of}
 use Rattle.blorb.proofs.NumberLaws.{same?}
 use Rattle.index.specs.Entries.{usage_at, number_at, start_at, place, typed_at, entry_fault, unstarted_fault, judged_by}
@@ -138,13 +139,13 @@ module _ (f : List ℕ) (base : ℕ) where
       go (inr n) ih = rw (ih (omega arith) e)
 
 -- an entry's start, or its fault
-pub judged-at : (v : Verdict) (x y : ℕ) → judged_by v x ≡ At y → (v ≡ accept) × (x ≡ y)
+pub judged-at : (v : Verdict) (x y : ℕ) → judged_by v x ≡ Ok y → (v ≡ accept) × (x ≡ y)
 judged-at accept x y e = (refl, cc)
 judged-at (refuse k p) x y e = let z : ◌≡◌ {A = ℕ} 0 1 = cc in absurd (omega arith)
 
-pub judged-fault : (v : Verdict) (x k p : ℕ) → judged_by v x ≡ Fault k p → v ≡ refuse k p
+pub judged-fault : (v : Verdict) (x k p : ℕ) → judged_by v x ≡ Refused k p → v ≡ refuse k p
 judged-fault accept x k p e = let z : ◌≡◌ {A = ℕ} 0 1 = cc in absurd (omega arith)
-judged-fault (refuse a b) x k p e = let q : a ≡ k = cc in let r : b ≡ p = cc in rw (q, r)
+judged-fault (refuse a b) x k p e = let q = same_refusal e in rw (q.0, q.1)
 
 module _ (profile : ℕ) (f : List ℕ) (base p : ℕ) where
   judged : (v : Verdict) → entry_fault profile f base p ≡ v → judged_by v (start_at f p) ≡ judged_by (entry_fault profile f base p) (start_at f p)
@@ -152,11 +153,11 @@ module _ (profile : ℕ) (f : List ℕ) (base p : ℕ) where
 
 -- the verdict on one entry, by the numbers that the code has read
 module _ (profile : ℕ) (f : List ℕ) (base p u x : ℕ) (eu : u ≡ usage_at f p) where
-  pub by_12 : usage_of u ≡ Unknown → Fault 12 p ≡ judged_by (entry_fault profile f base p) (start_at f p)
+  pub by_12 : usage_of u ≡ None → Refused 12 p ≡ judged_by (entry_fault profile f base p) (start_at f p)
   unfolding entry_fault
   by_12 e = judged profile f base p (refuse 12 p) (stop _ _ _ _ (known_not _ (rw eu at e)))
 
-  module _ (k : Usage) (e : usage_of u ≡ Is k) (ex : x ≡ start_at f p) where
+  module _ (k : Usage) (e : usage_of u ≡ Some k) (ex : x ≡ start_at f p) where
     known : (known_usage_of (usage_at f p) ≡ true) × (usage_at f p ≡ code_of k)
     known = known_is _ k (rw eu at e)
 
@@ -164,7 +165,7 @@ module _ (profile : ℕ) (f : List ℕ) (base p u x : ℕ) (eu : u ≡ usage_at 
     typed v h = (λ i. typed_at profile f (known.1 i) (sym ex i)) ∙ h
 
     module _ (b : is_start x base (chunks_from f base) ≡ true) where
-      pub by_14 : typed_at profile f (code_of k) x ≡ false → Fault 14 p ≡ judged_by (entry_fault profile f base p) (start_at f p)
+      pub by_14 : typed_at profile f (code_of k) x ≡ false → Refused 14 p ≡ judged_by (entry_fault profile f base p) (start_at f p)
       unfolding entry_fault
       by_14 h = judged profile f base p (refuse 14 p) (pass _ _ _ _ known.0 ∙ pass _ _ _ _ (rw ex at b) ∙ stop _ _ _ _ (typed false h))
 
@@ -174,19 +175,19 @@ module _ (profile : ℕ) (f : List ℕ) (base p u x : ℕ) (eu : u ≡ usage_at 
         unfolding entry_fault
         last_is = rw (eu, en) (pass _ _ _ _ known.0 ∙ pass _ _ _ _ (rw ex at b) ∙ pass _ _ _ _ (typed true t))
 
-        pub by_15 : not (eqb u (code_of Exec)) || eqb n 0 ≡ false → Fault 15 (p + 4) ≡ judged_by (entry_fault profile f base p) (start_at f p)
+        pub by_15 : not (eqb u (code_of Exec)) || eqb n 0 ≡ false → Refused 15 (p + 4) ≡ judged_by (entry_fault profile f base p) (start_at f p)
         by_15 h = judged profile f base p (refuse 15 (p + 4)) (last_is ∙ fails_last _ _ _ h)
 
-        pub by_good : not (eqb u (code_of Exec)) || eqb n 0 ≡ true → At x ≡ judged_by (entry_fault profile f base p) (start_at f p)
-        by_good h = ap At ex ∙ judged profile f base p accept (last_is ∙ holds_last _ _ _ h)
+        pub by_good : not (eqb u (code_of Exec)) || eqb n 0 ≡ true → Ok x ≡ judged_by (entry_fault profile f base p) (start_at f p)
+        by_good h = ap Ok ex ∙ judged profile f base p accept (last_is ∙ holds_last _ _ _ h)
 
 -- an entry where no chunk begins at its start
 module _ (f : List ℕ) (p u : ℕ) (eu : u ≡ usage_at f p) where
-  pub unstarted_12 : usage_of u ≡ Unknown → Fault 12 p ≡ judged_by (unstarted_fault f p) 0
+  pub unstarted_12 : usage_of u ≡ None → Refused 12 p ≡ judged_by (unstarted_fault f p) 0
   unfolding unstarted_fault
   unstarted_12 e = ap (λ (v : Verdict). judged_by v 0) (sym (stop _ _ _ _ (known_not _ (rw eu at e))))
 
-  pub unstarted_13 : (k : Usage) → usage_of u ≡ Is k → Fault 13 (p + 8) ≡ judged_by (unstarted_fault f p) 0
+  pub unstarted_13 : (k : Usage) → usage_of u ≡ Some k → Refused 13 (p + 8) ≡ judged_by (unstarted_fault f p) 0
   unfolding unstarted_fault
   unstarted_13 k e = ap (λ (v : Verdict). judged_by v 0) (sym (pass _ _ _ _ (known_is _ k (rw eu at e)).0))
 

@@ -8,8 +8,8 @@ use native.Mathlib.Numerals.{add-one}
 use native.Mathlib.Nat.{not-suc-le-zero, le_of_suc-le-suc}
 use lib.ListN.{length, get_or, take, drop}
 use lib.Seq.{drop-drop, take-nil}
-use lib.Dec.{eqb, leb}
-use borrow.Author.Tests.{eq-eqb, ne_eqb, eqb-true, le-leb, lt-leb, leb-true, not-true}
+use lib.Dec.{eqb, leb, ltb}
+use borrow.Author.Tests.{eq-eqb, ne_eqb, eqb-true, le-leb, lt-leb, leb-true, not-true, lt-ltb, le-ltb, ltb-true, ltb-false}
 use Rattle.blorb.specs.Bytes.{rd32}
 use Rattle.blorb.specs.Format.{Chunk, Entry, Ref, ref_of, chunk_in, entry_from, entries_in, entries_of, is_start, place_of}
 use Rattle.blorb.specs.Verdict.{Rules, accept, refuse, no_chunk, pair_in, ref_fault, entries_fault, index_fault}
@@ -19,13 +19,16 @@ use Rattle.chunks.specs.Walk.{chunk_from, next_at, chunks_from, walk_from}
 use Rattle.chunks.proofs.ChunkLaws.{fine, walk-behind}
 use Rattle.chunks.proofs.StartLaws.{begun}
 use Rattle.blorb.proofs.Checks.{pass, stop, holds_last, fails_last, then_accept, check_accept, and_both}
-use Rattle.index.specs.Entries.{usage_at, number_at, start_at, place, pair_place}
+use Rattle.index.specs.Entries.{usage_at, number_at, start_at, place, pair_place, place_in}
 use Rattle.blorb.proofs.UsageLaws.{rd32-take}
 use Rattle.blorb.proofs.EntryList.{length-entries_in, entry-get_or}
 use Rattle.index.proofs.EntryLaws.{pair_snoc}
-use Rattle.index.specs.declared.entries.Hit.TheVariants.{At, Nothing}
+use Rattle.std.specs.Prelude.{Some, None}
 use Rattle.index.specs.Hits.{hit_in, pick_hit}
 use Rattle.index.specs.Optional.{picture_by, EntriesPassed}
+
+none_some : {x : ℕ} → None ≡ Some x → ⊥
+none_some e = let z : ◌≡◌ {A = ℕ} 0 1 = cc in absurd (omega arith)
 
 -- parts of parts
 pub drop-take : (n k m : ℕ) (s : List ℕ) → k ≡ n + m → drop n (take k s) ≡ take m (drop n s)
@@ -159,39 +162,68 @@ module _ (f : List ℕ) (u n count i a b : ℕ) (h : i < count) (ea : a ≡ usag
   place-next e = rw (place_on, e) (omega arith)
 
 -- the start of the entry at the place found
-place-start : (u n : ℕ) (es : List Entry) (d : Entry) → pair_place u n es < length es → hit_in u n es ≡ At (get_or es (pair_place u n es) d).start
+place-start : (u n : ℕ) (es : List Entry) (d : Entry) → pair_place u n es < length es → hit_in u n es ≡ Some (get_or es (pair_place u n es) d).start
 unfolding pair_place hit_in
 place-start u n [] d h = absurd (not-suc-le-zero h)
 place-start u n (e ∷ es) d h = go (eqb e.usage u && eqb e.number n) h (place-start u n es d)
   where
     go : (b : Bool) → cond b 0 (suc (pair_place u n es)) < suc (length es)
-        → (pair_place u n es < length es → hit_in u n es ≡ At (get_or es (pair_place u n es) d).start)
-        → pick_hit b e.start (hit_in u n es) ≡ At (get_or (e ∷ es) (cond b 0 (suc (pair_place u n es))) d).start
+        → (pair_place u n es < length es → hit_in u n es ≡ Some (get_or es (pair_place u n es) d).start)
+        → pick_hit b e.start (hit_in u n es) ≡ Some (get_or (e ∷ es) (cond b 0 (suc (pair_place u n es))) d).start
     go true h ih = refl
     go false h ih = ih (le_of_suc-le-suc h)
 
-place_none : (u n : ℕ) (es : List Entry) → length es ≤ pair_place u n es → hit_in u n es ≡ Nothing
+place_none : (u n : ℕ) (es : List Entry) → length es ≤ pair_place u n es → hit_in u n es ≡ None
 unfolding pair_place hit_in
 place_none u n [] h = refl
 place_none u n (e ∷ es) h = go (eqb e.usage u && eqb e.number n) h (place_none u n es)
   where
-    go : (b : Bool) → suc (length es) ≤ cond b 0 (suc (pair_place u n es)) → (length es ≤ pair_place u n es → hit_in u n es ≡ Nothing) → pick_hit b e.start
-        (hit_in u n es) ≡ Nothing
+    go : (b : Bool) → suc (length es) ≤ cond b 0 (suc (pair_place u n es)) → (length es ≤ pair_place u n es → hit_in u n es ≡ None) → pick_hit b e.start
+        (hit_in u n es) ≡ None
     go true h ih = absurd (not-suc-le-zero h)
     go false h ih = ih (le_of_suc-le-suc h)
 
 module _ (f : List ℕ) (u n count i : ℕ) (e : i ≡ pair_place u n (entries_in count (drop 24 f))) where
-  pub find_at : i < count → (x : ℕ) → x ≡ start_at f (place i) → At x ≡ hit_in u n (entries_in count (drop 24 f))
+  pub find_at : i < count → (x : ℕ) → x ≡ start_at f (place i) → Some x ≡ hit_in u n (entries_in count (drop 24 f))
   unfolding entry_from
   find_at h x ex =
       let d : Entry = record { usage = 0; number = 0; start = 0 } in
       let l : pair_place u n (entries_in count (drop 24 f)) < length (entries_in count (drop 24 f)) = rw (length-entries_in count (drop 24 f)) (omega arith) in
       let g : (get_or (entries_in count (drop 24 f)) i d).start ≡ x = ap (λ (y : Entry). y.start) (entry-get_or f count i 24 d h)
       ∙ ap rd32 (drop-drop 8 (place i) f) ∙ sym ex in
-      sym (place-start u n (entries_in count (drop 24 f)) d l ∙ ap (λ (k : ℕ). At (get_or (entries_in count (drop 24 f)) k d).start) (sym e) ∙ ap At g)
+      sym (place-start u n (entries_in count (drop 24 f)) d l ∙ ap (λ (k : ℕ). Some (get_or (entries_in count (drop 24 f)) k d).start) (sym e) ∙ ap Some g)
 
-  pub find_none : count ≤ i → Nothing ≡ hit_in u n (entries_in count (drop 24 f))
+  pub find_none : count ≤ i → None ≡ hit_in u n (entries_in count (drop 24 f))
   find_none h = sym (place_none u n (entries_in count (drop 24 f)) (rw (length-entries_in count (drop 24 f)) (omega arith)))
+
+-- a place below the count is that of an entry; the count itself, of none
+module _ (f : List ℕ) (u n count i : ℕ) (e : i ≡ pair_place u n (entries_in count (drop 24 f))) where
+  pub in_place : i < count → Some i ≡ place_in u n (entries_in count (drop 24 f))
+  in_place h = rw (← e, length-entries_in count (drop 24 f), lt-ltb i count h) refl
+
+  pub no_place : count ≤ i → None ≡ place_in u n (entries_in count (drop 24 f))
+  no_place h = rw (← e, length-entries_in count (drop 24 f), le-ltb i count h) refl
+
+module _ (f : List ℕ) (u n count : ℕ) where
+  pub place_some : (i : ℕ) → place_in u n (entries_in count (drop 24 f)) ≡ Some i → (i ≡ pair_place u n (entries_in count (drop 24 f))) × (i < count)
+  place_some i e = go (ltb (pair_place u n (entries_in count (drop 24 f))) (length (entries_in count (drop 24 f)))) refl e
+    where
+      go : (b : Bool) → ltb (pair_place u n (entries_in count (drop 24 f))) (length (entries_in count (drop 24 f))) ≡ b
+          → cond b (Some (pair_place u n (entries_in count (drop 24 f)))) None ≡ Some i
+          → (i ≡ pair_place u n (entries_in count (drop 24 f))) × (i < count)
+      go true h q =
+          let z : pair_place u n (entries_in count (drop 24 f)) ≡ i = cc in
+          (sym z, omega (arith, ltb-true _ _ h, length-entries_in count (drop 24 f)))
+      go false h q = absurd (none_some q)
+
+  pub place_none_at : place_in u n (entries_in count (drop 24 f)) ≡ None → count ≤ pair_place u n (entries_in count (drop 24 f))
+  place_none_at e = go (ltb (pair_place u n (entries_in count (drop 24 f))) (length (entries_in count (drop 24 f)))) refl e
+    where
+      go : (b : Bool) → ltb (pair_place u n (entries_in count (drop 24 f))) (length (entries_in count (drop 24 f))) ≡ b
+          → cond b (Some (pair_place u n (entries_in count (drop 24 f)))) None ≡ None
+          → count ≤ pair_place u n (entries_in count (drop 24 f))
+      go true h q = absurd (none_some (sym q))
+      go false h q = omega (arith, ltb-false _ _ h, length-entries_in count (drop 24 f))
 
 -- what the acceptance of entries tells of the first of them
 module _ (R : Rules) (f : List ℕ) (base : ℕ) (w : walk_from f base ≡ accept) where
@@ -207,15 +239,15 @@ module _ (R : Rules) (f : List ℕ) (base : ℕ) (w : walk_from f base ≡ accep
 
   -- a hit is a chunk's beginning
   pub hit_start : (u n x : ℕ) (es : List Entry) (earlier : List Ref) (p : ℕ) → entries_fault R base (chunks_from f base) earlier p es ≡ accept
-      → hit_in u n es ≡ At x → is_start x base (chunks_from f base) ≡ true
+      → hit_in u n es ≡ Some x → is_start x base (chunks_from f base) ≡ true
   unfolding hit_in
   hit_start u n x [] earlier p h e = let z : ◌≡◌ {A = ℕ} 0 1 = cc in absurd (omega arith)
   hit_start u n x (y ∷ es) earlier p h e =
       let a = first_entry y es earlier p h in
       go (eqb y.usage u && eqb y.number n) a.0 (hit_start u n x es (earlier ++ (ref_of base (chunks_from f base) y ∷ [])) (p + 12) a.2) e
     where
-      go : (b : Bool) → is_start y.start base (chunks_from f base) ≡ true → (hit_in u n es ≡ At x → is_start x base (chunks_from f base) ≡ true)
-          → pick_hit b y.start (hit_in u n es) ≡ At x → is_start x base (chunks_from f base) ≡ true
+      go : (b : Bool) → is_start y.start base (chunks_from f base) ≡ true → (hit_in u n es ≡ Some x → is_start x base (chunks_from f base) ≡ true)
+          → pick_hit b y.start (hit_in u n es) ≡ Some x → is_start x base (chunks_from f base) ≡ true
       go true s ih e = let q : y.start ≡ x = cc in rw (← q) s
       go false s ih e = ih e
 
@@ -269,7 +301,7 @@ module _ (R : Rules) (f : List ℕ) (base : ℕ) (w : walk_from f base ≡ accep
       go false e later ih = ih
 
 -- the chunk of a hit
-pub hit_begun : (f : List ℕ) (count u n x : ℕ) → EntriesPassed f count → hit_in u n (entries_in count (drop 24 f)) ≡ At x
+pub hit_begun : (f : List ℕ) (count u n x : ℕ) → EntriesPassed f count → hit_in u n (entries_in count (drop 24 f)) ≡ Some x
     → (x < length f) × (walk_from f x ≡ accept)
 hit_begun f count u n x j e =
     let b = begun f x (place count) j.walks (hit_start j.rules f (place count) j.walks u n x (entries_in count (drop 24 f)) [] 24 j.entries e) in

@@ -17,7 +17,7 @@ use Rattle.chunks.specs.Ordinary.{ordinary_type, all_ordinary}
 use Rattle.chunks.proofs.ChunkLaws.{ordinary_not, fine, chunks_end}
 use Rattle.blorb.proofs.Checks.{pass, stop, holds_last, fails_last, accepts, refuses, then_accept, check_accept, and_both}
 use Rattle.index.specs.Entries.{place}
-use Rattle.index.specs.declared.entries.Hit.TheVariants.{At, Nothing}
+use Rattle.std.specs.Prelude.{Some, None}
 use Rattle.index.specs.Hits.{hit_in}
 use Rattle.index.specs.Optional.{pictured, single_by, one_rule, rules_from, optional_fault}
 use Rattle.index.proofs.IndexLaws.{body_word, picture_hit}
@@ -101,11 +101,11 @@ module _ (f : List ℕ) (count at n : ℕ) (en : n ≡ rd32 (drop (at + 8) f)) w
   same : pictured f count (rd32 (drop (at + 8) f)) ≡ pictured f count n
   same = ap (pictured f count) (sym en)
 
-  pub front-none : hit_in Pict n (entries_in count (drop 24 f)) ≡ Nothing → refuse 19 (at + 8) ≡ check (pictured f count (rd32 (drop (at + 8) f))) 19 (at + 8)
+  pub front-none : hit_in Pict n (entries_in count (drop 24 f)) ≡ None → refuse 19 (at + 8) ≡ check (pictured f count (rd32 (drop (at + 8) f))) 19 (at + 8)
   unfolding pictured
   front-none e = sym (fails_last _ _ _ (same ∙ rw e))
 
-  module _ (x t : ℕ) (e : hit_in Pict n (entries_in count (drop 24 f)) ≡ At x) (et : t ≡ rd32 (drop x f)) where
+  module _ (x t : ℕ) (e : hit_in Pict n (entries_in count (drop 24 f)) ≡ Some x) (et : t ≡ rd32 (drop x f)) where
     pub front_rect : t ≡ Rect → refuse 19 (at + 8) ≡ check (pictured f count (rd32 (drop (at + 8) f))) 19 (at + 8)
     unfolding pictured
     front_rect q = sym (fails_last _ _ _ (same ∙ rw (e, ← et, q)))

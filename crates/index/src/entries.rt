@@ -143,12 +143,12 @@ fn unstarted(s: &[u8], p: usize) -> Result<usize, Refusal>
     requires { p + 12 ≤ length s.now }
     ensures { result ≡ judged_by (unstarted_fault s.now p) 0 }
 {
-    if Usage::of_code(blorb::be32_at(s, p)).is_none() {
+    let Some(_) = Usage::of_code(blorb::be32_at(s, p)) else {
         return Err(Refusal {
             fault: Fault::UnknownUsage,
             place: p,
         });
-    }
+    };
     Err(Refusal {
         fault: Fault::Start,
         place: p + 8,
@@ -223,9 +223,10 @@ pub fn entries(s: &[u8], profile: u32, count: usize) -> Result<(), Refusal>
             });
         }
         if found < before {
+            let place = p + 8;
             return Err(Refusal {
                 fault: Fault::Order,
-                place: p + 8,
+                place,
             });
         }
     }

@@ -1,3 +1,4 @@
+-- Each turn asks one entry; the place found is that of the definition, or there is none.
 use borrow.Author.Rules.{rules}
 use native.Mathlib.Omega.{arith}
 use mathlib.Core.Path.{◌≡◌, sym, ap, ◌∙◌}
@@ -5,7 +6,7 @@ use Prim.Native.Nat.{ℕ, ◌+◌, ◌-◌}
 use lib.ListN.{drop}
 use Rattle.blorb.specs.Format.{entries_in}
 use Rattle.index.specs.Entries.{place, pair_place}
-use Rattle.index.proofs.IndexLaws.{place_hit, place-next, place_end}
+use Rattle.index.proofs.IndexLaws.{place_hit, place-next, place_end, in_place, no_place}
 use Rattle.index.proofs.entries.find_place.Goals as goal
 
 pub loop-i-init : goal.loop-i-init
@@ -15,8 +16,9 @@ loop-i-init c =
     (search rules, ap (λ (k : ℕ). 0 + pair_place a.code a.number (entries_in k (drop 24 a.s.now))) z ∙ omega arith)
 
 pub returns-then-be32_at-code : goal.returns-then-be32_at-code
-returns-then-be32_at-code c = place_hit _ _ _ _ _ _ _ c.loop-i-test.true c.be32_at.ensures.0 c.be32_at-in-loop-i.ensures.0
-    c.if-be32_at-code.true ∙ c.loop-i.invariant.1
+returns-then-be32_at-code c =
+    in_place c.args.s.now c.args.code c.args.number c.args.count c.loop-i.i (place_hit _ _ _ _ _ _ _ c.loop-i-test.true c.be32_at.ensures.0 c.be32_at-in-loop-i.ensures.0
+    c.if-be32_at-code.true ∙ c.loop-i.invariant.1) c.loop-i-test.true
 
 pub loop-i-preserved : goal.loop-i-preserved
 loop-i-preserved c = (
@@ -31,5 +33,6 @@ returns c =
     let l = c.loop-i in
     let z : a.count - l.i ≡ 0 = omega arith in
     let e : l.i ≡ a.count = omega arith in
-    sym e ∙ sym (ap (λ (k : ℕ). l.i + pair_place a.code a.number (entries_in k (drop (place l.i) a.s.now))) z ∙ place_end a.s.now a.code
-    a.number l.i) ∙ l.invariant.1
+    no_place a.s.now a.code a.number a.count a.count
+    (sym e ∙ sym (ap (λ (k : ℕ). l.i + pair_place a.code a.number (entries_in k (drop (place l.i) a.s.now))) z ∙ place_end a.s.now a.code a.number l.i)
+    ∙ l.invariant.1) (omega arith)

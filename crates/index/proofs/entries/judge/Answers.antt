@@ -19,7 +19,7 @@ typed-requires c = let b = begun _ _ _ c.requires.1
 
 pub returns-then-not-typed : goal.returns-then-not-typed
 returns-then-not-typed c = by_14 _ _ _ _ _ _ c.be32_at-code.ensures.0 _
-    (sym c.of_code.ensures ∙ c.in-Is.is)
+    (sym c.of_code.ensures ∙ c.in-Some.is)
     c.be32_at-start.ensures.0
     (sym c.begins_behind.ensures
     ∙ c.if-not-begins_behind.false) (sym c.typed.ensures ∙ c.if-not-typed.true)
@@ -27,7 +27,7 @@ returns-then-not-typed c = by_14 _ _ _ _ _ _ c.be32_at-code.ensures.0 _
 pub returns-then-not-numbered : goal.returns-then-not-numbered
 returns-then-not-numbered c = by_15 _ _ _ _ _ _ c.be32_at-code.ensures.0 _
     (sym c.of_code.ensures
-    ∙ c.in-Is.is)
+    ∙ c.in-Some.is)
     c.be32_at-start.ensures.0
     (sym c.begins_behind.ensures
     ∙ c.if-not-begins_behind.false) (sym c.typed.ensures
@@ -37,7 +37,7 @@ returns-then-not-numbered c = by_15 _ _ _ _ _ _ c.be32_at-code.ensures.0 _
 pub returns : goal.returns
 returns c = by_good _ _ _ _ _ _ c.be32_at-code.ensures.0 _
     (sym c.of_code.ensures
-    ∙ c.in-Is.is)
+    ∙ c.in-Some.is)
     c.be32_at-start.ensures.0
     (sym c.begins_behind.ensures
     ∙ c.if-not-begins_behind.false) (sym c.typed.ensures

@@ -10,11 +10,11 @@ returns-in_default c = front-none _ _ _ _ c.be32_at.ensures.0 (sym c.find.ensure
 
 pub be32_at-requires-2 : goal.be32_at-requires-2
 be32_at-requires-2 c = let b = hit_begun _ _ _ _ _ c.requires.0
-    (sym c.find.ensures ∙ c.in-At.is) in omega (arith, (fine _ _ b.0 b.1).header)
+    (sym c.find.ensures ∙ c.in-Some.is) in omega (arith, (fine _ _ b.0 b.1).header)
 
 pub returns-then-be32_at-eq-RECT : goal.returns-then-be32_at-eq-RECT
 returns-then-be32_at-eq-RECT c = front_rect _ _ _ _ c.be32_at.ensures.0 _ _
-    (sym c.find.ensures ∙ c.in-At.is) c.be32_at-2.ensures.0
+    (sym c.find.ensures ∙ c.in-Some.is) c.be32_at-2.ensures.0
     c.if-be32_at-eq-RECT.true
 
 pub returns : goal.returns
@@ -22,4 +22,4 @@ returns c = front-there c.args.s.now
     c.args.count
     c.args.at c.be32_at.result
     c.be32_at.ensures.0 _ _ (sym c.find.ensures
-    ∙ c.in-At.is) c.be32_at-2.ensures.0 c.if-be32_at-eq-RECT.false
+    ∙ c.in-Some.is) c.be32_at-2.ensures.0 c.if-be32_at-eq-RECT.false

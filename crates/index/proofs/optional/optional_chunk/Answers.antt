@@ -1,6 +1,6 @@
-use mathlib.Core.Path.{sym, ap, ◌∙◌}
+use mathlib.Core.Path.{sym, ◌∙◌}
 use native.Mathlib.Omega.{arith}
-use Rattle.blorb.specs.Refusals.{verdict_of}
+use Rattle.std.proofs.lemmas.Result.{err_from_is_err_and}
 use Rattle.chunks.proofs.ChunkLaws.{fine}
 use Rattle.index.proofs.OptionalLaws.{single-length, rule_none, rule_reln, fspc_stop, fspc_on}
 use Rattle.index.proofs.optional.optional_chunk.Goals as goal
@@ -16,21 +16,21 @@ pub returns-then-t-ne-FSPC : goal.returns-then-t-ne-FSPC
 returns-then-t-ne-FSPC c = rule_none _ _ c.requires.1 c.requires.2 _ _ _ _
     c.be32_at-t.ensures.0 c.if-t-eq-RELN.false c.if-t-ne-FSPC.true
 
-pub returns-in-Refused : goal.returns-in-Refused
-returns-in-Refused c = fspc_stop _ _ c.requires.1
-    c.requires.2 _ _ _ _
-    c.be32_at-t.ensures.0 c.if-t-eq-RELN.false
-    c.if-t-ne-FSPC.false _ _ (sym c.single-2.ensures ∙ ap verdict_of c.in-Refused.is)
+pub returns-in_err-single : goal.returns-in_err-single
+returns-in_err-single c =
+    let p = err_from_is_err_and c.from_residual.result c.from_residual.ensures.1 in
+    rw (p.1, p.2)
+    (fspc_stop _ _ c.requires.1 c.requires.2 _ _ _ _ c.be32_at-t.ensures.0 c.if-t-eq-RELN.false c.if-t-ne-FSPC.false _ _
+    (sym c.in_err-single.ensures))
 
 pub frontispiece-requires : goal.frontispiece-requires
 frontispiece-requires c = let i = fine _ _ c.requires.1
     c.requires.2 in let l =
     single-length _ _ c.requires.1 c.requires.2
-    c.args.fspc 4 (sym c.single-2.ensures
-    ∙ ap verdict_of c.in_default.is) in (c.requires.0, omega (arith, i.inside, i.next, l))
+    c.args.fspc 4 (sym c.in_ok-single.ensures) in (c.requires.0, omega (arith, i.inside, i.next, l))
 
 pub returns : goal.returns
 returns c = c.frontispiece.ensures ∙ fspc_on _ _ c.requires.1
     c.requires.2 _ _ _ _
     c.be32_at-t.ensures.0 c.if-t-eq-RELN.false
-    c.if-t-ne-FSPC.false (sym c.single-2.ensures ∙ ap verdict_of c.in_default.is)
+    c.if-t-ne-FSPC.false (sym c.in_ok-single.ensures)
