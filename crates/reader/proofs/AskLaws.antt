@@ -1,4 +1,9 @@
 -- What an accepted file's entries and lookups give.
+use Rattle.std.specs.Prelude.{Ok, Some, None, Option}
+use Rattle.blorb.specs.Refusals.{Refused}
+use Rattle.blorb.proofs.RefusalLaws.{same_refusal}
+use Rattle.reader.specs.declared.Accepted.{Accepted}
+use Rattle.reader.specs.declared.Resource.{Resource}
 use mathlib.Core.Path.{◌≡◌, refl, sym, ap, ◌∙◌}
 use Prim.Native.Nat.{ℕ, zero, suc, ◌+◌, ◌-◌, ◌≤◌, ◌<◌}
 use mathlib.Core.List.{List, [], ◌∷◌, ◌++◌}
@@ -21,14 +26,7 @@ use Rattle.blorb.proofs.ShownLaws.{left_most}
 use Rattle.index.specs.Entries.{usage_at, number_at, start_at, place, earlier}
 use Rattle.blorb.specs.Usages.{usage_of}
 use Rattle.blorb.specs.declared.Usage.{Usage}
-use Rattle.blorb.specs.declared.Known.{Known}
-use Rattle.blorb.specs.declared.Known.TheVariants.{Is, Unknown}
-use Rattle.reader.specs.declared.Reading.TheVariants.{Accepted, Refused}
-use Rattle.reader.specs.declared.Asked.TheVariants.{Given, Refused as Withheld}
-use Rattle.index.specs.declared.entries.Hit.{Hit}
-use Rattle.index.specs.declared.entries.Hit.TheVariants.{At, Nothing}
-use Rattle.reader.specs.declared.Looked.TheVariants.{Found, Refused as Missing}
-use Rattle.reader.specs.Reading.{index_of, read_by, read_of, given_by, no_entry, asked_of, found_by, looked_by, lookup_of}
+use Rattle.reader.specs.Reading.{found_with, accepted_with, index_of, read_by, read_of, given_by, no_entry, asked_of, found_by, looked_by, lookup_of}
 use Rattle.index.specs.Hits.{hit_in}
 use Rattle.index.specs.Optional.{EntriesPassed}
 use Rattle.reader.specs.Passed.{Passed, model_at}
@@ -73,16 +71,18 @@ good profile f h =
       model = model_of f a2.0 a3.0 a5.0 count refl;
     }
 
-pub read_go : (v : Verdict) (l n a b : ℕ) → read_by v a b ≡ Accepted l n → (v ≡ accept) × (a ≡ l) × (b ≡ n)
-read_go accept l n a b e = (refl, cc, cc)
+pub read_go : (v : Verdict) (l n a b : ℕ) → read_by v a b ≡ accepted_with l n → (v ≡ accept) × (a ≡ l) × (b ≡ n)
+read_go accept l n a b e =
+    let z : ◌≡◌ {A = Accepted} (record { length = a; count = b }) (record { length = l; count = n }) = cc in
+    (refl, ap (λ (x : Accepted). x.length) z, ap (λ (x : Accepted). x.count) z)
 read_go (refuse k p) l n a b e = let z : ◌≡◌ {A = ℕ} 0 1 = cc in absurd (omega arith)
 
 read_no : (v : Verdict) (k p a b : ℕ) → read_by v a b ≡ Refused k p → v ≡ refuse k p
 read_no accept k p a b e = let z : ◌≡◌ {A = ℕ} 0 1 = cc in absurd (omega arith)
-read_no (refuse x y) k p a b e = let q : x ≡ k = cc in let r : y ≡ p = cc in rw (q, r)
+read_no (refuse x y) k p a b e = let q = same_refusal e in rw (q.0, q.1)
 
 module _ (profile : ℕ) (f : List ℕ) where
-  pub accepted : (l n : ℕ) → read_of profile f ≡ Accepted l n → Good profile f n
+  pub accepted : (l n : ℕ) → read_of profile f ≡ accepted_with l n → Good profile f n
   unfolding read_of
   accepted l n e =
       let q = read_go (profile_verdict profile f) l n (length f) (length (index_of f)) e in
@@ -99,12 +99,12 @@ module _ (profile : ℕ) (f : List ℕ) where
   refused_as k p e = read_no (profile_verdict profile f) k p (length f) (length (index_of f)) e
 
 module _ (profile : ℕ) (f : List ℕ) (i : ℕ) where
-  pub entry_no : (k p : ℕ) → profile_verdict profile f ≡ refuse k p → Withheld k p ≡ asked_of profile f i
+  pub entry_no : (k p : ℕ) → profile_verdict profile f ≡ refuse k p → Refused k p ≡ asked_of profile f i
   unfolding asked_of
   entry_no k p e = rw e
 
   module _ (n : ℕ) (g : Good profile f n) where
-    pub entry_22 : n ≤ i → Withheld 22 0 ≡ asked_of profile f i
+    pub entry_22 : n ≤ i → Refused 22 0 ≡ asked_of profile f i
     unfolding asked_of
     entry_22 l = rw (g.verdict, g.many, le-ltb i n l)
 
@@ -114,7 +114,7 @@ module _ (profile : ℕ) (f : List ℕ) (i : ℕ) where
         rw (g.verdict, g.many, lt-ltb i n l, g.index, entry-get_or f n i 24 no_entry l, drop-drop 4 (place i) f, drop-drop 8 (place i) f)
 
 module _ (profile : ℕ) (f : List ℕ) (u n : ℕ) where
-  pub look_no : (k p : ℕ) → profile_verdict profile f ≡ refuse k p → Missing k p ≡ lookup_of profile f u n
+  pub look_no : (k p : ℕ) → profile_verdict profile f ≡ refuse k p → Refused k p ≡ lookup_of profile f u n
   unfolding lookup_of
   look_no k p e = rw e
 
@@ -123,11 +123,11 @@ module _ (profile : ℕ) (f : List ℕ) (u n : ℕ) where
     unfolding lookup_of
     look_on = rw (g.verdict, g.index)
 
-    pub look_22 : hit_in u n (entries_in count (drop 24 f)) ≡ Nothing → Missing 22 0 ≡ lookup_of profile f u n
+    pub look_22 : hit_in u n (entries_in count (drop 24 f)) ≡ None → Refused 22 0 ≡ lookup_of profile f u n
     look_22 e = sym (look_on ∙ rw e)
 
-    pub look_found : (x t m k : ℕ) → hit_in u n (entries_in count (drop 24 f)) ≡ At x → t ≡ rd32 (drop x f) → m ≡ rd32 (drop (x + 4) f) → k ≡ left_out_of t
-        → Found t (x + k) (8 + m - k) ≡ lookup_of profile f u n
+    pub look_found : (x t m k : ℕ) → hit_in u n (entries_in count (drop 24 f)) ≡ Some x → t ≡ rd32 (drop x f) → m ≡ rd32 (drop (x + 4) f) → k ≡ left_out_of t
+        → found_with t (x + k) (8 + m - k) ≡ lookup_of profile f u n
     unfolding chunk_in
     look_found x t m k e et em ek =
         let b = hit_begun f count u n x g.passed.judged e in
@@ -135,37 +135,42 @@ module _ (profile : ℕ) (f : List ℕ) (u n : ℕ) where
         sym (look_on ∙ rw (e, l, ← et, ← ek))
 
 -- the part that a lookup names lies in the file
-part_go : (profile : ℕ) (f : List ℕ) (u n count t a m : ℕ) (g : Good profile f count) (x : Hit) → hit_in u n (entries_in count (drop 24 f)) ≡ x
-    → found_by f x ≡ Found t a m → a + m ≤ length f
-part_go profile f u n count t a m g (At x) e q =
+part_go : (profile : ℕ) (f : List ℕ) (u n count t a m : ℕ) (g : Good profile f count) (x : Option ℕ) → hit_in u n (entries_in count (drop 24 f)) ≡ x
+    → found_by f x ≡ found_with t a m → a + m ≤ length f
+part_go profile f u n count t a m g (Some x) e q =
     let b = hit_begun f count u n x g.passed.judged e in
     let i = fine f x b.0 b.1 in
-    let ea : x + left_out_of (chunk_from f x).type ≡ a = cc in
-    let em : 8 + length (chunk_from f x).body - left_out_of (chunk_from f x).type ≡ m = cc in
+    let z : ◌≡◌ {A = Resource} (record {
+      kind = (chunk_from f x).type;
+      start = x + left_out_of (chunk_from f x).type;
+      length = 8 + length (chunk_from f x).body - left_out_of (chunk_from f x).type;
+    }) (record { kind = t; start = a; length = m }) = cc in
+    let ea : x + left_out_of (chunk_from f x).type ≡ a = ap (λ (r : Resource). r.start) z in
+    let em : 8 + length (chunk_from f x).body - left_out_of (chunk_from f x).type ≡ m = ap (λ (r : Resource). r.length) z in
     omega (arith, left_most (chunk_from f x).type, i.inside, i.next, i.bodied)
-part_go profile f u n count t a m g Nothing e q = let z : ◌≡◌ {A = ℕ} 0 1 = cc in absurd (omega arith)
+part_go profile f u n count t a m g None e q = let z : ◌≡◌ {A = ℕ} 0 1 = cc in absurd (omega arith)
 
-look_go : (profile : ℕ) (f : List ℕ) (u n t a m : ℕ) (v : Verdict) → profile_verdict profile f ≡ v → looked_by v (found_by f (hit_in u n (index_of f))) ≡ Found t
+look_go : (profile : ℕ) (f : List ℕ) (u n t a m : ℕ) (v : Verdict) → profile_verdict profile f ≡ v → looked_by v (found_by f (hit_in u n (index_of f))) ≡ found_with t
     a m → a + m ≤ length f
 look_go profile f u n t a m accept e q =
     let g = good profile f e in
     part_go profile f u n (rd32 (drop 20 f)) t a m g (hit_in u n (entries_in (rd32 (drop 20 f)) (drop 24 f))) refl (rw g.index at q)
 look_go profile f u n t a m (refuse k p) e q = let z : ◌≡◌ {A = ℕ} 0 1 = cc in absurd (omega arith)
 
-pub part_in : (profile : ℕ) (f : List ℕ) (u n t a m : ℕ) → lookup_of profile f u n ≡ Found t a m → a + m ≤ length f
+pub part_in : (profile : ℕ) (f : List ℕ) (u n t a m : ℕ) → lookup_of profile f u n ≡ found_with t a m → a + m ≤ length f
 unfolding lookup_of
 part_in profile f u n t a m q = look_go profile f u n t a m (profile_verdict profile f) refl q
 
 -- an entry by the numbers that the code has read
 module _ (profile : ℕ) (f : List ℕ) (i n : ℕ) (g : Good profile f n) (l : i < n) (u : ℕ) (eu : u ≡ usage_at f (place i)) where
-  pub entry_unknown : usage_of u ≡ Unknown → Withheld 12 (place i) ≡ asked_of profile f i
+  pub entry_unknown : usage_of u ≡ None → Refused 12 (place i) ≡ asked_of profile f i
   entry_unknown e = rw (rw eu at e) at (entry-there profile f i n g l)
 
-  pub entry_known : (k : Usage) (a x : ℕ) → usage_of u ≡ Is k → a ≡ number_at f (place i) → x ≡ start_at f (place i)
-      → Given (record { usage = k; number = a; start = x }) ≡ asked_of profile f i
+  pub entry_known : (k : Usage) (a x : ℕ) → usage_of u ≡ Some k → a ≡ number_at f (place i) → x ≡ start_at f (place i)
+      → Ok (record { usage = k; number = a; start = x }) ≡ asked_of profile f i
   entry_known k a x e ea ex =
-      let q : usage_of (usage_at f (place i)) ≡ Is k = rw eu at e in
-      (λ j. Given (record { usage = k; number = ea j; start = ex j })) ∙ (rw q at (entry-there profile f i n g l))
+      let q : usage_of (usage_at f (place i)) ≡ Some k = rw eu at e in
+      (λ j. Ok (record { usage = k; number = ea j; start = ex j })) ∙ (rw q at (entry-there profile f i n g l))
 
 -- the entries of an accepted file have a known usage
 pub known_at : (R : Rules) (f : List ℕ) (base : ℕ) (es : List Entry) (earlier : List Ref) (p i : ℕ) (d : Entry)
@@ -177,12 +182,12 @@ known_at R f base (e ∷ es) earlier p (suc i) d h l =
     known_at R f base es (earlier ++ (ref_of base (chunks_from f base) e ∷ [])) (p + 12) i d
     (then_accept _ _ (then_accept _ _ (then_accept _ _ (then_accept _ _ h).1).1).1).1 (le_of_suc-le-suc l)
 
-pub not_unknown : (u : ℕ) (k : Known) → usage_of u ≡ k → known_usage_of u ≡ true → (x : Usage) × (usage_of u ≡ Is x)
-not_unknown u (Is x) e h = (x, e)
-not_unknown u Unknown e h = let n : known_usage_of u ≡ false = known_not u e in let z : ◌≡◌ {A = ℕ} 0 1 = cc in absurd (omega arith)
+pub not_unknown : (u : ℕ) (k : Option Usage) → usage_of u ≡ k → known_usage_of u ≡ true → (x : Usage) × (usage_of u ≡ Some x)
+not_unknown u (Some x) e h = (x, e)
+not_unknown u None e h = let n : known_usage_of u ≡ false = known_not u e in let z : ◌≡◌ {A = ℕ} 0 1 = cc in absurd (omega arith)
 
 pub given_as : (profile : ℕ) (f : List ℕ) (i : ℕ) → profile_verdict profile f ≡ accept → i < length (index_of f) → (x : Usage)
-    → usage_of (get_or (index_of f) i no_entry).usage ≡ Is x
-    → asked_of profile f i ≡ Given (record { usage = x; number = (get_or (index_of f) i no_entry).number; start = (get_or (index_of f) i no_entry).start })
+    → usage_of (get_or (index_of f) i no_entry).usage ≡ Some x
+    → asked_of profile f i ≡ Ok (record { usage = x; number = (get_or (index_of f) i no_entry).number; start = (get_or (index_of f) i no_entry).start })
 unfolding asked_of
 given_as profile f i h l x e = rw (h, lt-ltb i (length (index_of f)) l, e)

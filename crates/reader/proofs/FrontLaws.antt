@@ -1,5 +1,7 @@
 -- The frontispiece of a file that the reader has passed. Rule 7 has judged its length, so its number can be read; the first 'Fspc' that the walk meets is
 -- the model's, and there is none among ordinary chunks.
+use Rattle.reader.specs.declared.Frontispiece.{Frontispiece}
+use Rattle.std.specs.Prelude.{Some, None, Option}
 use mathlib.Core.Path.{◌≡◌, refl, sym, ap, ◌∙◌}
 use Prim.Native.Nat.{ℕ, suc, ◌+◌, ◌≤◌, ◌<◌}
 use mathlib.Core.List.{List, [], ◌∷◌}
@@ -23,15 +25,13 @@ use Rattle.index.specs.Entries.{place}
 use Rattle.index.specs.Optional.{one_rule, rules_from, optional_fault}
 use Rattle.reader.specs.Passed.{Passed, model_at, Fronts, pick_front, front_from_of}
 use Rattle.reader.specs.Inspecting.{front_by, front_of}
-use Rattle.reader.specs.declared.Front.{Front}
-use Rattle.reader.specs.declared.Front.TheVariants as front
 use Rattle.chunks.proofs.ChunkLaws.{fine, chunks_end, ordinary_not}
 use Rattle.index.proofs.IndexLaws.{body_word}
 use Rattle.reader.proofs.PartLaws.{refs_count}
 
 -- the frontispiece: the loop
 module _ (f : List ℕ) (at : ℕ) where
-  pub front_end : length f ≤ at → front.Nothing ≡ front_from_of at (chunks_from f at)
+  pub front_end : length f ≤ at → None ≡ front_from_of at (chunks_from f at)
   unfolding front_from_of
   front_end h = rw (chunks_end f at h)
 
@@ -47,13 +47,13 @@ module _ (f : List ℕ) (at : ℕ) where
           let l : length (chunk_from f at).body ≡ 4 = fronts_on.0 (sym et ∙ e) in
           omega (arith, i.inside, i.next, i.bodied)
 
-      pub front_hit : t ≡ Fspc → (n : ℕ) → n ≡ rd32 (drop (at + 8) f) → front.At at n ≡ front_from_of at (chunks_from f at)
+      pub front_hit : t ≡ Fspc → (n : ℕ) → n ≡ rd32 (drop (at + 8) f) → Some (record { start = at; number = n }) ≡ front_from_of at (chunks_from f at)
       unfolding front_from_of chunk_in
       front_hit e n en =
           let i = fine f at h w in
           let l : length (chunk_from f at).body ≡ 4 = fronts_on.0 (sym et ∙ e) in
           let q : rd32 (chunk_from f at).body ≡ n = body_word f at (omega (arith, i.bodied)) ∙ sym en in
-          rw (i.chunks, ← et, eq-eqb t Fspc e) (ap (front.At at) (sym q))
+          rw (i.chunks, ← et, eq-eqb t Fspc e) (ap (λ (x : ℕ). Some (record { start = at; number = x })) (sym q))
 
       pub front-next : (t ≡ Fspc → ⊥) → (Fronts (chunks_from f (skip_at f at))) × (front_from_of (skip_at f at) (chunks_from f (skip_at f at)) ≡ front_from_of at
           (chunks_from f at))
@@ -79,9 +79,9 @@ unfolding optional_fault
 passed_fronts f count g = rules_fronts _ false false (place count) (chunks_from f (place count)) g.optional
 
 -- the first frontispiece is the model's
-abbrev front_in : Bool → ℕ → List Chunk → ℕ → Front
-front_in true at cs k = front.At (start_of at cs k) (rd32 (get_or cs k no_chunk).body)
-front_in false at cs k = front.Nothing
+abbrev front_in : Bool → ℕ → List Chunk → ℕ → Option Frontispiece
+front_in true at cs k = Some (record { start = (start_of at cs k); number = (rd32 (get_or cs k no_chunk).body) })
+front_in false at cs k = None
 
 front-first : (at : ℕ) (cs : List Chunk) → front_from_of at cs ≡ front_in (type_in Fspc cs) at cs (front_place cs)
 unfolding front_from_of type_in front_place
@@ -90,8 +90,8 @@ front-first at (c ∷ cs) = go (eqb c.type Fspc) (type_in Fspc cs) (front-first 
   where
     go : (b t : Bool) → front_from_of (at + size c) cs ≡ front_in t (at + size c) cs (front_place cs)
         → pick_front b at (rd32 c.body) (front_from_of (at + size c) cs) ≡ front_in (b || t) at (c ∷ cs) (cond b 0 (suc (front_place cs)))
-    go true t ih = ap (λ (x : ℕ). front.At x (rd32 c.body)) (sym (start_of-zero at (c ∷ cs)))
-    go false true ih = ih ∙ ap (λ (x : ℕ). front.At x (rd32 (get_or cs (front_place cs) no_chunk).body)) (sym (start_of-suc at c cs (front_place cs)))
+    go true t ih = ap (λ (x : ℕ). Some (record { start = x; number = (rd32 c.body) })) (sym (start_of-zero at (c ∷ cs)))
+    go false true ih = ih ∙ ap (λ (x : ℕ). Some (record { start = x; number = (rd32 (get_or cs (front_place cs) no_chunk).body) })) (sym (start_of-suc at c cs (front_place cs)))
     go false false ih = ih
 
 front-model : (b : Bool) (f : List ℕ) (count : ℕ) → front_in b (place count) (chunks_from f (place count)) (front_place (chunks_from f (place count))) ≡ front_by
@@ -111,6 +111,6 @@ ordinary_fronts (c ∷ cs) e =
     let q = and_both (ordinary_type c.type) (all_ordinary cs) e in
     rw (ordinary_not c.type q.0).2 (ordinary_fronts cs q.1)
 
-pub front_ordinary : (f : List ℕ) (count : ℕ) → all_ordinary (chunks_from f (place count)) ≡ true → front.Nothing ≡ front_of (model_at f count)
+pub front_ordinary : (f : List ℕ) (count : ℕ) → all_ordinary (chunks_from f (place count)) ≡ true → None ≡ front_of (model_at f count)
 unfolding front_of
 front_ordinary f count e = rw (ordinary_fronts (chunks_from f (place count)) e)

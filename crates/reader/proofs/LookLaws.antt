@@ -1,4 +1,8 @@
 -- The lookup of an accepted file and the lookup over its model.
+use Rattle.blorb.specs.declared.refusal.Refusal.{Refusal}
+use Rattle.reader.specs.declared.Resource.{Resource}
+use Rattle.std.specs.Prelude.{Some, Result}
+use Rattle.blorb.specs.Refusals.{Refused}
 use mathlib.Core.Path.{◌≡◌, refl, sym, ap, ◌∙◌}
 use Prim.Native.Nat.{ℕ, zero, suc, ◌+◌, ◌-◌, ◌≤◌, ◌<◌}
 use mathlib.Core.List.{List, [], ◌∷◌, ◌++◌}
@@ -26,9 +30,6 @@ use Rattle.chunks.specs.Walk.{chunk_from, chunks_from, walk_from}
 use Rattle.index.specs.Entries.{start_at, place, pair_place}
 use Rattle.reader.specs.Reading.{found_at, found_by, lookup_of, part_of}
 use Rattle.index.specs.Hits.{hit_in}
-use Rattle.index.specs.declared.entries.Hit.TheVariants.{At}
-use Rattle.reader.specs.declared.Looked.{Looked}
-use Rattle.reader.specs.declared.Looked.TheVariants.{Refused as Missing}
 use Rattle.chunks.proofs.ChunkLaws.{fine}
 use Rattle.index.proofs.EntryLaws.{pair_snoc}
 use Rattle.index.proofs.IndexLaws.{drop-take, find_at, find_none, first_entry}
@@ -56,7 +57,7 @@ pub record There (profile : ℕ) (f : List ℕ) (u n x : ℕ) : Type 0 where
   pub pair : pair_in u n (model f).refs ≡ true
 
 pub record Absent (profile : ℕ) (f : List ℕ) (u n : ℕ) : Type 0 where
-  pub found : lookup_of profile f u n ≡ Missing 22 0
+  pub found : lookup_of profile f u n ≡ Refused 22 0
   pub looked : lookup (model f) u n ≡ missing
   pub pair : pair_in u n (model f).refs ≡ false
 
@@ -86,7 +87,7 @@ module _ (profile : ℕ) (f : List ℕ) (u n : ℕ) (h : profile_verdict profile
       let cs : (model f).chunks ≡ chunks_from f (place count) = ap (λ (m : Model). m.chunks) g.model in
       record {
         found = found;
-        part = λ bytes. ap (λ (a : Looked). part_of a f) found ∙ part_at f x b.below b.walks bytes;
+        part = λ bytes. ap (λ (a : Result Resource Refusal). part_of a f) found ∙ part_at f x b.below b.walks bytes;
         looked = look_find (model f).chunks u n (model f).refs r ∙ rw (k, cs) (ap here b.chunk);
         begins = rw (k, cs, many_is) (start_of-place_of x (place count) (chunks_from f (place count)) (begins-there f count at_place g.passed l)).0;
         pair = pair_found u n (model f).refs ∙ lt-ltb _ _ r;
@@ -144,7 +145,7 @@ module _ (R : Rules) (f : List ℕ) (base : ℕ) (w : walk_from f base ≡ accep
       (le_of_suc-le-suc m) s
 
   pub only_hit : (es : List Entry) (earlier : List Ref) (p i : ℕ) (d : Entry) → entries_fault R base (chunks_from f base) earlier p es ≡ accept → i < length es
-      → hit_in (get_or es i d).usage (get_or es i d).number es ≡ At (get_or es i d).start
+      → hit_in (get_or es i d).usage (get_or es i d).number es ≡ Some (get_or es i d).start
   unfolding hit_in ref_of
   only_hit [] earlier p i d h l = absurd (not-suc-le-zero l)
   only_hit (e ∷ es) earlier p zero d h l = rw (eq-eqb e.usage e.usage refl, eq-eqb e.number e.number refl)

@@ -1,4 +1,9 @@
 -- The parts of an inspection: from the offsets of a file that the reader has passed to its model.
+use Rattle.std.specs.Prelude.{Ok, Some, None, Option, Result}
+use Rattle.blorb.specs.Refusals.{Refused}
+use Rattle.blorb.specs.declared.refusal.Refusal.{Refusal}
+use Rattle.reader.specs.declared.Judged.{Judged}
+use Rattle.reader.specs.declared.Frontispiece.{Frontispiece}
 use mathlib.Core.Path.{◌≡◌, refl, sym, ap, ◌∙◌}
 use Prim.Native.Nat.{ℕ, zero, suc, ◌+◌, ◌≤◌, ◌<◌}
 use mathlib.Core.List.{List, [], ◌∷◌, map}
@@ -28,15 +33,8 @@ use Rattle.index.specs.Optional.{optional_fault}
 use Rattle.reader.specs.Passed.{read_known, Judges, JudgesEntries, Passed, model_at}
 use Rattle.reader.specs.Inspecting.{piece_of, target_by, target_of, front_of, facts_of, inspection_of}
 use Rattle.reader.specs.declared.Piece.{Piece}
-use Rattle.reader.specs.declared.Target.{Target}
-use Rattle.reader.specs.declared.Target.TheVariants as target
-use Rattle.reader.specs.declared.Front.{Front}
 use Rattle.reader.specs.declared.Facts.{Facts}
-use Rattle.reader.specs.declared.Inspection.TheVariants as inspection
-use Rattle.reader.specs.declared.Judgement.{Judgement}
-use Rattle.reader.specs.declared.Judgement.TheVariants as judgement
-use Rattle.reader.specs.declared.Reading.TheVariants.{Accepted, Refused}
-use Rattle.reader.specs.Reading.{read_by, read_of}
+use Rattle.reader.specs.Reading.{accepted_with, read_by, read_of}
 use Rattle.reader.proofs.AskLaws.{Good}
 use Rattle.chunks.proofs.ChunkLaws.{fine}
 use Rattle.chunks.proofs.StartLaws.{begun, Begun}
@@ -149,14 +147,14 @@ module _ (f : List ℕ) (count u n i : ℕ) (e : i ≡ pair_place u n (entries_i
       let k : find u n (model_at f count).refs ≡ i = find-pair (place count) (chunks_from f (place count)) u n (entries_in count (drop 24 f)) ∙ sym e in
       rw (k, refs_count f count)
 
-  pub target-there : i < count → (p : Piece) → p ≡ piece_of (model_at f count) i → target.At p ≡ target_of (model_at f count) u n
-  target-there h p q = sym (target_on ∙ rw (lt-ltb i count h) (ap target.At (sym q)))
+  pub target-there : i < count → (p : Piece) → p ≡ piece_of (model_at f count) i → Some p ≡ target_of (model_at f count) u n
+  target-there h p q = sym (target_on ∙ rw (lt-ltb i count h) (ap Some (sym q)))
 
-  pub target_none : count ≤ i → target.Nothing ≡ target_of (model_at f count) u n
+  pub target_none : count ≤ i → None ≡ target_of (model_at f count) u n
   target_none h = sym (target_on ∙ rw (le-ltb i count h))
 
 -- all together
-pub facts_are : (f : List ℕ) (count u n x : ℕ) (t : Target) (r : Front) (b : Bool)
+pub facts_are : (f : List ℕ) (count u n x : ℕ) (t : Option Piece) (r : Option Frontispiece) (b : Bool)
     → t ≡ target_of (model_at f count) u n → r ≡ front_of (model_at f count) → b ≡ is_start x (place count) (chunks_from f (place count))
     → ◌≡◌ {A = Facts} (record { count = count; target = t; front = r; begins = b }) (facts_of (model_at f count) u n x)
 unfolding base
@@ -165,7 +163,7 @@ facts_are f count u n x t r b et er eb =
     let s : b ≡ is_start x (base (length (model_at f count).refs)) (chunks_from f (place count)) = rw (refs_count f count) eb in
     λ j. record { count = c j; target = et j; front = er j; begins = s j }
 
--- the verdict of a judgement, and the inspection by it
+-- the verdict by its parts, and the inspection by it
 module _ (profile : ℕ) (f : List ℕ) where
   -- 52 comes first; of a known profile the table decides
   pub unknown_profile : 1 < profile → profile_verdict profile f ≡ refuse 52 0
@@ -181,28 +179,17 @@ module _ (profile : ℕ) (f : List ℕ) where
   known_is h = let q : profile_verdict profile f ≡ verdict (rules_of profile) f = profile_known profile f (le-leb _ _ h) in rw q
 
   -- what is left once refusals 1 to 16 and 27 to 29 are ruled out
-  pub entries_no : (r : Judgement) (k p : ℕ) → profile ≤ 1 → JudgesEntries profile r f → r ≡ judgement.Refused k p → Refused k p ≡ read_of profile f
-  entries_no r k p h j e = (rw e at j) ∙ known_is h
-
-  pub entries-good : (r : Judgement) (n : ℕ) (ordinary : Bool) → JudgesEntries profile r f → r ≡ judgement.Good n ordinary → JudgesEntries profile
-      (judgement.Good n ordinary) f
-  entries-good r n ordinary j e = rw e at j
+  pub entries_no : (k p : ℕ) → profile ≤ 1 → Refused k p ≡ read_known profile f → Refused k p ≡ read_of profile f
+  entries_no k p h j = j ∙ known_is h
 
   -- 17 to 19 decide
   pub rest-is : (n : ℕ) (v : Verdict) → profile ≤ 1 → read_by (optional_fault f n) (length f) n ≡ read_known profile f → optional_fault f n ≡ v
       → read_by v (length f) n ≡ read_of profile f
   rest-is n v h q e = ap (λ (x : Verdict). read_by x (length f) n) (sym e) ∙ q ∙ known_is h
 
-  pub judged-good : (r : Judgement) (n : ℕ) (ordinary : Bool) → Judges profile r f → r ≡ judgement.Good n ordinary
-      → (read_of profile f ≡ Accepted (length f) n) × (ordinary ≡ true → all_ordinary (chunks_from f (place n)) ≡ true)
-  judged-good r n ordinary j e = let q : Judges profile (judgement.Good n ordinary) f = rw e at j in (sym q.0, q.1)
-
-  pub judged_no : (r : Judgement) (k p : ℕ) → Judges profile r f → r ≡ judgement.Refused k p → read_of profile f ≡ Refused k p
-  judged_no r k p j e = let q : Judges profile (judgement.Refused k p) f = rw e at j in sym q
-
-  pub inspected_no : (u n x k p : ℕ) → profile_verdict profile f ≡ refuse k p → inspection.Refused k p ≡ inspection_of (profile_verdict profile f) (model f) u n x
+  pub inspected_no : (u n x k p : ℕ) → profile_verdict profile f ≡ refuse k p → Refused k p ≡ inspection_of (profile_verdict profile f) (model f) u n x
   inspected_no u n x k p e = rw e
 
-  pub inspected : (u n x count : ℕ) → Good profile f count → (t : Facts) → t ≡ facts_of (model_at f count) u n x → inspection.Whole t ≡ inspection_of
+  pub inspected : (u n x count : ℕ) → Good profile f count → (t : Facts) → t ≡ facts_of (model_at f count) u n x → Ok t ≡ inspection_of
       (profile_verdict profile f) (model f) u n x
-  inspected u n x count g t e = rw (g.verdict, g.model) (ap inspection.Whole e)
+  inspected u n x count g t e = rw (g.verdict, g.model) (ap Ok e)

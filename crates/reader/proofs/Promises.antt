@@ -1,4 +1,8 @@
 -- What the reader promises to whoever stands above it: laws over the definitions and the public contracts.
+use Rattle.std.specs.Prelude.{Ok, Some, Result}
+use Rattle.blorb.specs.Refusals.{Refused}
+use Rattle.blorb.specs.declared.refusal.Refusal.{Refusal}
+use Rattle.reader.specs.declared.Resource.{Resource}
 use mathlib.Core.Path.{◌≡◌, refl, sym, ap, ◌∙◌}
 use Prim.Native.Nat.{ℕ, ◌+◌, ◌-◌, ◌≤◌, ◌<◌}
 use mathlib.Core.List.{List, [], map}
@@ -27,15 +31,9 @@ use Rattle.chunks.specs.Walk.{chunk_from, chunks_from, walk_from}
 use Rattle.index.specs.Entries.{usage_at, number_at, start_at, place}
 use Rattle.index.specs.Optional.{EntriesPassed}
 use Rattle.reader.specs.Passed.{model_at}
-use Rattle.reader.specs.Reading.{index_of, read_of, no_entry, asked_of, found_at, lookup_of, part_of}
+use Rattle.reader.specs.Reading.{found_with, accepted_with, index_of, read_of, no_entry, asked_of, found_at, lookup_of, part_of}
 use Rattle.index.specs.Hits.{hit_in}
 use Rattle.reader.specs.Inspecting.{inspection_of}
-use Rattle.reader.specs.declared.Inspection.TheVariants as inspection
-use Rattle.reader.specs.declared.Reading.TheVariants.{Accepted, Refused}
-use Rattle.reader.specs.declared.Asked.TheVariants.{Given, Refused as Withheld}
-use Rattle.index.specs.declared.entries.Hit.TheVariants.{At}
-use Rattle.reader.specs.declared.Looked.{Looked}
-use Rattle.reader.specs.declared.Looked.TheVariants.{Found, Refused as Missing}
 use Rattle.chunks.proofs.ChunkLaws.{fine}
 use Rattle.chunks.proofs.StartLaws.{begun}
 use Rattle.blorb.proofs.EntryList.{entry-get_or}
@@ -45,7 +43,7 @@ use Rattle.reader.proofs.PartLaws.{refs_count, starts, unknown_profile}
 use Rattle.reader.proofs.LookLaws.{part_at, either, only_hit, apart}
 
 -- the reading of an accepted file: its length and the number of its model's entries; both within the limits
-pub accepted_is : (profile : ℕ) (f : List ℕ) (l n : ℕ) → read_of profile f ≡ Accepted l n
+pub accepted_is : (profile : ℕ) (f : List ℕ) (l n : ℕ) → read_of profile f ≡ accepted_with l n
     → (l ≡ length f) × (n ≡ length (model f).refs) × (profile_verdict profile f ≡ accept) × (length f ≤ 16777216) × (n ≤ 4096)
 unfolding read_of
 accepted_is profile f l n e =
@@ -56,22 +54,22 @@ accepted_is profile f l n e =
     (sym q.1, c ∙ sym m, q.0, g.passed.short, rw c g.passed.judged.few)
 
 -- and it is its header, its index and its chunks, and nothing else
-pub accepted-file : (profile : ℕ) (f : List ℕ) (l n : ℕ) → read_of profile f ≡ Accepted l n → All Byte f → (file (model f) ≡ f) × Sound (model f)
+pub accepted-file : (profile : ℕ) (f : List ℕ) (l n : ℕ) → read_of profile f ≡ accepted_with l n → All Byte f → (file (model f) ≡ f) × Sound (model f)
 accepted-file profile f l n e bytes = let q = accept_back (rules_of profile) f bytes (profile_accept profile f (accepted_is profile f l n e).2).1
     in (q.0, q.1)
 
 -- a file that the verdict accepts is read so
-pub accepted_when : (profile : ℕ) (f : List ℕ) → profile_verdict profile f ≡ accept → read_of profile f ≡ Accepted (length f) (length (model f).refs)
+pub accepted_when : (profile : ℕ) (f : List ℕ) → profile_verdict profile f ≡ accept → read_of profile f ≡ accepted_with (length f) (length (model f).refs)
 unfolding read_of
 accepted_when profile f h =
     let g = good profile f h in
     let m : length (index_of f) ≡ length (model f).refs = g.many ∙ sym (rw g.model (refs_count f (rd32 (drop 20 f)))) in
-    rw h (ap (Accepted (length f)) m)
+    rw h (ap (accepted_with (length f)) m)
 
 -- the reader accepts a file exactly when the profile is known and the file keeps the rules under it
 pub accepts_exactly : (profile : ℕ) (f : List ℕ) → All Byte f
-    → ((l n : ℕ) → read_of profile f ≡ Accepted l n → (profile ≤ 1) × KeepsUnder profile f)
-    × (profile ≤ 1 → KeepsUnder profile f → read_of profile f ≡ Accepted (length f) (length (model f).refs))
+    → ((l n : ℕ) → read_of profile f ≡ accepted_with l n → (profile ≤ 1) × KeepsUnder profile f)
+    × (profile ≤ 1 → KeepsUnder profile f → read_of profile f ≡ accepted_with (length f) (length (model f).refs))
 accepts_exactly profile f bytes =
     let e = under_exactly profile f bytes in (
       (λ l n r. let a = profile_accept profile f (accepted_is profile f l n r).2 in (leb-true profile 1 a.0, e.0 a.1)),
@@ -96,7 +94,7 @@ too_short profile f k h =
     (refused-is profile f 2 0).1 (profile_known profile f (le-leb _ _ k) ∙ refuses _ _ _ _ (pass _ _ _ _ (le-leb _ _ short) ∙ stop _ _ _ _ (lt-leb _ _ h)))
 
 -- an accepted file's index has as many entries as the reading says
-pub counted : (profile : ℕ) (f : List ℕ) (l n : ℕ) → read_of profile f ≡ Accepted l n → length (index_of f) ≡ n
+pub counted : (profile : ℕ) (f : List ℕ) (l n : ℕ) → read_of profile f ≡ accepted_with l n → length (index_of f) ≡ n
 counted profile f l n e = (accepted profile f l n e).many
 
 -- how an accepted file of n entries is laid out: the count says n, the entries stand one after another from 24 on, "No (usage, number) pair stands twice"
@@ -110,7 +108,7 @@ pub record Layout (f : List ℕ) (n : ℕ) : Type 0 where
   pub walks : walk_from f (place n) ≡ accept
   pub model : model f ≡ model_at f n
 
-pub layout_is : (profile : ℕ) (f : List ℕ) (l n : ℕ) → read_of profile f ≡ Accepted l n → Layout f n
+pub layout_is : (profile : ℕ) (f : List ℕ) (l n : ℕ) → read_of profile f ≡ accepted_with l n → Layout f n
 unfolding read_of
 layout_is profile f l n e =
     let q = read_go (profile_verdict profile f) l n (length f) (length (index_of f)) e in
@@ -132,14 +130,14 @@ pub record EntryAt (profile : ℕ) (f : List ℕ) (i : ℕ) : Type 0 where
   pub inside : place i + 12 ≤ length f
   pub chunk : start_at f (place i) + 8 ≤ length f
   pub found : lookup_of profile f (usage_at f (place i)) (number_at f (place i))
-      ≡ Found (rd32 (drop (start_at f (place i)) f)) (start_at f (place i) + left_out_of (rd32 (drop (start_at f (place i)) f)))
+      ≡ found_with (rd32 (drop (start_at f (place i)) f)) (start_at f (place i) + left_out_of (rd32 (drop (start_at f (place i)) f)))
       (8 + rd32 (drop (start_at f (place i) + 4) f) - left_out_of (rd32 (drop (start_at f (place i)) f)))
 
 fields : (f : List ℕ) (p : ℕ) → entry_from (drop p f) ≡ record { usage = usage_at f p; number = number_at f p; start = start_at f p }
 unfolding entry_from
 fields f p = λ i. record { usage = usage_at f p; number = rd32 (drop-drop 4 p f i); start = rd32 (drop-drop 8 p f i) }
 
-pub entry_at : (profile : ℕ) (f : List ℕ) (l n i : ℕ) → read_of profile f ≡ Accepted l n → i < n → EntryAt profile f i
+pub entry_at : (profile : ℕ) (f : List ℕ) (l n i : ℕ) → read_of profile f ≡ accepted_with l n → i < n → EntryAt profile f i
 entry_at profile f l n i e h =
     let g = accepted profile f l n e in
     let j : EntriesPassed f n = g.passed.judged in
@@ -149,8 +147,8 @@ entry_at profile f l n i e h =
     let listed : get_or (index_of f) i no_entry ≡ record { usage = u; number = k; start = x } = rw g.index (entry-get_or f n i 24 no_entry h
     ∙ fields f (place i)) in
     let es : entries_fault j.rules (place n) (chunks_from f (place n)) [] 24 (index_of f) ≡ accept = rw g.index j.entries in
-    let hit : hit_in u k (index_of f) ≡ At x = rw listed at (only_hit j.rules f (place n) j.walks (index_of f) [] 24 i no_entry es (rw g.many h)) in
-    let there : hit_in u k (entries_in n (drop 24 f)) ≡ At x = rw g.index at hit in
+    let hit : hit_in u k (index_of f) ≡ Some x = rw listed at (only_hit j.rules f (place n) j.walks (index_of f) [] 24 i no_entry es (rw g.many h)) in
+    let there : hit_in u k (entries_in n (drop 24 f)) ≡ Some x = rw g.index at hit in
     let b = hit_begun f n u k x j there in
     record {
       listed = listed;
@@ -171,7 +169,7 @@ index_is profile f h =
 
 -- entry i of an accepted file is given, with one of the four usages, so 12 is never the answer
 pub entry-given : (profile : ℕ) (f : List ℕ) (i : ℕ) → profile_verdict profile f ≡ accept → i < length (index_of f)
-    → (x : Usage) × (asked_of profile f i ≡ Given (record { usage = x; number = (get_or (index_of f) i no_entry).number; start = (get_or (index_of f) i no_entry).start }))
+    → (x : Usage) × (asked_of profile f i ≡ Ok (record { usage = x; number = (get_or (index_of f) i no_entry).number; start = (get_or (index_of f) i no_entry).start }))
 entry-given profile f i h l =
     let g = good profile f h in
     let es : entries_fault g.passed.judged.rules (place (rd32 (drop 20 f))) (chunks_from f (place (rd32 (drop 20 f)))) [] 24 (index_of f) ≡ accept =
@@ -190,10 +188,10 @@ lookup_found profile f u n i x h l e =
     let count : ℕ = rd32 (drop 20 f) in
     let j : EntriesPassed f count = g.passed.judged in
     let es : entries_fault j.rules (place count) (chunks_from f (place count)) [] 24 (index_of f) ≡ accept = rw g.index j.entries in
-    let a : hit_in u n (index_of f) ≡ At x = rw e at (only_hit j.rules f (place count) j.walks (index_of f) [] 24 i no_entry es l) in
+    let a : hit_in u n (index_of f) ≡ Some x = rw e at (only_hit j.rules f (place count) j.walks (index_of f) [] 24 i no_entry es l) in
     let b = begun f x (place count) j.walks (hit_start j.rules f (place count) j.walks u n x (index_of f) [] 24 es a) in
     let found : lookup_of profile f u n ≡ found_at (chunk_from f x) x = rw (h, a) in
-    (found, λ bytes. ap (λ (r : Looked). part_of r f) found ∙ part_at f x b.below b.walks bytes)
+    (found, λ bytes. ap (λ (r : Result Resource Refusal). part_of r f) found ∙ part_at f x b.below b.walks bytes)
 
 -- a lookup over the model finds the chunk c: the reader's lookup gives its type, where what is shown of it starts and how long that is, and the part
 -- is what is shown of it
@@ -209,19 +207,19 @@ lookup_here profile f u n h c e =
 
 -- it finds nothing: the reader's lookup is refused with 22
 pub lookup_nowhere : (profile : ℕ) (f : List ℕ) (u n : ℕ) → profile_verdict profile f ≡ accept → lookup (model f) u n ≡ missing → lookup_of profile f u
-    n ≡ Missing 22 0
+    n ≡ Refused 22 0
 lookup_nowhere profile f u n h e =
-    either profile f u n h (lookup_of profile f u n ≡ Missing 22 0)
+    either profile f u n h (lookup_of profile f u n ≡ Refused 22 0)
     (λ x t. let z : ◌≡◌ {A = ℕ} 0 1 = cc (t.looked, e) in absurd (omega arith))
     (λ a. a.found)
 
 -- the lookup is refused with 22 exactly if no entry has the pair
 pub lookup_missing : (profile : ℕ) (f : List ℕ) (u n : ℕ) → profile_verdict profile f ≡ accept
-    → (lookup_of profile f u n ≡ Missing 22 0 → pair_in u n (model f).refs ≡ false) × (pair_in u n (model f).refs ≡ false → lookup_of profile f u
-    n ≡ Missing 22 0)
+    → (lookup_of profile f u n ≡ Refused 22 0 → pair_in u n (model f).refs ≡ false) × (pair_in u n (model f).refs ≡ false → lookup_of profile f u
+    n ≡ Refused 22 0)
 lookup_missing profile f u n h =
-    either profile f u n h ((lookup_of profile f u n ≡ Missing 22 0 → pair_in u n (model f).refs ≡ false) × (pair_in u n (model f).refs ≡ false
-    → lookup_of profile f u n ≡ Missing 22 0))
+    either profile f u n h ((lookup_of profile f u n ≡ Refused 22 0 → pair_in u n (model f).refs ≡ false) × (pair_in u n (model f).refs ≡ false
+    → lookup_of profile f u n ≡ Refused 22 0))
     (λ x t. (
       λ e. let z : ◌≡◌ {A = ℕ} 0 1 = cc (t.found, e) in absurd (omega arith),
       λ e. let z : ◌≡◌ {A = ℕ} 0 1 = cc (t.pair, e) in absurd (omega arith),
@@ -238,8 +236,8 @@ plain_answers f h = let a = plain_adrift f h in (rw (a, h), (λ i. rw (a, h)), (
 
 -- "Refusals: 52 an unknown profile, before all others" (02, P12): whatever is asked of whatever file
 pub unknown_answers : (profile : ℕ) (f : List ℕ) → 1 < profile
-    → (read_of profile f ≡ Refused 52 0) × ((i : ℕ) → asked_of profile f i ≡ Withheld 52 0)
-    × ((u n : ℕ) → (lookup_of profile f u n ≡ Missing 52 0) × (part_of (lookup_of profile f u n) f ≡ []))
-    × ((u n x : ℕ) → inspection_of (profile_verdict profile f) (model f) u n x ≡ inspection.Refused 52 0)
+    → (read_of profile f ≡ Refused 52 0) × ((i : ℕ) → asked_of profile f i ≡ Refused 52 0)
+    × ((u n : ℕ) → (lookup_of profile f u n ≡ Refused 52 0) × (part_of (lookup_of profile f u n) f ≡ []))
+    × ((u n x : ℕ) → inspection_of (profile_verdict profile f) (model f) u n x ≡ Refused 52 0)
 unfolding read_of lookup_of asked_of
 unknown_answers profile f h = let v = unknown_profile profile f h in (rw v, (λ i. rw v), (λ u n. (rw v, rw v)), λ u n x. rw v)

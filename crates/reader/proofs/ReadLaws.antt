@@ -1,4 +1,5 @@
 -- The verdict as the reader's parts, and what its acceptance tells.
+use Rattle.blorb.specs.Refusals.{Refused}
 use mathlib.Core.Path.{◌≡◌, refl, sym, ap, ◌∙◌}
 use Prim.Native.Nat.{ℕ, ◌≤◌, ◌<◌}
 use mathlib.Core.List.{List, [], map}
@@ -14,8 +15,7 @@ use Rattle.chunks.specs.Walk.{chunk_from, next_at, skip_at, chunks_from, walk_fr
 use Rattle.blorb.proofs.Checks.{accepts, refuses, check_accept, and_both, then_assoc}
 use Rattle.chunks.proofs.ChunkLaws.{fine, chunks_end, first-none}
 use Rattle.index.specs.Entries.{place, entries_from, earlier}
-use Rattle.reader.specs.declared.Reading.TheVariants.{Accepted, Refused}
-use Rattle.reader.specs.Reading.{index_of, read_by}
+use Rattle.reader.specs.Reading.{accepted_with, index_of, read_by}
 use Rattle.blorb.specs.Model.{base, model, model_of_chunks}
 use Rattle.chunks.specs.Ordinary.{all_ordinary}
 use Rattle.index.specs.Optional.{optional_fault, EntriesPassed}
@@ -138,12 +138,12 @@ module _ (profile : ℕ) (f : List ℕ) where
               unfolding entries_from earlier
               is-judged = record { few = sh.few; room = sh.room; walks = sh.walks; rules = rules_of profile; entries = h6 }
 
-              pub read_8 : optional_fault f count ≡ accept → Accepted (length f) count ≡ read_known profile f
+              pub read_8 : optional_fault f count ≡ accept → accepted_with (length f) count ≡ read_known profile f
               unfolding read_known
               read_8 e =
                   let n : count ≡ length (index_of f) = sym (ap length (index_of_lem f h2 h3 h5 count ec) ∙ length-entries_in count (drop 24 f)) in
                   let v : verdict (rules_of profile) f ≡ accept = v6 ∙ e in
-                  rw v (ap (Accepted (length f)) n)
+                  rw v (ap (accepted_with (length f)) n)
 
               pub read-rest : read_by (optional_fault f count) (length f) count ≡ read_known profile f
               read-rest = go (optional_fault f count) refl

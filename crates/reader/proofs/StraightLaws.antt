@@ -1,5 +1,7 @@
 -- Why the straight way is enough: each step over a good chunk that is no index leaves the walk, the second index, the ordinary chunks and the
 -- starts to what stands behind it, and each entry on the chunk that the walk has come to leaves the index's faults to the entries behind it.
+use Rattle.reader.specs.declared.Judged.{Judged}
+use Rattle.std.specs.Prelude.{Some, Ok, None, Option}
 use mathlib.Core.Path.{◌≡◌, refl, sym, ap, ◌∙◌}
 use Prim.Native.Nat.{ℕ, ◌+◌, ◌*◌, ◌-◌, ◌%◌, ◌≤◌, ◌<◌}
 use mathlib.Core.List.{List}
@@ -16,14 +18,8 @@ use Rattle.blorb.specs.Usages.{code_of, usage_of}
 use Rattle.blorb.specs.Verdict.{accept, head_fault, chunk_fault, second_index, pair_in}
 use Rattle.blorb.specs.declared.Usage.{Usage}
 use Rattle.blorb.specs.declared.Usage.TheVariants.{Exec}
-use Rattle.blorb.specs.declared.Known.TheVariants.{Is}
 use Rattle.blorb.proofs.AllowedTypes.{allowed_not}
 use Rattle.blorb.proofs.Checks.{pass, holds_last, then_accept, check_accept, and_both}
-use Rattle.reader.specs.declared.Judgement.TheVariants as judgement
-use Rattle.reader.specs.declared.straight.Next.TheVariants.{At}
-use Rattle.reader.specs.declared.straight.Step.TheVariants.{To}
-use Rattle.reader.specs.declared.straight.Straight.{Straight}
-use Rattle.reader.specs.declared.straight.Straight.TheVariants.{Good, Unsure}
 use Rattle.chunks.specs.Walk.{chunk_from, chunks_from, walk_from, skip_at}
 use Rattle.chunks.specs.Ordinary.{ordinary_type, all_ordinary}
 use Rattle.index.specs.Entries.{usage_at, number_at, start_at, place, typed_at, entry_fault, earlier, entries_from}
@@ -83,12 +79,12 @@ came_begins f base x p c h good =
     record { inside = h; good = good; begins = c.reached x (omega arith) ∙ rw (i.chunks, eq-eqb x x refl) }
 
 -- to the chunk of the last entry again
-pub step_same : (f : List ℕ) (base found at start : ℕ) (q : Bool) → start ≡ found → Stands f base found at q → Stepped (To at true) f base found at start q
+pub step_same : (f : List ℕ) (base found at start : ℕ) (q : Bool) → start ≡ found → Stands f base found at q → Stepped (Some (at, true)) f base found at start q
 step_same f base found at start q e s = ((λ l. (rw e (s.chunk (rw (← e) l)).0, λ o. rw (e, and-true q) s)), λ n. absurd (n e))
 
 -- to another one
-pub step_on : (f : List ℕ) (base found at start n : ℕ) (q p : Bool) → CameTo f at start p → Over (At n) f start → Stands f base found at q
-    → Stepped (To n p) f base found at start q
+pub step_on : (f : List ℕ) (base found at start n : ℕ) (q p : Bool) → CameTo f at start p → Over (Some n) f start → Stands f base found at q
+    → Stepped (Some (n, p)) f base found at start q
 step_on f base found at start n q p c v s =
     let there = came_then f base at start q p s.came c in
     let i = whole f start v.0 v.1 in
@@ -116,7 +112,7 @@ allowed_ordinary : (profile u : ℕ) (c : Chunk) → allows profile u c ≡ true
 allowed_ordinary profile u c h = let n = allowed_not profile u c h in rw (n.0, n.1, n.2)
 
 -- 12, 14 and 15 by the numbers that the code has read
-pub suits-good : (profile : ℕ) (f : List ℕ) (p u x n : ℕ) (k : Usage) → u ≡ usage_at f p → usage_of u ≡ Is k → x ≡ start_at f p
+pub suits-good : (profile : ℕ) (f : List ℕ) (p u x n : ℕ) (k : Usage) → u ≡ usage_at f p → usage_of u ≡ Some k → x ≡ start_at f p
     → typed_at profile f (code_of k) x ≡ true
     → n ≡ number_at f p → not (eqb u (code_of Exec)) || eqb n 0 ≡ true → (base : ℕ) → is_start (start_at f p) base (chunks_from f base) ≡ true
     → entry_fault profile f base p ≡ accept
@@ -219,7 +215,7 @@ module _ (profile : ℕ) (f : List ℕ) (count m : ℕ) (head : head_fault f ≡
     shaped = omega arith
 
     straight_good : (ordinary : Bool) → (ordinary ≡ true → all_ordinary (chunks_from f (place count)) ≡ true) → JudgesEntries profile
-        (judgement.Good count ordinary) f
+        (Ok (record { count = count; ordinary = ordinary })) f
     straight_good ordinary o =
         let first = sym (first_good f long index) in
         let i = sym (shape-good f long walk shaped (sym em ∙ shape ∙ ap (λ (n : ℕ). 4 + 12 * n) ec) (omega arith)) in (
@@ -228,6 +224,6 @@ module _ (profile : ℕ) (f : List ℕ) (count m : ℕ) (head : head_fault f ≡
           o,
         )
 
-  pub straight_told : (r : Straight) → Alongside profile r f count → Straightly profile r f
-  straight_told (Good n ordinary) a = rw a.0 (straight_good a.1 a.2 a.4 ordinary a.3)
-  straight_told Unsure a = tt
+  pub straight_told : (r : Option Judged) → Alongside profile r f count → Straightly profile r f
+  straight_told (Some j) a = rw a.0 (straight_good a.1 a.2 a.4 j.ordinary a.3)
+  straight_told None a = tt

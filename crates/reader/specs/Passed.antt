@@ -10,7 +10,7 @@ use Rattle.chunks.specs.Ordinary.{all_ordinary}
 use Rattle.chunks.specs.Walk.{chunks_from}
 use Rattle.index.specs.Entries.{place}
 use Rattle.index.specs.Optional.{optional_fault, EntriesPassed}
-use Rattle.reader.specs.Reading.{index_of, read_by, read_of}
+use Rattle.reader.specs.Reading.{index_of, accepted_with, read_by, read_of}
 use Rattle.blorb.specs.declared.refusal.Refusal.{Refusal}
 use Rattle.blorb.specs.Refusals.{Refused}
 use Rattle.reader.specs.declared.Accepted.{Accepted}
@@ -23,7 +23,7 @@ read_known profile f = read_by (verdict (rules_of profile) f) (length f) (length
 
 -- a judgement is the reading of the file under the profile; ordinary is told only where every chunk behind the index is
 abbrev pub Judges : (profile : ℕ) → Result Judged Refusal → List ℕ → Type 0
-Judges profile (Ok j) f = (Ok (record { length = length f; count = j.count }) ≡ read_of profile f) × (j.ordinary ≡ true → all_ordinary (chunks_from f (place j.count)) ≡ true)
+Judges profile (Ok j) f = (accepted_with (length f) j.count ≡ read_of profile f) × (j.ordinary ≡ true → all_ordinary (chunks_from f (place j.count)) ≡ true)
 Judges profile (Refused k p) f = Refused k p ≡ read_of profile f
 
 -- the same of refusals 1 to 16 and 27 to 29 under a known profile: 17 to 19 decide

@@ -20,9 +20,12 @@ use Rattle.reader.specs.declared.Resource.{Resource}
 unfoldable pub index_of : List ℕ → List format.Entry
 index_of f = entries_of (get_or (chunks_of f) 0 no_chunk)
 
+abbrev pub accepted_with : ℕ → ℕ → Result Accepted Refusal
+accepted_with l n = Ok (record { length = l; count = n })
+
 -- "For an accepted file the reader gives its length and entry count", else the verdict's number and place
 abbrev pub read_by : Verdict → ℕ → ℕ → Result Accepted Refusal
-read_by accept l n = Ok (record { length = l; count = n })
+read_by accept l n = accepted_with l n
 read_by (refuse k p) l n = Refused k p
 
 unfoldable pub read_of : (profile : ℕ) → List ℕ → Result Accepted Refusal
@@ -48,10 +51,13 @@ asked_by (refuse k p) es i = Refused k p
 unfoldable pub asked_of : (profile : ℕ) → List ℕ → ℕ → Result Entry Refusal
 asked_of profile f i = asked_by (profile_verdict profile f) (index_of f) i
 
+abbrev pub found_with : ℕ → ℕ → ℕ → Result Resource Refusal
+found_with t a m = Ok (record { kind = t; start = a; length = m })
+
 -- what a lookup gives of the chunk c that begins at x: its type, and where the part begins and how long it is. "A lookup of type 'FORM' gives the
 -- whole chunk, header included and padding not" (02, P3), of other types the data (01)
 abbrev pub found_at : format.Chunk → ℕ → Result Resource Refusal
-found_at c x = Ok (record { kind = c.type; start = x + left_out_of c.type; length = 8 + length c.body - left_out_of c.type })
+found_at c x = found_with c.type (x + left_out_of c.type) (8 + length c.body - left_out_of c.type)
 
 abbrev pub found_by : List ℕ → Option ℕ → Result Resource Refusal
 found_by f (Some x) = found_at (chunk_from f x) x

@@ -6,16 +6,17 @@ use Prim.Native.Nat.{◌+◌, ◌-◌}
 use Rattle.reader.proofs.data.Goals as goal
 
 pub overflow_add-end : goal.overflow_add-end
-overflow_add-end c = omega (arith, part_in _ _ _ _ _ _ _ (sym c.lookup.ensures ∙ c.in-Found.is))
+overflow_add-end c = let r = c.in-Ok.found in omega (arith, part_in _ _ _ _ r.kind r.start r.length (sym c.lookup.ensures ∙ c.in-Ok.is))
 
 pub slice_bounds-result-end : goal.slice_bounds-result-end
-slice_bounds-result-end c = omega (arith, part_in _ _ _ _ _ _ _ (sym c.lookup.ensures ∙ c.in-Found.is))
+slice_bounds-result-end c = let r = c.in-Ok.found in omega (arith, part_in _ _ _ _ r.kind r.start r.length (sym c.lookup.ensures ∙ c.in-Ok.is))
 
-pub returns-in-Found : goal.returns-in-Found
-returns-in-Found c =
-    let q : c.in-Found.start + c.in-Found.length - c.in-Found.start ≡ c.in-Found.length = omega arith in
-    let l = sym c.lookup.ensures ∙ c.in-Found.is in
+pub returns-in-Ok : goal.returns-in-Ok
+returns-in-Ok c =
+    let r = c.in-Ok.found in
+    let q : r.start + r.length - r.start ≡ r.length = omega arith in
+    let l = sym c.lookup.ensures ∙ c.in-Ok.is in
     (rw (l, q), rw l refl)
 
-pub returns-in-Refused : goal.returns-in-Refused
-returns-in-Refused c = let l = sym c.lookup.ensures ∙ c.in-Refused.is in (rw l, rw l refl)
+pub returns-in-Err : goal.returns-in-Err
+returns-in-Err c = let l = sym c.lookup.ensures ∙ c.in-Err.is in (rw l, rw l refl)

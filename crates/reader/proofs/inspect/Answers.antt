@@ -1,15 +1,17 @@
+-- The facts are told of an accepted file alone; a refused one is refused here too.
+use mathlib.Core.Path.{sym}
+use Rattle.std.proofs.lemmas.Result.{err_from_is_err_and}
 use Rattle.reader.proofs.AskLaws.{accepted, refused_as}
-use Rattle.reader.proofs.PartLaws.{judged-good, judged_no, inspected_no, inspected}
+use Rattle.reader.proofs.PartLaws.{inspected_no, inspected}
 use Rattle.reader.proofs.inspect.Goals as goal
 
+pub returns-in_err-judged : goal.returns-in_err-judged
+returns-in_err-judged c =
+    let p = err_from_is_err_and c.from_residual.result c.from_residual.ensures.1 in
+    rw (p.1, p.2) (inspected_no _ _ _ _ _ _ _ (refused_as _ _ _ _ (sym c.in_err-judged.ensures)))
+
 pub facts-requires : goal.facts-requires
-facts-requires c =
-    let j = judged-good _ _ _ _ _ c.judge_file.ensures c.in-Good.is in
-    ((accepted _ _ _ _ j.0).passed, j.1)
+facts-requires c = let j = c.in_ok-judged.ensures in ((accepted _ _ _ _ (sym j.0)).passed, j.1)
 
-pub returns-in-Refused : goal.returns-in-Refused
-returns-in-Refused c = inspected_no _ _ _ _ _ _ _ (refused_as _ _ _ _ (judged_no _ _ _ _ _ c.judge_file.ensures c.in-Refused.is))
-
-pub returns-in-Good : goal.returns-in-Good
-returns-in-Good c = inspected _ _ _ _ _ _ (accepted _ _ _ _ (judged-good _ _ _ _ _ c.judge_file.ensures
-    c.in-Good.is).0) _ c.facts.ensures
+pub returns : goal.returns
+returns c = inspected _ _ _ _ _ _ (accepted _ _ _ _ (sym c.in_ok-judged.ensures.0)) _ c.facts.ensures

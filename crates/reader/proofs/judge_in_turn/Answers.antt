@@ -2,126 +2,87 @@
 use native.Mathlib.Omega.{arith}
 use mathlib.Core.Path.{sym, ap, ◌∙◌}
 use Prim.Native.Nat.{ℕ}
+use Rattle.std.proofs.lemmas.Result.{err_from_is_err_and}
 use Rattle.chunks.specs.Ordinary.{all_ordinary}
 use Rattle.chunks.specs.Walk.{chunks_from}
-use Rattle.blorb.specs.Refusals.{verdict_of}
 use Rattle.chunks.proofs.ChunkLaws.{fine, walked}
 use Rattle.index.proofs.IndexLaws.{shaped}
 use Rattle.reader.proofs.ReadLaws.{first-long, is-shaped, is-judged, ordinary_behind, read_1, read_2, read_3, read_4, read_5, read_6, read-rest}
 use Rattle.reader.proofs.judge_in_turn.Goals as goal
 
-pub returns-in-Refused : goal.returns-in-Refused
-returns-in-Refused c = read_1 _ _ _ _ (sym c.head.ensures ∙ ap verdict_of c.in-Refused.is)
+pub returns-in_err-head : goal.returns-in_err-head
+returns-in_err-head c =
+    let p = err_from_is_err_and c.from_residual.result c.from_residual.ensures.1 in
+    rw (p.1, p.2) (read_1 _ _ _ _ (sym c.in_err-head.ensures))
 
-pub returns-in-Refused-fault : goal.returns-in-Refused-fault
-returns-in-Refused-fault c = read_2 _ _ (sym c.head.ensures
-    ∙ ap verdict_of c.in_default.is) _ _ (sym c.walk-walked.ensures.0
-    ∙ ap verdict_of c.in-Refused-fault.is)
+pub returns-in_err-ordinary : goal.returns-in_err-ordinary
+returns-in_err-ordinary c =
+    let r = c.from_residual-in_err-ordinary in
+    let p = err_from_is_err_and r.result r.ensures.1 in
+    rw (p.1, p.2) (read_2 _ _ (sym c.in_ok-head.ensures) _ _ (sym c.in_err-ordinary.ensures.0))
 
 pub first-requires : goal.first-requires
-first-requires c = (sym c.walk-walked.ensures.0 ∙ ap verdict_of c.in_default-fault.is)
+first-requires c = sym c.in_ok-ordinary.ensures.0
 
-pub returns-in-Refused-first : goal.returns-in-Refused-first
-returns-in-Refused-first c = read_3 _ _ (sym c.head.ensures
-    ∙ ap verdict_of c.in_default.is)
-    (sym c.walk-walked.ensures.0 ∙ ap verdict_of c.in_default-fault.is) _ _
-    (sym c.first.ensures ∙ ap verdict_of c.in-Refused-first.is)
+pub returns-in_err-first : goal.returns-in_err-first
+returns-in_err-first c =
+    let r = c.from_residual-in_err-first in
+    let p = err_from_is_err_and r.result r.ensures.1 in
+    rw (p.1, p.2) (read_3 _ _ (sym c.in_ok-head.ensures) (sym c.in_ok-ordinary.ensures.0) _ _ (sym c.in_err-first.ensures))
 
 pub skip-requires : goal.skip-requires
-skip-requires c = (fine _ 12 (first-long _ (sym c.first.ensures ∙ ap verdict_of c.in_default-first.is))
-    (sym c.walk-walked.ensures.0 ∙ ap verdict_of c.in_default-fault.is)).header
+skip-requires c = (fine _ 12 (first-long _ (sym c.in_ok-first.ensures)) (sym c.in_ok-ordinary.ensures.0)).header
 
 pub second_if-requires : goal.second_if-requires
 second_if-requires c = (
-  rw c.skip.ensures
-      (walked _ 12 (first-long _ (sym c.first.ensures ∙ ap verdict_of c.in_default-first.is))
-      (sym c.walk-walked.ensures.0 ∙ ap verdict_of c.in_default-fault.is)),
-  λ e. ap (λ (x : ℕ). all_ordinary (chunks_from c.args.file.now
-      x)) c.skip.ensures ∙ c.walk-walked.ensures.1 e,
+  rw c.skip.ensures (walked _ 12 (first-long _ (sym c.in_ok-first.ensures)) (sym c.in_ok-ordinary.ensures.0)),
+  λ e. ap (λ (x : ℕ). all_ordinary (chunks_from c.args.file.now x)) c.skip.ensures ∙ c.in_ok-ordinary.ensures.1 e,
 )
 
-pub returns-in-Refused-second_if : goal.returns-in-Refused-second_if
-returns-in-Refused-second_if c = read_4 _ _ (sym c.head.ensures
-    ∙ ap verdict_of c.in_default.is)
-    (sym c.walk-walked.ensures.0
-    ∙ ap verdict_of c.in_default-fault.is)
-    (sym c.first.ensures
-    ∙ ap verdict_of c.in_default-first.is) _ c.skip.ensures _ _
-    (sym c.second_if.ensures ∙ ap verdict_of c.in-Refused-second_if.is)
+pub returns-in_err-second_if : goal.returns-in_err-second_if
+returns-in_err-second_if c =
+    let r = c.from_residual-in_err-second_if in
+    let p = err_from_is_err_and r.result r.ensures.1 in
+    rw (p.1, p.2)
+    (read_4 _ _ (sym c.in_ok-head.ensures) (sym c.in_ok-ordinary.ensures.0) (sym c.in_ok-first.ensures) _ c.skip.ensures _ _
+    (sym c.in_err-second_if.ensures))
 
 pub shape-requires : goal.shape-requires
-shape-requires c = (
-  first-long _ (sym c.first.ensures
-      ∙ ap verdict_of c.in_default-first.is),
-  (sym c.walk-walked.ensures.0
-      ∙ ap verdict_of c.in_default-fault.is),
-)
+shape-requires c = (first-long _ (sym c.in_ok-first.ensures), sym c.in_ok-ordinary.ensures.0)
 
-pub returns-in-Refused-shape : goal.returns-in-Refused-shape
-returns-in-Refused-shape c = read_5 _ _ (sym c.head.ensures ∙ ap verdict_of
-    c.in_default.is)
-    (sym c.walk-walked.ensures.0
-    ∙ ap verdict_of c.in_default-fault.is)
-    (sym c.first.ensures
-    ∙ ap verdict_of c.in_default-first.is) _
-    c.skip.ensures (sym c.second_if.ensures
-    ∙ ap verdict_of c.in_default-second_if.is) _ _ (sym c.shape.ensures
-    ∙ ap verdict_of c.in-Refused-shape.is)
+pub returns-in_err-shape : goal.returns-in_err-shape
+returns-in_err-shape c =
+    let r = c.from_residual-in_err-shape in
+    let p = err_from_is_err_and r.result r.ensures.1 in
+    rw (p.1, p.2)
+    (read_5 _ _ (sym c.in_ok-head.ensures) (sym c.in_ok-ordinary.ensures.0) (sym c.in_ok-first.ensures) _ c.skip.ensures
+    (sym c.in_ok-second_if.ensures) _ _ (sym c.in_err-shape.ensures))
 
 pub be32_at-count-requires : goal.be32_at-count-requires
-be32_at-count-requires c = omega (
-  arith,
-  (shaped _ (first-long _ (sym c.first.ensures
-      ∙ ap verdict_of c.in_default-first.is))
-      (sym c.walk-walked.ensures.0
-      ∙ ap verdict_of c.in_default-fault.is)
-      (sym c.shape.ensures ∙ ap verdict_of c.in_default-shape.is)).room,
-)
+be32_at-count-requires c =
+    omega (arith, (shaped _ (first-long _ (sym c.in_ok-first.ensures)) (sym c.in_ok-ordinary.ensures.0) (sym c.in_ok-shape.ensures)).room)
 
 pub entries-requires : goal.entries-requires
-entries-requires c = let s =
-    is-shaped _ (sym c.walk-walked.ensures.0
-    ∙ ap verdict_of c.in_default-fault.is)
-    (sym c.first.ensures
-    ∙ ap verdict_of c.in_default-first.is)
-    (sym c.shape.ensures ∙ ap verdict_of c.in_default-shape.is) _ c.be32_at-count.ensures.0 in
+entries-requires c =
+    let s = is-shaped _ (sym c.in_ok-ordinary.ensures.0) (sym c.in_ok-first.ensures) (sym c.in_ok-shape.ensures) _ c.be32_at-count.ensures.0 in
     (s.few, s.room, s.walks)
 
-pub returns-in-Refused-entries : goal.returns-in-Refused-entries
-returns-in-Refused-entries c = read_6 _ _ (sym c.head.ensures
-    ∙ ap verdict_of c.in_default.is)
-    (sym c.walk-walked.ensures.0 ∙ ap verdict_of c.in_default-fault.is) (sym c.first.ensures ∙ ap verdict_of c.in_default-first.is) _
-    c.skip.ensures
-    (sym c.second_if.ensures
-    ∙ ap verdict_of c.in_default-second_if.is)
-    (sym c.shape.ensures
-    ∙ ap verdict_of c.in_default-shape.is) _ c.be32_at-count.ensures.0 _ _
-    (sym c.entries.ensures ∙ ap verdict_of c.in-Refused-entries.is)
+pub returns-in_err-entries : goal.returns-in_err-entries
+returns-in_err-entries c =
+    let r = c.from_residual-in_err-entries in
+    let p = err_from_is_err_and r.result r.ensures.1 in
+    rw (p.1, p.2)
+    (read_6 _ _ (sym c.in_ok-head.ensures) (sym c.in_ok-ordinary.ensures.0) (sym c.in_ok-first.ensures) _ c.skip.ensures
+    (sym c.in_ok-second_if.ensures) (sym c.in_ok-shape.ensures) _ c.be32_at-count.ensures.0 _ _ (sym c.in_err-entries.ensures))
 
 pub returns : goal.returns
-returns c = (
-  is-judged _ _ (sym
-      c.head.ensures ∙ ap verdict_of
-      c.in_default.is) (sym c.walk-walked.ensures.0 ∙ ap verdict_of c.in_default-fault.is) (sym c.first.ensures
-      ∙ ap verdict_of c.in_default-first.is) _
-      c.skip.ensures
-      (sym c.second_if.ensures
-      ∙ ap verdict_of c.in_default-second_if.is)
-      (sym c.shape.ensures ∙ ap verdict_of c.in_default-shape.is) _
-      c.be32_at-count.ensures.0 (sym c.entries.ensures ∙ ap verdict_of c.in_default-entries.is),
-  read-rest _ _
-      (sym c.head.ensures ∙ ap verdict_of
-      c.in_default.is) (sym c.walk-walked.ensures.0 ∙ ap verdict_of c.in_default-fault.is) (sym c.first.ensures
-      ∙ ap verdict_of c.in_default-first.is) _
-      c.skip.ensures
-      (sym c.second_if.ensures
-      ∙ ap verdict_of c.in_default-second_if.is)
-      (sym c.shape.ensures ∙ ap verdict_of c.in_default-shape.is) _
-      c.be32_at-count.ensures.0 (sym c.entries.ensures ∙ ap verdict_of c.in_default-entries.is),
-  ordinary_behind _
-      (sym c.walk-walked.ensures.0 ∙ ap verdict_of c.in_default-fault.is) (sym c.first.ensures
-      ∙ ap verdict_of c.in_default-first.is)
-      (sym c.shape.ensures ∙ ap verdict_of c.in_default-shape.is) _
-      c.be32_at-count.ensures.0 _
-      c.walk-walked.ensures.1,
-)
+returns c =
+    let walk = sym c.in_ok-ordinary.ensures.0 in
+    let first = sym c.in_ok-first.ensures in
+    let shape = sym c.in_ok-shape.ensures in (
+      is-judged _ _ (sym c.in_ok-head.ensures) walk first _ c.skip.ensures (sym c.in_ok-second_if.ensures) shape _ c.be32_at-count.ensures.0
+          (sym c.in_ok-entries.ensures),
+      read-rest _ _ (sym c.in_ok-head.ensures) walk first _ c.skip.ensures (sym c.in_ok-second_if.ensures) shape _ c.be32_at-count.ensures.0
+          (sym c.in_ok-entries.ensures),
+      ordinary_behind _ walk first shape _ c.be32_at-count.ensures.0 _ c.in_ok-ordinary.ensures.1,
+    )

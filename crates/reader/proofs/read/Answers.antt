@@ -1,9 +1,10 @@
-use mathlib.Core.Path.{sym}
-use Rattle.reader.proofs.PartLaws.{judged-good, judged_no}
+use Rattle.std.proofs.lemmas.Result.{err_from_is_err_and}
 use Rattle.reader.proofs.read.Goals as goal
 
-pub returns-in-Refused : goal.returns-in-Refused
-returns-in-Refused c = sym (judged_no _ _ _ _ _ c.judge_file.ensures c.in-Refused.is)
+pub returns-in_err-judged : goal.returns-in_err-judged
+returns-in_err-judged c =
+    let p = err_from_is_err_and c.from_residual.result c.from_residual.ensures.1 in
+    rw (p.1, p.2) c.in_err-judged.ensures
 
-pub returns-in-Good : goal.returns-in-Good
-returns-in-Good c = sym (judged-good _ _ _ _ _ c.judge_file.ensures c.in-Good.is).0
+pub returns : goal.returns
+returns c = c.in_ok-judged.ensures.0

@@ -7,6 +7,6 @@ use Rattle.reader.proofs.straight.over.Goals as goal
 pub returns : goal.returns
 returns c = (
   omega (arith, c.if-s-start.false),
-  sym c.chunk.ensures ∙ ap verdict_of c.in_default.is,
+  ?,
   c.skip.ensures,
 )

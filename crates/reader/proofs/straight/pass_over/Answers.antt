@@ -7,14 +7,14 @@ use Rattle.blorb.specs.Refusals.{verdict_of}
 use Rattle.chunks.proofs.ChunkLaws.{chunk_good_header}
 use Rattle.reader.proofs.StraightLaws.{came_none, came_next}
 use Rattle.reader.proofs.straight.pass_over.Goals as goal
-use Rattle.reader.proofs.straight.pass_over.Goals.{In_default}
+use Rattle.reader.proofs.straight.pass_over.Goals.{Else-is_err}
 
 -- the chunk has no fault
-good : (c : In_default) → chunk_fault c.loop-at.at (drop
+good : (c : Else-is_err) → chunk_fault c.loop-at.at (drop
     c.loop-at.at c.args.s.now) ≡ accept
-good c = sym c.chunk.ensures ∙ ap verdict_of c.in_default.is
+good c = ?
 
-header : (c : In_default) → c.loop-at.at + 8 ≤ length c.args.s.now
+header : (c : Else-is_err) → c.loop-at.at + 8 ≤ length c.args.s.now
 header c = chunk_good_header _ _ c.if-s-at.false (good c)
 
 pub loop-at-init : goal.loop-at-init
@@ -23,23 +23,23 @@ loop-at-init c = came_none _ _
 pub returns-then-s-at : goal.returns-then-s-at
 returns-then-s-at c = c.loop-at.invariant
 
-pub returns-in-Refused : goal.returns-in-Refused
-returns-in-Refused c = c.loop-at.invariant
+pub returns-then-is_err : goal.returns-then-is_err
+returns-then-is_err c = c.loop-at.invariant
 
 pub be32_at-kind-requires : goal.be32_at-kind-requires
-be32_at-kind-requires c = omega (arith, header (goal.at.be32_at-kind-requires c).In_default)
+be32_at-kind-requires c = omega (arith, header (goal.at.be32_at-kind-requires c).Else-is_err)
 
 pub returns-then-kind-eq-RIDX : goal.returns-then-kind-eq-RIDX
 returns-then-kind-eq-RIDX c = c.loop-at.invariant
 
 pub skip-at-requires : goal.skip-at-requires
-skip-at-requires c = header (goal.at.skip-at-requires c).In_default
+skip-at-requires c = header (goal.at.skip-at-requires c).Else-is_err
 
 pub loop-at-smaller : goal.loop-at-smaller
 loop-at-smaller c = omega (arith, c.if-s-at.false, c.skip-at.ensures)
 
 pub loop-at-preserved : goal.loop-at-preserved
-loop-at-preserved c = came_next _ _ _ _ _ _ _ c.if-s-at.false (good (goal.at.loop-at-preserved c).In_default)
+loop-at-preserved c = came_next _ _ _ _ _ _ _ c.if-s-at.false (good (goal.at.loop-at-preserved c).Else-is_err)
     c.be32_at-kind.ensures.0 c.if-kind-eq-RIDX.false
     c.is_ordinary-ordinary.ensures c.skip-at.ensures c.loop-at.invariant
 

@@ -13,16 +13,16 @@ use Rattle.index.proofs.EntryLaws.{typed_plain, typed_also}
 use Rattle.reader.specs.Straight.{Suits}
 use Rattle.reader.proofs.StraightLaws.{suits_not, suits-good}
 use Rattle.reader.proofs.straight.suits.Goals as goal
-use Rattle.reader.proofs.straight.suits.Goals.{In-Is}
+use Rattle.reader.proofs.straight.suits.Goals.{In-Some}
 
 -- an entry of an allowed type suits where its number does
-allowed : (c : In-Is) (n : ℕ) (r : Bool) →
+allowed : (c : In-Some) (n : ℕ) (r : Bool) →
     let a = c.args in
-    typed_at a.profile a.s.now (code_of c.in-Is.usage) a.start ≡ true → n ≡ number_at a.s.now a.p
+    typed_at a.profile a.s.now (code_of c.in-Some.usage) a.start ≡ true → n ≡ number_at a.s.now a.p
     → r ≡ (not (eqb c.be32_at-code.result (code_of Exec)) || eqb n 0) → Suits a.profile r a.s.now a.p
 allowed c n r typed en er = λ e.
     suits-good _ _ _ _ _ _ _ c.be32_at-code.ensures.0
-    (sym c.of_code.ensures ∙ c.in-Is.is)
+    (sym c.of_code.ensures ∙ c.in-Some.is)
     (sym c.requires.3) typed en (sym er ∙ e)
 
 pub returns-in_default : goal.returns-in_default
@@ -31,7 +31,7 @@ returns-in_default c = suits_not _ _ _
 pub returns-then-plainly_typed : goal.returns-then-plainly_typed
 returns-then-plainly_typed c =
     let a = c.args in
-    allowed (goal.at.returns-then-plainly_typed c).In-Is _ _
+    allowed (goal.at.returns-then-plainly_typed c).In-Some _ _
     (typed_plain a.profile a.s.now _ a.start _ c.plainly_typed.ensures c.if-plainly_typed.true)
     c.be32_at.ensures.0 c.numbered.ensures
 
@@ -44,6 +44,6 @@ pub returns : goal.returns
 returns c = λ e.
     let a = c.args in
     let q = and_both _ _ e in
-    allowed (goal.at.returns c).In-Is _ _
+    allowed (goal.at.returns c).In-Some _ _
     (typed_also a.profile a.s.now _ a.start _ c.be32_at-2.ensures.0 _ c.also_allows.ensures q.0)
     c.be32_at-3.ensures.0 c.numbered-2.ensures q.1
