@@ -20,3 +20,31 @@ returns-then-accepted-i c = entry_22 _ _ _ _ (good-file (goal.at.returns-then-ac
 
 pub overflow_mul-p : goal.overflow_mul-p
 overflow_mul-p c = let g = good-file (goal.at.overflow_mul-p c).In_ok-accepted in omega (arith, g.passed.judged.few, c.if-accepted-i.false)
+
+pub overflow_add-p : goal.overflow_add-p
+overflow_add-p c = let g = good-file (goal.at.overflow_add-p c).In_ok-accepted in omega (arith, g.passed.judged.few, c.if-accepted-i.false)
+
+pub be32_at-requires : goal.be32_at-requires
+be32_at-requires c = let g = good-file (goal.at.be32_at-requires c).In_ok-accepted in omega (arith, g.passed.judged.room, c.if-accepted-i.false)
+
+pub overflow_add-p-2 : goal.overflow_add-p-2
+overflow_add-p-2 c = let g = good-file (goal.at.overflow_add-p-2 c).In_ok-accepted in omega (arith, g.passed.judged.few, c.if-accepted-i.false)
+
+pub be32_at-number-requires : goal.be32_at-number-requires
+be32_at-number-requires c = let g = good-file (goal.at.be32_at-number-requires c).In_ok-accepted in omega (arith, g.passed.judged.room, c.if-accepted-i.false)
+
+pub overflow_add-p-3 : goal.overflow_add-p-3
+overflow_add-p-3 c = let g = good-file (goal.at.overflow_add-p-3 c).In_ok-accepted in omega (arith, g.passed.judged.few, c.if-accepted-i.false)
+
+pub be32_at-start-requires : goal.be32_at-start-requires
+be32_at-start-requires c = let g = good-file (goal.at.be32_at-start-requires c).In_ok-accepted in omega (arith, g.passed.judged.room, c.if-accepted-i.false)
+
+pub returns-in_default : goal.returns-in_default
+returns-in_default c =
+    entry_unknown _ _ _ _ (good-file (goal.at.returns-in_default c).In_ok-accepted) c.if-accepted-i.false _ c.be32_at.ensures.0
+    (sym c.of_code.ensures ∙ c.in_default.is)
+
+pub returns : goal.returns
+returns c =
+    entry_known _ _ _ _ (good-file (goal.at.returns c).In_ok-accepted) c.if-accepted-i.false _ c.be32_at.ensures.0 _ _ _
+    (sym c.of_code.ensures ∙ c.in-Some.is) c.be32_at-number.ensures.0 c.be32_at-start.ensures.0

@@ -37,8 +37,8 @@ overflow_add-at c = omega (arith, (chunk (goal.at.overflow_add-at c).In-Some).he
 pub be32_at-m-requires : goal.be32_at-m-requires
 be32_at-m-requires c = omega (arith, (chunk (goal.at.be32_at-m-requires c).In-Some).header)
 
-pub overflow_add-start : goal.overflow_add-start
-overflow_add-start c = omega (arith, (chunk (goal.at.overflow_add-start c).In-Some).header)
+pub overflow_add-result : goal.overflow_add-result
+overflow_add-result c = omega (arith, (chunk (goal.at.overflow_add-result c).In-Some).header)
 
 pub returns-in_err-accepted : goal.returns-in_err-accepted
 returns-in_err-accepted c =

@@ -1,9 +1,9 @@
 use native.Mathlib.Omega.{arith}
-use mathlib.Core.Path.{◌≡◌, sym, ap, ◌∙◌}
+use mathlib.Core.Path.{◌≡◌, sym, ◌∙◌}
 use Prim.Native.Nat.{◌+◌, ◌≤◌}
 use lib.ListN.{length, drop}
 use Rattle.blorb.specs.Verdict.{accept, chunk_fault}
-use Rattle.blorb.specs.Refusals.{verdict_of}
+use Rattle.blorb.proofs.RefusalLaws.{good_unless_err}
 use Rattle.chunks.proofs.ChunkLaws.{chunk_good_header}
 use Rattle.reader.proofs.StraightLaws.{came_none, came_next}
 use Rattle.reader.proofs.straight.pass_over.Goals as goal
@@ -12,7 +12,7 @@ use Rattle.reader.proofs.straight.pass_over.Goals.{Else-is_err}
 -- the chunk has no fault
 good : (c : Else-is_err) → chunk_fault c.loop-at.at (drop
     c.loop-at.at c.args.s.now) ≡ accept
-good c = ?
+good c = sym c.chunk.ensures ∙ good_unless_err _ (sym c.if-is_err.ensures.value)
 
 header : (c : Else-is_err) → c.loop-at.at + 8 ≤ length c.args.s.now
 header c = chunk_good_header _ _ c.if-s-at.false (good c)

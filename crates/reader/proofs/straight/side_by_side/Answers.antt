@@ -10,22 +10,22 @@ use Rattle.reader.specs.Straight.{ChunkAt, Stands}
 use Rattle.index.proofs.EntryLaws.{topped, below_next}
 use Rattle.reader.proofs.StraightLaws.{came_none, came_then, came_end, good_ordinary, sofar_none, sofar_next, sofar_end}
 use Rattle.reader.proofs.straight.side_by_side.Goals as goal
-use Rattle.reader.proofs.straight.side_by_side.Goals.{In-To}
+use Rattle.reader.proofs.straight.side_by_side.Goals.{In_ok-behind}
 
 -- the walk has come to the entry's chunk, and over it if its type is an ordinary one
-arrived : (c : In-To) →
+arrived : (c : In_ok-behind) →
     let a = c.args in
     let l = c.loop-j in
     let start = c.be32_at-start.result in
     let base : ℕ = place a.count in
     (ChunkAt a.s.now base start
-    × (ordinary_type (rd32 (drop start a.s.now)) ≡ true → Stands a.s.now base start c.in-To.behind
-    (l.ordinary && c.in-To.also)))
+    × (ordinary_type (rd32 (drop start a.s.now)) ≡ true → Stands a.s.now base start c.in_ok-behind.behind
+    (l.ordinary && c.in_ok-behind.also)))
     × ((start ≡ l.found → ⊥) → l.at ≤ start)
 arrived c =
     let a = c.args in
     let l = c.loop-j in
-    let r = rw c.in-To.is at (c.step_to.ensures (place a.count) l.ordinary l.invariant.2) in
+    let r = c.in_ok-behind.ensures (place a.count) l.ordinary l.invariant.2 in
     (r.0 c.be32_at-start.ensures.1, r.1)
 
 pub loop-j-init : goal.loop-j-init
@@ -41,7 +41,7 @@ loop-j-init c = (
 
 pub suits_like-requires : goal.suits_like-requires
 suits_like-requires c =
-    let t = (arrived (goal.at.suits_like-requires c).In-To).0.0 in (
+    let t = (arrived (goal.at.suits_like-requires c).In_ok-behind).0.0 in (
       omega (arith, c.requires.1),
       t.inside,
       t.good,
@@ -68,11 +68,11 @@ loop-j-preserved c =
     let base : ℕ = place a.count in
     let l = c.loop-j in
     let b = c.be32_at-start in
-    let st = arrived (goal.at.loop-j-preserved c).In-To in
-    let fit = rw c.in-Suited.is at c.suits_like.ensures in
+    let st = arrived (goal.at.loop-j-preserved c).In_ok-behind in
+    let fit = c.in_ok-usage.ensures in
     let good = fit.0 refl base (rw b.ensures.0 at st.0.0.begins) in
     let stands = st.0.1 (good_ordinary _ s base _ _ (sym b.ensures.0) good) in
-    let pair = rw c.in-New.is at c.new_pair.ensures in
+    let pair = c.in_ok-tops.ensures in
     let slot = c.slot-k in
     let q = slot.ensures.0 ∙ ap slot_of c.be32_at.ensures.0 in (
       omega arith,
