@@ -18,41 +18,12 @@ use Rattle.blorb.specs.Format.{chunk_bytes, chunk_of}
 use Rattle.blorb.specs.Layout.{heading}
 use Rattle.edits.specs.Journal.{rec_bytes, rec_body}
 use Rattle.blorb.specs.Little.{little}
-use Rattle.moves.specs.Moves.{low4, turned, starts_moved}
+use Rattle.moves.specs.Moves.{starts_moved}
 
-digits : (a b c d : ℕ) → a < 256 → b < 256 → c < 256 → d < 256 → low4 (little a b c d) ≡ a ∷ (b ∷ (c ∷ (d ∷ [])))
-unfolding low4
-digits a b c d ha hb hc hd =
-    let e0 : little a b c d % 256 ≡ a = omega arith in
-    let e1 : little a b c d / 256 ≡ b + c * 256 + d * 65536 = omega arith in
-    let e2 : little a b c d / 65536 ≡ c + d * 256 = omega arith in
-    let e3 : little a b c d / 16777216 ≡ d = omega arith in
-    let f1 : (b + c * 256 + d * 65536) % 256 ≡ b = omega arith in
-    let f2 : (c + d * 256) % 256 ≡ c = omega arith in
-    let f3 : d % 256 ≡ d = omega arith in
-    rw (e0, e1, e2, e3, f1, f2, f3)
-
--- the lowest bytes of the turned number are the number's, the highest first
-pub low_turned : (v : ℕ) → low4 (turned v) ≡ be32 v
-unfolding be32
-low_turned v = digits (v / 16777216 % 256) (v / 65536 % 256) (v / 256 % 256) (v % 256) (omega arith) (omega arith) (omega arith) (omega arith)
-
-pub copied : (b d : List ℕ) (at i : ℕ) → i ≡ length d → paste b at d i ≡ noted b at d
+-- bytes put in the place of as many
+pub put_over : (b d : List ℕ) (at n : ℕ) → n ≡ length d → take at b ++ (d ++ drop n (drop at b)) ≡ noted b at d
 unfolding noted
-copied b d at i e = rw (e, take-length d) (append_assoc (take at b) d (drop (at + length d) b))
-
-pub copy_turn : (b d : List ℕ) (at i : ℕ) → at + length d ≤ length b → i < length d → set (paste b at d i) (at + i) (get_or d i 0) ≡ paste b at d (i + 1)
-copy_turn b d at i h l = rw add-one (paste-suc b at d i 0 (omega arith) l)
-
-pub clear-turn : (b : List ℕ) (at n i : ℕ) → at + n ≤ length b → i < n → set (paste b at (replicate n 0) i) (at + i) 0 ≡ paste b at (replicate n 0) (i + 1)
-clear-turn b at n i h l =
-    let zs : List ℕ = replicate n 0 in
-    let z : length zs ≡ n = length-replicate n 0 in
-    let g : get_or zs i 0 ≡ 0 = get_or-replicate n i 0 0 l in
-    rw add-one (ap (λ (x : ℕ). set (paste b at (replicate n 0) i) (at + i) x) (sym g) ∙ paste-suc b at (replicate n 0) i 0 (omega arith) (omega arith))
-
-pub all-clear : (b : List ℕ) (at n i : ℕ) → i ≡ n → paste b at (replicate n 0) i ≡ noted b at (replicate n 0)
-all-clear b at n i e = copied b (replicate n 0) at i (e ∙ sym (length-replicate n 0))
+put_over b d at n e = ap (λ (l : List ℕ). take at b ++ (d ++ l)) (drop-drop n at b ∙ ap (λ (k : ℕ). drop (at + k) b) e)
 
 -- one start of several
 pub start-turn : (f : ℕ → ℕ) (n i at p : ℕ) (b : List ℕ) → i < n

@@ -1,5 +1,5 @@
 -- Laws of `slid` and of copies: nothing moved, the length, a part more, and a turn of each loop.
-use Prim.Native.Nat.{ℕ, ◌+◌, ◌-◌, ◌≤◌, ◌<◌}
+use Prim.Native.Nat.{ℕ, ◌+◌, ◌-◌, ◌*◌, ◌≤◌, ◌<◌}
 use mathlib.Core.Path.{◌≡◌, refl, ap, sym, ◌∙◌}
 use mathlib.Core.List.{List, ◌++◌, append_assoc}
 use native.Mathlib.Omega.{arith}
@@ -36,14 +36,6 @@ module _ (b : List ℕ) (dst src n : ℕ) (hd : dst + n ≤ length b) (hs : src 
 
   pub slid-length : length (slid b dst src n) ≡ length b
   slid-length = length-paste b dst (drop src b) n hd fits
-
--- a byte more of a copy
-pub copy_turn : (b d : List ℕ) (at i : ℕ) → at + i < length b → i < length d → set (paste b at d i) (at + i) (get_or d i 0) ≡ paste b at d (i + 1)
-copy_turn b d at i h l = rw add-one (paste-suc b at d i 0 h l)
-
--- a part that was taken, as a part
-pub as_part : (m s : List ℕ) (at j n : ℕ) → paste m at (take n (drop j s)) n ≡ paste m at (drop j s) n
-as_part m s at j n = ap (λ (p : List ℕ). take at m ++ p ++ drop (at + n) m) (take-take n n (drop j s) (omega arith))
 
 -- a part more of a copy
 pub copy_more : (b d : List ℕ) (at i n : ℕ) → at + (i + n) ≤ length b → i + n ≤ length d
@@ -129,6 +121,10 @@ left_more b at i k n hk ha hi =
     ∙ ap (λ (x : ℕ). paste m x (drop r (drop at b)) n) e
     ∙ copy_more b (drop at b) d r n (omega arith) (omega arith))
 
+-- how far the first `p` parts of the bytes from `at` up to `len` reach
+abbrev pub reached : ℕ → ℕ → ℕ → ℕ
+reached at len p = len - (len - (at + p * 2048))
+
 -- m is b with the bytes from `i` up to `len` moved to the right
 abbrev pub Right : List ℕ → ℕ → ℕ → ℕ → List ℕ → ℕ → Type 0
 Right b at len k m i = (at ≤ i) × (i ≤ len) × (length m ≡ length b) × (m ≡ slid b (i + k) i (len - i))
@@ -137,58 +133,22 @@ Right b at len k m i = (at ≤ i) × (i ≤ len) × (length m ≡ length b) × (
 abbrev pub Left : List ℕ → ℕ → ℕ → ℕ → List ℕ → ℕ → Type 0
 Left b at len k m i = (at ≤ i) × (i ≤ len) × (length m ≡ length b) × (m ≡ slid b (at - k) at (i - at))
 
-pub right_first : (b : List ℕ) (at len k : ℕ) → at ≤ len → Right b at len k b len
-right_first b at len k h = (h, omega arith, refl, slid-none b (len + k) len (len - len) (omega arith))
-
-pub left_first : (b : List ℕ) (at len k : ℕ) → at ≤ len → Left b at len k b at
-left_first b at len k h = (omega arith, h, refl, slid-none b (at - k) at (at - at) (omega arith))
-
--- an array that a list was put in at its start has it there
-pub held : (z p t : List ℕ) (n : ℕ) → t ≡ paste z 0 p (length p) → length p ≡ n → take n t ≡ p
-held z p t n e l =
-    let q : n ≡ 0 + length p = omega arith in
-    ap (λ (x : List ℕ). take n x) e
-    ∙ ap (λ (k : ℕ). take k (paste z 0 p (length p))) q
-    ∙ take-paste z 0 p (length p) (omega arith) (omega arith)
-    ∙ take_all (length p) p (omega arith)
-
--- a list put somewhere by way of an array
-pub by_array : (b z p t m : List ℕ) (at n : ℕ) → m ≡ paste b at (take n t) (length (take n t)) → t ≡ paste z 0 p (length p) → length p ≡ n
-    → m ≡ paste b at p (length p)
-by_array b z p t m at n s e l = s ∙ ap (λ (x : List ℕ). paste b at x (length x)) (held z p t n e l)
-
-pub part_length : (b : List ℕ) (from e n : ℕ) → e ≡ n → from + n ≤ length b → length (take e (drop from b)) ≡ n
-part_length b from e n q h =
-    let l : length (drop from b) ≡ length b - from = length-drop from b in
-    ap (λ (k : ℕ). length (take k (drop from b))) q ∙ length-take-le n (drop from b) (omega arith)
-
--- a part of a list put somewhere
-pub laid-part : (b d m : List ℕ) (to from e n : ℕ) → m ≡ paste b to (take e (drop from d)) (length (take e (drop from d))) → e ≡ n → from + n ≤ length d
-    → m ≡ paste b to (drop from d) n
-laid-part b d m to from e n s q h =
-    s
-    ∙ ap (λ (k : ℕ). paste b to (take e (drop from d)) k) (part_length d from e n q h)
-    ∙ ap (λ (k : ℕ). paste b to (take k (drop from d)) n) q
-    ∙ as_part b d to from n
-
 -- a turn to the right: m before it, m' after it
-pub right_part : (b m m' : List ℕ) (at i len k n : ℕ) → m' ≡ slid m (i - n + k) (i - n) n → Right b at len k m i
-    → n ≤ i - at → len + k ≤ length b → Right b at len k m' (i - n)
-right_part b m m' at i len k n s (ha, hi, q, e) hn hl =
-    let to : m' ≡ slid b (i - n + k) (i - n) (len - (i - n)) =
-    s ∙ ap (λ (x : List ℕ). slid x (i - n + k) (i - n) n) e ∙ right_more b (i - n) i len k n (omega arith) hi hl in
-    (omega arith, omega arith, ap length to ∙ slid-length b (i - n + k) (i - n) (len - (i - n)) (omega arith) (omega arith), to)
+pub right_part : (b m m' : List ℕ) (at i j len k : ℕ) → m' ≡ slid m (i + k) i (j - i) → Right b at len k m j
+    → at ≤ i → i ≤ j → len + k ≤ length b → Right b at len k m' i
+right_part b m m' at i j len k s (ha, hj, q, e) hi hn hl =
+    let to : m' ≡ slid b (i + k) i (len - i) =
+    s ∙ ap (λ (x : List ℕ). slid x (i + k) i (j - i)) e ∙ right_more b i j len k (j - i) (omega arith) hj hl in
+    (hi, omega arith, ap length to ∙ slid-length b (i + k) i (len - i) (omega arith) (omega arith), to)
 
 -- a turn to the left
-pub left_part : (b m m' : List ℕ) (at i len k n : ℕ) → m' ≡ slid m (i - k) i n → Left b at len k m i
-    → n ≤ len - i → k ≤ at → len ≤ length b → Left b at len k m' (i + n)
-left_part b m m' at i len k n s (ha, hi, q, e) hn hk hl =
-    let to : m' ≡ slid b (at - k) at (i + n - at) =
-    s ∙ ap (λ (x : List ℕ). slid x (i - k) i n) e ∙ left_more b at i k n hk ha (omega arith) in
-    (omega arith, omega arith, ap length to ∙ slid-length b (at - k) at (i + n - at) (omega arith) (omega arith), to)
-
--- a turn of a copy
-pub copy_part : (b d m m' : List ℕ) (at i e n : ℕ) → m' ≡ paste m (at + i) (take e (drop i d)) (length (take e (drop i d))) → m ≡ paste b at d i
-    → e ≡ n → at + length d ≤ length b → i + n ≤ length d → m' ≡ paste b at d (i + n)
-copy_part b d m m' at i e n s r q h hi =
-    laid-part m d m' (at + i) i e n s q hi ∙ ap (λ (x : List ℕ). paste x (at + i) (drop i d) n) r ∙ copy_more b d at i n (omega arith) hi
+pub left_part : (b m m' : List ℕ) (at i j len k : ℕ) → m' ≡ slid m (i - k) i (j - i) → Left b at len k m i
+    → i ≤ j → j ≤ len → k ≤ at → len ≤ length b → Left b at len k m' j
+left_part b m m' at i j len k s (ha, hi, q, e) hn hj hk hl =
+    let n : i + (j - i) - at ≡ j - at = omega arith in
+    let to : m' ≡ slid b (at - k) at (j - at) =
+    s
+    ∙ ap (λ (x : List ℕ). slid x (i - k) i (j - i)) e
+    ∙ left_more b at i k (j - i) hk ha (omega arith)
+    ∙ ap (λ (x : ℕ). slid b (at - k) at x) n in
+    (omega arith, hj, ap length to ∙ slid-length b (at - k) at (j - at) (omega arith) (omega arith), to)

@@ -7,14 +7,6 @@ use Rattle.moves.specs.declared.Move.{Move}
 use Rattle.moves.specs.declared.Entry.{Entry}
 use Rattle.edits.specs.Journal.{Rec}
 
--- the four lowest bytes of v, the lowest first
-unfoldable pub low4 : ℕ → List ℕ
-low4 v = v % 256 ∷ (v / 256 % 256 ∷ (v / 65536 % 256 ∷ (v / 16777216 % 256 ∷ [])))
-
--- the number with the four lowest bytes of v in the other order
-abbrev pub turned : ℕ → ℕ
-turned v = little (v / 16777216 % 256) (v / 65536 % 256) (v / 256 % 256) (v % 256)
-
 -- a start behind the limit grows and falls by one pair of numbers, any other by the other pair
 unfoldable pub relocated : Move → ℕ → ℕ
 relocated m t = cond (ltb m.limit t) (t + m.grow - m.fall) (t + m.plus - m.minus)

@@ -7,7 +7,7 @@ ghost use Rattle.edits.specs.Run.{noted};
 ghost use Rattle.blorb.specs.Format.{chunk_bytes, chunk_of};
 ghost use Rattle.blorb.specs.Layout.{heading};
 ghost use Rattle.edits.specs.Journal.{rec_bytes};
-ghost use Rattle.moves.specs.Moves.{low4, turned, relocated, starts_moved, record_of};
+ghost use Rattle.moves.specs.Moves.{relocated, starts_moved, record_of};
 
 pub mod shift;
 
@@ -29,30 +29,13 @@ pub struct Entry {
     pub start: u32,
 }
 
-// The four lowest bytes of `v`, the lowest first: one store on this processor.
-fn put_low(buf: &mut [u8], at: usize, v: u64)
-    requires { at + 4 ≤ length buf.old }
-    ensures { buf.new ≡ noted buf.old at (low4 v) }
-{
-    buf[at] = (v % 256) as u8;
-    buf[at + 1] = (v / 256 % 256) as u8;
-    buf[at + 2] = (v / 65536 % 256) as u8;
-    buf[at + 3] = (v / 16777216 % 256) as u8;
-}
-
-// The four lowest bytes of `v` in the other order.
-fn turn(v: u64) -> u64
-    ensures { result ≡ turned v }
-{
-    v / 16777216 % 256 + v / 65536 % 256 * 256 + v / 256 % 256 * 65536 + v % 256 * 16777216
-}
-
-// The number as four bytes at `at`.
+// The four lowest bytes of `v` at `at`, the highest first.
 pub fn put32(buf: &mut [u8], at: usize, v: u64)
     requires { at + 4 ≤ length buf.old }
     ensures { buf.new ≡ noted buf.old at (be32 v) }
 {
-    put_low(buf, at, turn(v));
+    let low = (v % 0x1_0000_0000) as u32;
+    copy_in(buf, at, &low.to_be_bytes());
 }
 
 // The data at `at`.
@@ -60,7 +43,7 @@ pub fn copy_in(buf: &mut [u8], at: usize, d: &[u8])
     requires { at + length d.now ≤ length buf.old }
     ensures { buf.new ≡ noted buf.old at d.now }
 {
-    shift::copy_parts(buf, at, d);
+    buf[at..at + d.len()].copy_from_slice(d);
 }
 
 // Zeros from `at`, `n` of them.
@@ -68,20 +51,7 @@ pub fn clear(buf: &mut [u8], at: usize, n: usize)
     requires { at + n ≤ length buf.old }
     ensures { buf.new ≡ noted buf.old at (replicate n 0) }
 {
-    let mut i: usize = 0;
-    while i < n {
-        buf[at + i] = 0;
-        i += 1;
-    }
-}
-
-fn less(a: u64, b: u64) -> u64
-    ensures { result ≡ a - b }
-{
-    if a < b {
-        return 0;
-    }
-    a - b
+    buf[at..at + n].fill(0);
 }
 
 impl Move {
@@ -90,9 +60,9 @@ impl Move {
         ensures { result ≡ relocated self t }
     {
         if (self.limit as u64) < t {
-            return less(t + self.grow as u64, self.fall as u64);
+            return (t + self.grow as u64).saturating_sub(self.fall as u64);
         }
-        less(t + self.plus as u64, self.minus as u64)
+        (t + self.plus as u64).saturating_sub(self.minus as u64)
     }
 }
 
@@ -101,13 +71,10 @@ pub fn move_starts(buf: &mut [u8], at: usize, n: usize, m: Move)
     requires { at + 12 * n ≤ length buf.old }
     ensures { buf.new ≡ starts_moved (relocated m) n at buf.old }
 {
-    let mut i: usize = 0;
-    let mut p = at;
-    while i < n {
-        let t = blorb::be32_at(buf, p + 8);
-        put32(buf, p + 8, m.start(t));
-        p += 12;
-        i += 1;
+    for i in 0..n {
+        let start = at + 12 * i + 8;
+        let t = blorb::be32_at(buf, start);
+        put32(buf, start, m.start(t));
     }
 }
 

@@ -1,87 +1,39 @@
-// Overlapping moves of bytes within one lent buffer, and copies into it, by parts.
-ghost use Rattle.std.specs.Prelude.{◌≡◌, ◌+◌, ◌-◌, ◌≤◌, ◌<◌, length};
-ghost use Rattle.moves.specs.Shift.{slid, laid};
+// Overlapping moves of bytes within one lent buffer, by parts.
+ghost use Rattle.std.specs.Prelude.{◌≡◌, ◌+◌, ◌-◌, ◌≤◌, length};
+ghost use Rattle.moves.specs.Shift.{slid};
 
-// The bytes of `d` at `at`, one by one.
-fn put_bytes(buf: &mut [u8], at: usize, d: &[u8])
-    requires { at + length d.now ≤ length buf.old }
-    ensures { buf.new ≡ laid buf.old at d.now (length d.now) }
-{
-    let n = d.len();
-    let mut i: usize = 0;
-    while i < n {
-        buf[at + i] = d[i];
-        i += 1;
-    }
-}
+// So many bytes go at once. The array in `move_part` has as many, and would fit on the stack of the smallest device.
+const PART: usize = 2048;
 
-// The `n` bytes at `from` go to `to`, overlapping or not: the compiler makes one call of the C library's memmove of it, and the array goes. Where it
-// stayed, 2,048 bytes would fit on the stack of the smallest device.
+// The `n` bytes at `from` go to `to`, overlapping or not. The compiler makes one call of the C library's memmove of it, and the array goes;
+// `copy_within` stays a loop, of a byte a turn where the bytes move by fewer than 32.
 fn move_part(buf: &mut [u8], to: usize, from: usize, n: usize)
     requires { (n ≤ 2048) × ((to + n ≤ length buf.old) × (from + n ≤ length buf.old)) }
     ensures { buf.new ≡ slid buf.old to from n }
 {
-    let mut t = [0u8; 2048];
-    put_bytes(&mut t, 0, &buf[from..from + n]);
-    put_bytes(buf, to, &t[..n]);
+    let mut part = [0u8; PART];
+    part[..n].copy_from_slice(&buf[from..from + n]);
+    buf[to..to + n].copy_from_slice(&part[..n]);
 }
 
-// The bytes of `d` at `at`, by an array for the same reason.
-fn copy_part(buf: &mut [u8], at: usize, d: &[u8])
-    requires { (length d.now ≤ 2048) × (at + length d.now ≤ length buf.old) }
-    ensures { buf.new ≡ laid buf.old at d.now (length d.now) }
-{
-    let n = d.len();
-    let mut t = [0u8; 2048];
-    put_bytes(&mut t, 0, d);
-    put_bytes(buf, at, &t[..n]);
-}
-
-// How many of `n` bytes go at once.
-fn part_of(n: usize) -> usize
-    ensures { (result ≤ n) × ((result ≤ 2048) × ((0 < n) → (0 < result))) }
-{
-    if 2048 < n {
-        return 2048;
-    }
-    n
-}
-
-// The bytes from `at` up to `len` go `k` further right. All others stay.
+// The bytes from `at` up to `len` go `k` further right, the last part first. All others stay.
 pub fn shift_right(buf: &mut [u8], at: usize, len: usize, k: usize)
     requires { (at ≤ len) × (len + k ≤ length buf.old) }
     ensures { buf.new ≡ slid buf.old (at + k) at (len - at) }
 {
-    let mut i = len;
-    while at < i {
-        let n = part_of(i - at);
-        i -= n;
-        move_part(buf, i + k, i, n);
+    for part in (0..(len - at).div_ceil(PART)).rev() {
+        let i = at + part * PART;
+        move_part(buf, i + k, i, PART.min(len - i));
     }
 }
 
-// The bytes from `at` up to `len` go `k` further left. All others stay.
+// The bytes from `at` up to `len` go `k` further left, the first part first. All others stay.
 pub fn shift_left(buf: &mut [u8], at: usize, len: usize, k: usize)
     requires { (k ≤ at) × ((at ≤ len) × (len ≤ length buf.old)) }
     ensures { buf.new ≡ slid buf.old (at - k) at (len - at) }
 {
-    let mut i = at;
-    while i < len {
-        let n = part_of(len - i);
-        move_part(buf, i - k, i, n);
-        i += n;
-    }
-}
-
-// The data at `at`.
-pub fn copy_parts(buf: &mut [u8], at: usize, d: &[u8])
-    requires { at + length d.now ≤ length buf.old }
-    ensures { buf.new ≡ laid buf.old at d.now (length d.now) }
-{
-    let mut i: usize = 0;
-    while i < d.len() {
-        let n = part_of(d.len() - i);
-        copy_part(buf, at + i, &d[i..i + n]);
-        i += n;
+    for part in 0..(len - at).div_ceil(PART) {
+        let i = at + part * PART;
+        move_part(buf, i - k, i, PART.min(len - i));
     }
 }

@@ -1,6 +1,6 @@
-use mathlib.Core.Path.{refl, ◌∙◌}
-use Rattle.moves.proofs.MoveLaws.{copied}
+use native.Mathlib.Omega.{arith}
+use Rattle.moves.proofs.MoveLaws.{put_over}
 use Rattle.moves.proofs.copy_in.Goals as goal
 
 pub returns : goal.returns
-returns c = c.copy_parts.ensures ∙ copied _ _ _ _ refl
+returns c = rw c.copy_from_slice.ensures.after (put_over c.args.buf.now c.args.d.now c.args.at _ (omega arith))

@@ -1,30 +1,16 @@
-use Prim.Native.Nat.{ℕ, ◌-◌, ◌<◌}
-use mathlib.Core.Path.{◌≡◌, ap, ◌∙◌}
+use Prim.Native.Nat.{◌+◌, ◌-◌, ◌*◌}
+use mathlib.Core.Path.{◌≡◌}
 use native.Mathlib.Omega.{arith}
-use Rattle.moves.specs.Shift.{slid}
 use Rattle.moves.proofs.ShiftLaws as laws
 use Rattle.moves.proofs.shift.shift_left.Goals as goal
 
-pub loop-i-init : goal.loop-i-init
-loop-i-init c = let a = c.args in laws.left_first a.buf.now a.at a.len a.k c.requires.1.0
-
-pub loop-i-smaller : goal.loop-i-smaller
-loop-i-smaller c =
-    let more : 0 < c.part_of-n.result = c.part_of-n.ensures.1.1 (omega arith) in
-    omega arith
-
-pub loop-i-preserved : goal.loop-i-preserved
-loop-i-preserved c =
-    let l = c.loop-i in
+pub loop-part-preserved : goal.loop-part-preserved
+loop-part-preserved c =
+    let l = c.loop-part in
     let a = c.args in
-    laws.left_part a.buf.now l.buf c.move_part.new.buf a.at l.i a.len a.k
-    c.part_of-n.result c.move_part.ensures l.invariant
-    c.part_of-n.ensures.0 c.requires.0
-    c.requires.1.1
-
-pub returns : goal.returns
-returns c =
-    let l = c.loop-i in
-    let a = c.args in
-    let e : l.i ≡ a.len = omega arith in
-    l.invariant.3 ∙ ap (λ (j : ℕ). slid a.buf.now (a.at - a.k) a.at (j - a.at)) e
+    let i = laws.reached a.at a.len l.part in
+    let j = laws.reached a.at a.len (l.part + 1) in
+    let from : i ≡ a.at + l.part * 2048 = omega arith in
+    let size : j - i ≡ c.min.result = omega arith in
+    laws.left_part a.buf.now l.buf c.move_part.new.buf a.at i j a.len a.k (rw (size, from) c.move_part.ensures) l.invariant
+    (omega arith) (omega arith) c.requires.0 c.requires.1.1
