@@ -1,11 +1,10 @@
 -- Laws of the byte-moving leaves.
-use Prim.Native.Nat.{ℕ, zero, suc, ◌+◌, ◌*◌, ◌-◌, ◌/◌, ◌%◌, ◌≤◌, ◌<◌}
-use mathlib.Core.Path.{◌≡◌, refl, ap, sym, ◌∙◌}
+use Prim.Native.Nat.{ℕ, zero, suc, ◌+◌, ◌*◌, ◌-◌, ◌%◌, ◌≤◌, ◌<◌}
+use mathlib.Core.Path.{◌≡◌, refl, ap, ◌∙◌}
 use mathlib.Core.List.{List, [], ◌∷◌, ◌++◌, append_assoc}
 use native.Mathlib.Omega.{arith}
-use native.Mathlib.Numerals.{add-one}
-use lib.ListN.{length, get_or, take, drop, set, replicate, length-replicate, get_or-replicate, length-append, length-drop, take-append-drop}
-use lib.Seq.{paste, paste-suc, take-length, set_split, drop-drop}
+use lib.ListN.{length, take, drop, set, replicate, length-replicate, length-append, length-drop, take-append-drop}
+use lib.Seq.{set_split, drop-drop}
 use Rattle.blorb.specs.Bytes.{Byte, be32, rd32}
 use Rattle.blorb.specs.All.{All}
 use Rattle.blorb.proofs.AllLaws.{all_drop}
@@ -17,7 +16,6 @@ use Rattle.blorb.specs.Tags.{FORM, IFRS, RIdx}
 use Rattle.blorb.specs.Format.{chunk_bytes, chunk_of}
 use Rattle.blorb.specs.Layout.{heading}
 use Rattle.edits.specs.Journal.{rec_bytes, rec_body}
-use Rattle.blorb.specs.Little.{little}
 use Rattle.moves.specs.Moves.{starts_moved}
 
 -- bytes put in the place of as many

@@ -1,26 +1,10 @@
 -- Laws of `slid` and of copies: nothing moved, the length, a part more, and a turn of each loop.
-use Prim.Native.Nat.{ℕ, ◌+◌, ◌-◌, ◌*◌, ◌≤◌, ◌<◌}
-use mathlib.Core.Path.{◌≡◌, refl, ap, sym, ◌∙◌}
+use Prim.Native.Nat.{ℕ, ◌+◌, ◌-◌, ◌*◌, ◌≤◌}
+use mathlib.Core.Path.{◌≡◌, ap, sym, ◌∙◌}
 use mathlib.Core.List.{List, ◌++◌, append_assoc}
 use native.Mathlib.Omega.{arith}
-use native.Mathlib.Numerals.{add-one}
-use lib.ListN.{take-append-drop, length, get_or, take, drop, set, length-drop}
-use lib.Seq.{
-  take-add,
-  take-take,
-  take-paste,
-  drop-drop,
-  take_all,
-  take-append-le,
-  drop-append-le,
-  drop_at,
-  paste,
-  paste-zero,
-  paste-suc,
-  length-paste,
-  drop-paste,
-  length-take-le,
-}
+use lib.ListN.{take-append-drop, length, take, drop, length-drop}
+use lib.Seq.{take-add, take-take, take-paste, drop-drop, take-append-le, drop-append-le, drop_at, paste, paste-zero, length-paste, drop-paste, length-take-le}
 use Rattle.moves.specs.Shift.{slid}
 
 pub slid-none : (b : List ℕ) (dst src n : ℕ) → n ≡ 0 → b ≡ slid b dst src n

@@ -1,7 +1,6 @@
 -- What the byte-moving leaves do.
-use Rattle.std.specs.Prelude.{ℕ, zero, suc, ◌+◌, ◌-◌, ◌/◌, ◌%◌, List, [], ◌∷◌, cond, drop, ltb}
+use Rattle.std.specs.Prelude.{ℕ, zero, suc, ◌+◌, ◌-◌, List, cond, drop, ltb}
 use Rattle.blorb.specs.Bytes.{be32, rd32}
-use Rattle.blorb.specs.Little.{little}
 use Rattle.edits.specs.Run.{noted}
 use Rattle.moves.specs.declared.Move.{Move}
 use Rattle.moves.specs.declared.Entry.{Entry}

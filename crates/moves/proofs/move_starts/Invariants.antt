@@ -1,6 +1,5 @@
 use Prim.Native.Nat.{◌-◌, ◌+◌, ◌*◌}
 use mathlib.Core.Path.{◌≡◌}
-use lib.ListN.{length}
 use Rattle.moves.specs.Moves.{relocated, starts_moved}
 use Rattle.moves.proofs.move_starts.Given as goal
 
