@@ -12,23 +12,68 @@ ghost use Rattle.edits.specs.Starts.{behind};
 ghost use Rattle.moves.specs.Moves.{starts_moved};
 
 use moves::shift;
+use std::cmp::Ordering;
 
-// The file with a new entry and chunk, written over the present one, which has `count` entries: both go in at their ends.
-pub fn add_bytes(
-    buf: &mut [u8],
-    len: usize,
-    count: usize,
-    usage: u32,
-    number: u32,
-    kind: u32,
-    d: &[u8],
-)
-    requires { Stands buf.old len count × ((len + (20 + (length d.now + length d.now % 2)) ≤ length buf.old)
-        × (len + (20 + (length d.now + length d.now % 2)) ≤ 16777216)) }
-    ensures { buf.new ≡ written buf.old len
-        (file (added (model (take len buf.old)) usage number (chunk_of kind d.now))) }
+// The file that a buffer begins with: its length, and how many entries its index has.
+#[derive(Clone, Copy)]
+pub struct Extent {
+    pub len: usize,
+    pub count: usize,
+}
+
+impl Extent {
+    // How many bytes stand behind its index.
+    fn behind(self) -> usize
+        requires { 24 + 12 * self.count ≤ self.len }
+        ensures { result ≡ self.len - (24 + 12 * self.count) }
+    {
+        self.len - (24 + 12 * self.count)
+    }
+}
+
+// An entry by its place in the index, and so many bytes of its chunk, from where that begins.
+#[derive(Clone, Copy)]
+pub struct Part {
+    pub place: usize,
+    pub start: usize,
+    pub size: usize,
+}
+
+// Where a new entry goes into the index, and where its chunk begins, in the present file.
+#[derive(Clone, Copy)]
+pub struct Gap {
+    pub place: usize,
+    pub at: usize,
+}
+
+// What an entry is asked for by.
+#[derive(Clone, Copy)]
+pub struct Name {
+    pub usage: u32,
+    pub number: u32,
+}
+
+// How many bytes a chunk with this data takes, with the padding.
+fn chunk_size(d: &[u8]) -> usize
+    ensures { result ≡ 8 + (length d.now + length d.now % 2) }
 {
-    insert_bytes(buf, len, count, count, len, usage, number, kind, d);
+    let m = d.len();
+    8 + (m + m % 2)
+}
+
+// The file with a new entry and chunk, written over the present one: both go in at their ends.
+pub fn add_bytes(buf: &mut [u8], extent: Extent, name: Name, kind: u32, d: &[u8])
+    requires { Stands buf.old extent.len extent.count
+        × ((extent.len + (20 + (length d.now + length d.now % 2)) ≤ length buf.old)
+        × (extent.len + (20 + (length d.now + length d.now % 2)) ≤ 16777216)) }
+    ensures { buf.new ≡ written buf.old extent.len
+        (file (added (model (take extent.len buf.old)) name.usage name.number (chunk_of kind d.now))) }
+{
+    let end = Gap {
+        place: extent.count,
+        at: extent.len,
+    };
+    insert_bytes(buf, extent, end, name, kind, d);
 }
 
 // The `k` bytes at `at` of the first `len` go: what stands behind them closes up, and zeros follow.
@@ -40,31 +85,29 @@ pub fn close_gap(buf: &mut [u8], at: usize, len: usize, k: usize)
     moves::clear(buf, len - k, k);
 }
 
-// The file without entry `i`, and without the `size` bytes of its chunk at `start`, 0 where the chunk stays.
-pub fn remove_bytes(buf: &mut [u8], len: usize, count: usize, i: usize, start: usize, size: usize)
-    requires { Stands buf.old len count × (Removable buf.old len count i start size) }
-    ensures { buf.new ≡ written buf.old len (file (removed (model (take len buf.old)) i)) }
+// The file without the part's entry, and without the bytes of its chunk, none where the chunk stays.
+pub fn remove_bytes(buf: &mut [u8], extent: Extent, part: Part)
+    requires { Stands buf.old extent.len extent.count × (Removable buf.old extent.len extent.count part.place part.start part.size) }
+    ensures { buf.new ≡ written buf.old extent.len (file (removed (model (take extent.len buf.old)) part.place)) }
 {
+    let gone = 12 + part.size;
     moves::move_starts(
         buf,
         24,
-        count,
+        extent.count,
         moves::Move {
-            limit: start as u32,
+            limit: part.start as u32,
             grow: 0,
-            fall: (12 + size) as u32,
+            fall: gone as u32,
             plus: 0,
             minus: 12,
         },
     );
-    shift::shift_left(buf, 36 + 12 * i, start, 12);
-    shift::shift_left(buf, start + size, len, 12 + size);
-    moves::clear(buf, len - (12 + size), 12 + size);
-    moves::put_heading(
-        buf,
-        count as u64 - 1,
-        (len - size - (24 + 12 * count)) as u64,
-    );
+    shift::shift_left(buf, 36 + 12 * part.place, part.start, 12);
+    shift::shift_left(buf, part.start + part.size, extent.len, gone);
+    moves::clear(buf, extent.len - gone, gone);
+    let rest = extent.behind() - part.size;
+    moves::put_heading(buf, extent.count as u64 - 1, rest as u64);
 }
 
 // The part of `old` bytes at `at` of the first `len` gets `new` bytes.
@@ -72,14 +115,11 @@ pub fn resize(buf: &mut [u8], at: usize, len: usize, old: usize, new: usize)
     requires { (at + old ≤ len) × ((len ≤ length buf.old) × (len + (new - old) ≤ length buf.old)) }
     ensures { buf.new ≡ resized buf.old at len old new }
 {
-    if old == new {
-        return;
+    match new.cmp(&old) {
+        Ordering::Less => close_gap(buf, at + new, len, old - new),
+        Ordering::Equal => {}
+        Ordering::Greater => shift::shift_right(buf, at + old, len, new - old),
     }
-    if old < new {
-        shift::shift_right(buf, at + old, len, new - old);
-        return;
-    }
-    close_gap(buf, at + new, len, old - new);
 }
 
 // The starts behind `start` move by what the part there grows or shrinks from `old` to `new` bytes.
@@ -104,96 +144,72 @@ fn move_behind(buf: &mut [u8], count: usize, start: usize, old: usize, new: usiz
     );
 }
 
-// The file with another chunk in the place of entry `i`'s own, which has `old` bytes at `start`.
-pub fn replace_bytes(
-    buf: &mut [u8],
-    len: usize,
-    count: usize,
-    i: usize,
-    start: usize,
-    old: usize,
-    kind: u32,
-    d: &[u8],
-)
-    requires { Stands buf.old len count × (Replaceable buf.old len count i start old
-        × ((len - old + (8 + (length d.now + length d.now % 2)) ≤ length buf.old) ×
-        (len - old + (8 + (length d.now + length d.now % 2)) ≤ 16777216))) }
-    ensures { buf.new ≡ written buf.old len
-        (file (replaced (model (take len buf.old)) (ref_at (model (take len buf.old)) i).chunk (chunk_of kind d.now))) }
-{
-    let m = d.len();
-    let new = 8 + (m + m % 2);
-    resize(buf, start, len, old, new);
-    move_behind(buf, count, start, old, new);
-    moves::put_heading(
-        buf,
-        count as u64,
-        (len - (24 + 12 * count) - old + new) as u64,
-    );
-    moves::put_chunk(buf, start, kind as u64, d);
-}
-
-// The file with an entry put in at `place` in the index, and its chunk at `at`.
-pub fn insert_bytes(
-    buf: &mut [u8],
-    len: usize,
-    count: usize,
-    place: usize,
-    at: usize,
-    usage: u32,
-    number: u32,
-    kind: u32,
-    d: &[u8],
-)
-    requires { Stands buf.old len count × (Insertable buf.old len count place at
-        × ((len + (20 + (length d.now + length d.now % 2)) ≤ length buf.old) ×
-        (len + (20 + (length d.now + length d.now % 2)) ≤ 16777216))) }
-    ensures { buf.new ≡ written buf.old len
-        (file (inserted (model (take len buf.old)) place (place_at (model (take len buf.old)) at) usage number
+// The file with another chunk in the place of the part's, which is its entry's alone.
+pub fn replace_bytes(buf: &mut [u8], extent: Extent, part: Part, kind: u32, d: &[u8])
+    requires { Stands buf.old extent.len extent.count × (Replaceable buf.old extent.len extent.count part.place part.start part.size
+        × ((extent.len - part.size + (8 + (length d.now + length d.now % 2)) ≤ length buf.old) ×
+        (extent.len - part.size + (8 + (length d.now + length d.now % 2)) ≤ 16777216))) }
+    ensures { buf.new ≡ written buf.old extent.len
+        (file (replaced (model (take extent.len buf.old)) (ref_at (model (take extent.len buf.old)) part.place).chunk
         (chunk_of kind d.now))) }
 {
-    let m = d.len();
-    let size = 8 + (m + m % 2);
-    let entry = 24 + 12 * place;
+    let new = chunk_size(d);
+    resize(buf, part.start, extent.len, part.size, new);
+    move_behind(buf, extent.count, part.start, part.size, new);
+    let rest = extent.behind() - part.size + new;
+    moves::put_heading(buf, extent.count as u64, rest as u64);
+    moves::put_chunk(buf, part.start, kind as u64, d);
+}
+
+// The file with an entry and its chunk put into the gap.
+pub fn insert_bytes(buf: &mut [u8], extent: Extent, gap: Gap, name: Name, kind: u32, d: &[u8])
+    requires { Stands buf.old extent.len extent.count × (Insertable buf.old extent.len extent.count gap.place gap.at
+        × ((extent.len + (20 + (length d.now + length d.now % 2)) ≤ length buf.old) ×
+        (extent.len + (20 + (length d.now + length d.now % 2)) ≤ 16777216))) }
+    ensures { buf.new ≡ written buf.old extent.len
+        (file (inserted (model (take extent.len buf.old)) gap.place (place_at (model (take extent.len buf.old)) gap.at) name.usage name.number
+        (chunk_of kind d.now))) }
+{
+    let size = chunk_size(d);
+    let entry = 24 + 12 * gap.place;
     moves::move_starts(
         buf,
         24,
-        count,
+        extent.count,
         moves::Move {
-            limit: (at - 1) as u32,
+            limit: (gap.at - 1) as u32,
             grow: (12 + size) as u32,
             fall: 0,
             plus: 12,
             minus: 0,
         },
     );
-    shift::shift_right(buf, at, len, 12 + size);
-    shift::shift_right(buf, entry, at, 12);
-    moves::put_words(buf, entry, usage as u64, number as u64, at as u64 + 12);
-    moves::put_chunk(buf, at + 12, kind as u64, d);
-    let rest = len - (24 + 12 * count) + size;
-    moves::put_heading(buf, count as u64 + 1, rest as u64);
+    shift::shift_right(buf, gap.at, extent.len, 12 + size);
+    shift::shift_right(buf, entry, gap.at, 12);
+    moves::put_words(
+        buf,
+        entry,
+        name.usage as u64,
+        name.number as u64,
+        gap.at as u64 + 12,
+    );
+    moves::put_chunk(buf, gap.at + 12, kind as u64, d);
+    let rest = extent.behind() + size;
+    moves::put_heading(buf, extent.count as u64 + 1, rest as u64);
 }
 
-// The file with an entry put in at `place` in the index. Its chunk stands, at `at` in the present file.
-pub fn insert_entry(
-    buf: &mut [u8],
-    len: usize,
-    count: usize,
-    place: usize,
-    at: usize,
-    usage: u32,
-    number: u32,
-)
-    requires { Stands buf.old len count × (Insertable buf.old len count place at × ((len + 12 ≤ length buf.old) × (len + 12 ≤ 16777216))) }
-    ensures { buf.new ≡ written buf.old len
-        (file (entered (model (take len buf.old)) place (place_at (model (take len buf.old)) at) usage number)) }
+// The file with an entry put in. Its chunk stands.
+pub fn insert_entry(buf: &mut [u8], extent: Extent, gap: Gap, name: Name)
+    requires { Stands buf.old extent.len extent.count × (Insertable buf.old extent.len extent.count gap.place gap.at
+        × ((extent.len + 12 ≤ length buf.old) × (extent.len + 12 ≤ 16777216))) }
+    ensures { buf.new ≡ written buf.old extent.len
+        (file (entered (model (take extent.len buf.old)) gap.place (place_at (model (take extent.len buf.old)) gap.at) name.usage name.number)) }
 {
-    let entry = 24 + 12 * place;
+    let entry = 24 + 12 * gap.place;
     moves::move_starts(
         buf,
         24,
-        count,
+        extent.count,
         moves::Move {
             limit: 0,
             grow: 12,
@@ -202,7 +218,13 @@ pub fn insert_entry(
             minus: 0,
         },
     );
-    shift::shift_right(buf, entry, len, 12);
-    moves::put_words(buf, entry, usage as u64, number as u64, at as u64 + 12);
-    moves::put_heading(buf, count as u64 + 1, (len - (24 + 12 * count)) as u64);
+    shift::shift_right(buf, entry, extent.len, 12);
+    moves::put_words(
+        buf,
+        entry,
+        name.usage as u64,
+        name.number as u64,
+        gap.at as u64 + 12,
+    );
+    moves::put_heading(buf, extent.count as u64 + 1, extent.behind() as u64);
 }

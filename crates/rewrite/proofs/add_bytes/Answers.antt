@@ -9,12 +9,12 @@ insert_bytes-requires c =
     let a = c.args in
     let b = a.buf.now in
     let p = c.requires in
-    (p.0, (insertable_end b a.len a.count p.0, p.1))
+    (p.0, (insertable_end b a.extent.len a.extent.count p.0, p.1))
 
 pub returns : goal.returns
 returns c =
     let a = c.args in
     let b = a.buf.now in
     c.insert_bytes.ensures
-    ∙ ap (written b a.len) (added-file b a.len a.count c.requires.0 a.usage a.number
+    ∙ ap (written b a.extent.len) (added-file b a.extent.len a.extent.count c.requires.0 a.name.usage a.name.number
     (chunk_of a.kind a.d.now))

@@ -12,14 +12,16 @@ returns c =
     let b = a.buf.now in
     let p = c.requires in
     let sz = 8 + (length a.d.now + length a.d.now % 2) in
-    let mv : Move = record { limit = a.at - 1; grow = 12 + sz; fall = 0; plus = 12; minus = 0 } in
+    let mv : Move = record { limit = a.gap.at - 1; grow = 12 + sz; fall = 0; plus = 12; minus = 0 } in
     rw (
       c.put_heading.ensures,
+      c.behind.ensures,
       c.put_chunk.ensures,
       c.put_words.ensures,
       c.shift_right-2.ensures,
       c.shift_right.ensures,
       c.move_starts.ensures,
-      relocated-risen mv a.at sz (omega (arith, p.1.0.behind)) refl refl refl refl refl,
+      c.chunk_size-size.ensures,
+      relocated-risen mv a.gap.at sz (omega (arith, p.1.0.behind)) refl refl refl refl refl,
     )
-    (insert_written b a.len a.count a.place a.at a.usage a.number p.0 p.1.0 a.kind a.d.now p.1.1.0)
+    (insert_written b a.extent.len a.extent.count a.gap.place a.gap.at a.name.usage a.name.number p.0 p.1.0 a.kind a.d.now p.1.1.0)

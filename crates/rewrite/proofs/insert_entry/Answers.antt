@@ -12,9 +12,10 @@ returns c =
     let mv : Move = record { limit = 0; grow = 12; fall = 0; plus = 12; minus = 0 } in
     rw (
       c.put_heading.ensures,
+      c.behind.ensures,
       c.put_words.ensures,
       c.shift_right.ensures,
       c.move_starts.ensures,
       relocated_alike mv 12 refl refl refl refl,
     )
-    (enter_written b a.len a.count a.place a.at a.usage a.number p.0 p.1.0 p.1.1.0)
+    (enter_written b a.extent.len a.extent.count a.gap.place a.gap.at a.name.usage a.name.number p.0 p.1.0 p.1.1.0)

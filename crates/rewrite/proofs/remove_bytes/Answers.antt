@@ -1,5 +1,6 @@
 use mathlib.Core.Path.{◌≡◌, refl}
-use Prim.Native.Nat.{◌+◌, ◌-◌}
+use native.Mathlib.Omega.{arith}
+use Prim.Native.Nat.{◌+◌, ◌-◌, ◌*◌}
 use lib.ListN.{replicate}
 use Rattle.edits.specs.Run.{noted}
 use Rattle.moves.specs.declared.Move.{Move}
@@ -11,16 +12,19 @@ returns c =
     let a = c.args in
     let b = a.buf.now in
     let p = c.requires in
-    let mv : Move = record { limit = a.start; grow = 0; fall = 12 + a.size; plus = 0; minus = 12 } in
+    let mv : Move = record { limit = a.part.start; grow = 0; fall = 12 + a.part.size; plus = 0; minus = 12 } in
     let cleared : c.clear.new.buf ≡ noted
-    c.shift_left-2.new.buf (a.len - (12 + a.size))
-    (replicate (12 + a.size) 0) = c.clear.ensures in
+    c.shift_left-2.new.buf (a.extent.len - (12 + a.part.size))
+    (replicate (12 + a.part.size) 0) = c.clear.ensures in
+    let turned : a.extent.len - (24 + 12 * a.extent.count) - a.part.size ≡ a.extent.len - a.part.size - (24 + 12 * a.extent.count) = omega arith in
     rw (
       c.put_heading.ensures,
+      c.behind.ensures,
+      turned,
       cleared,
       c.shift_left-2.ensures,
       c.shift_left.ensures,
       c.move_starts.ensures,
-      relocated-fallen mv a.start a.size refl refl refl refl refl,
+      relocated-fallen mv a.part.start a.part.size refl refl refl refl refl,
     )
-    (remove-written b a.len a.count a.i a.start a.size p.0 p.1.listed p.1.starts p.1.gone)
+    (remove-written b a.extent.len a.extent.count a.part.place a.part.start a.part.size p.0 p.1.listed p.1.starts p.1.gone)
