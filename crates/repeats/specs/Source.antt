@@ -1,46 +1,51 @@
--- The three lists as one: where the next entry stands and what its key is, by the list's layout. The search speaks of keys through these only.
+-- A list as the search sees it: where its first entry stands, and of the entry at a place whether it can be read, its key, and where the next one
+-- stands; and the three lists of which this is said. The search speaks of keys through these only.
 use Rattle.std.specs.Prelude.{ℕ, zero, suc, ◌+◌, ◌≤◌, ◌<◌, List, length, get_or, drop}
 use Rattle.blorb.specs.Bytes.{rd32}
 use Rattle.repeats.specs.Keys.{pair_key_of}
-use Rattle.repeats.specs.declared.Layout.{Layout}
-use Rattle.repeats.specs.declared.Layout.TheVariants.{Rows, Entries, Numbers}
 
--- a list lies in a slice of bytes or in one of numbers
-pub record Source : Type 0 where
-  pub layout : Layout
-  pub bytes : List ℕ
-  pub numbers : List ℕ
+pub record Source : Type 1 where
   pub base : ℕ
+  -- it can be read, and what is added to its place does not wrap
+  pub Reads : ℕ → Type 0
+  pub key_at : ℕ → ℕ
+  pub next_at : ℕ → ℕ
 
-abbrev pub source : Layout → List ℕ → List ℕ → ℕ → Source
-source layout s t base = record { layout = layout; bytes = s; numbers = t; base = base }
+-- rows of `step` bytes that begin with a number
+abbrev pub of_rows : List ℕ → (step base : ℕ) → Source
+of_rows s step base = record {
+  base = base;
+  Reads = λ at. (at + 4 ≤ length s) × (at + step ≤ length s);
+  key_at = λ at. rd32 (drop at s);
+  next_at = λ at. at + step;
+}
 
--- the key of the entry at at
-abbrev pub key_at : Layout → List ℕ → List ℕ → ℕ → ℕ
-key_at (Rows step) s t at = rd32 (drop at s)
-key_at Entries s t at = pair_key_of (rd32 (drop at s)) (rd32 (drop (at + 4) s))
-key_at Numbers s t at = pair_key_of (get_or t at 0) (get_or t (at + 1) 0)
+-- entries of two numbers, a text's length and the text
+abbrev pub of_entries : List ℕ → (base : ℕ) → Source
+of_entries s base = record {
+  base = base;
+  Reads = λ at. at + 12 ≤ length s;
+  key_at = λ at. pair_key_of (rd32 (drop at s)) (rd32 (drop (at + 4) s));
+  next_at = λ at. at + (12 + rd32 (drop (at + 8) s));
+}
 
--- where the entry behind it stands
-abbrev pub next_at : Layout → List ℕ → ℕ → ℕ
-next_at (Rows step) s at = at + step
-next_at Entries s at = at + (12 + rd32 (drop (at + 8) s))
-next_at Numbers s at = at + 4
-
--- it can be read, and what is added to its place does not wrap
-abbrev pub Readable : Layout → List ℕ → List ℕ → ℕ → Type 0
-Readable (Rows step) s t at = (at + 4 ≤ length s) × (at + step ≤ length s)
-Readable Entries s t at = at + 12 ≤ length s
-Readable Numbers s t at = at + 2 ≤ length t
+-- rows of four numbers, the first two of them the pair
+abbrev pub of_numbers : List ℕ → Source
+of_numbers t = record {
+  base = 0;
+  Reads = λ at. at + 2 ≤ length t;
+  key_at = λ at. pair_key_of (get_or t at 0) (get_or t (at + 1) 0);
+  next_at = λ at. at + 4;
+}
 
 -- where entry i stands
 unfoldable pub spot : Source → ℕ → ℕ
 spot x zero = x.base
-spot x (suc i) = next_at x.layout x.bytes (spot x i)
+spot x (suc i) = x.next_at (spot x i)
 
 unfoldable pub key : Source → ℕ → ℕ
-key x i = key_at x.layout x.bytes x.numbers (spot x i)
+key x i = x.key_at (spot x i)
 
 -- each of n entries can be read
 unfoldable pub Inside : Source → ℕ → Type 0
-Inside x n = (i : ℕ) → i < n → Readable x.layout x.bytes x.numbers (spot x i)
+Inside x n = (i : ℕ) → i < n → x.Reads (spot x i)

@@ -28,9 +28,9 @@ unfoldable pub Once : List ℕ → ℕ → (ℕ → ℕ) → ℕ → ℕ → Typ
 Once xs n k b e = (i j : ℕ) → b ≤ i → i < j → j < e → k i ≡ k j → held xs n (k j) ≡ true → ⊥
 
 -- what is marked as seen is a suspect, and the key of one of the first j entries
-unfoldable pub SeenSome : List ℕ → List ℕ → ℕ → (ℕ → ℕ) → ℕ → Type 0
-SeenSome seen xs n k j = (c : ℕ) → get_or seen c 0 ≡ 1 → (c < n) × (among k (get_or xs c 0) j ≡ true)
+unfoldable pub SeenSome : List Bool → List ℕ → ℕ → (ℕ → ℕ) → ℕ → Type 0
+SeenSome seen xs n k j = (c : ℕ) → get_or seen c false ≡ true → (c < n) × (among k (get_or xs c 0) j ≡ true)
 
 -- of each of the entries b to j the first suspect with its key is marked as seen
-unfoldable pub SeenAll : List ℕ → List ℕ → ℕ → (ℕ → ℕ) → ℕ → ℕ → Type 0
-SeenAll seen xs n k b j = (i c : ℕ) → b ≤ i → i < j → c < n → Without (λ x. get_or xs x 0) (k i) 0 c → get_or xs c 0 ≡ k i → get_or seen c 0 ≡ 1
+unfoldable pub SeenAll : List Bool → List ℕ → ℕ → (ℕ → ℕ) → ℕ → ℕ → Type 0
+SeenAll seen xs n k b j = (i c : ℕ) → b ≤ i → i < j → c < n → Without (λ x. get_or xs x 0) (k i) 0 c → get_or xs c 0 ≡ k i → get_or seen c false ≡ true

@@ -1,70 +1,52 @@
+use mathlib.Core.Path.{◌≡◌, ◌∙◌}
 use native.Mathlib.Omega.{arith}
-use Rattle.repeats.specs.Source.{Source, source, key}
+use Rattle.repeats.specs.Source.{key}
 use Rattle.repeats.proofs.SearchLaws.{across_none, across_to, hit_among}
 use Rattle.repeats.proofs.SuspectLaws.{across_round, held-among}
-use Rattle.repeats.proofs.SourceLaws.{spot-start, inside_to}
+use Rattle.repeats.proofs.SourceLaws.{inside_to, inside_in}
 use Rattle.repeats.proofs.first_across.Goals as goal
 
-pub loop-i-init : goal.loop-i-init
-loop-i-init c =
+pub loop-here-init : goal.loop-here-init
+loop-here-init g c =
     let a = c.args in
-    let x : Source = source a.layout a.s.now a.t.now a.base in
-    let p = c.requires in
-    (omega arith, p.0, omega arith, spot-start x, p.3, p.4, omega arith, across_none (key x) a.b a.e, λ m. absurd (omega arith))
+    let x = g.L.Keys.source a.from.list in
+    let s = c.start-here.ensures in
+    record {
+      list = s.list;
+      within = omega arith;
+      first = omega arith;
+      below = omega arith;
+      across = rw s.entry (across_none (key x) a.from.entry a.e);
+      hit = λ m. absurd (omega arith);
+    }
 
-pub mark_all-requires : goal.mark_all-requires
-mark_all-requires c =
-    let a = c.args in
-    let x : Source = source a.layout a.s.now a.t.now a.base in
-    let p = c.requires in
-    let l = c.loop-i in
-    (l.invariant.1, p.1, inside_to x a.e l.best p.2 l.invariant.2, l.invariant.4, l.invariant.6)
+pub mark_all-requires-clause-inside : goal.mark_all-requires-clause-inside
+mark_all-requires-clause-inside g c =
+    inside_to (g.L.Keys.source c.args.from.list) c.args.e c.loop-here.best c.requires.inside c.loop-here.invariant.below
 
-pub hold_round-round-requires : goal.hold_round-round-requires
-hold_round-round-requires c =
-    let a = c.args in
-    let x : Source = source a.layout a.s.now a.t.now a.base in
-    let p = c.requires in
-    let l = c.loop-i in
-    (c.loop-i-test.true, l.invariant.3, inside_to x a.e a.b p.2 p.0, l.invariant.6, l.invariant.5)
+pub hold_round-here-requires-clause-inside : goal.hold_round-here-requires-clause-inside
+hold_round-here-requires-clause-inside g c =
+    inside_in g.L.Keys.source _ _ c.args.e _ c.loop-here.invariant.list c.requires.inside c.requires.order
 
-pub first_held-best-requires : goal.first_held-best-requires
-first_held-best-requires c =
-    let a = c.args in
-    let x : Source = source a.layout a.s.now a.t.now a.base in
-    let p = c.requires in
-    let l = c.loop-i in
-    (l.invariant.1, p.1, inside_to x a.e l.best p.2 l.invariant.2, c.hold_round-round.ensures.3)
+pub first_held-best-requires-clause-inside : goal.first_held-best-requires-clause-inside
+first_held-best-requires-clause-inside g c =
+    inside_to (g.L.Keys.source c.args.from.list) c.args.e c.loop-here.best c.requires.inside c.loop-here.invariant.below
 
-pub loop-i-preserved : goal.loop-i-preserved
-loop-i-preserved c =
+pub loop-here-preserved : goal.loop-here-preserved
+loop-here-preserved g c =
     let a = c.args in
-    let x : Source = source a.layout a.s.now a.t.now a.base in
-    let l = c.loop-i in
-    let marked = c.mark_all.ensures in
-    let r = c.hold_round-round.ensures in
-    let best = c.first_held-best.result in
-    let w = c.first_held-best.ensures in (
-      r.1,
-      w.0,
-      omega (arith, w.1, l.invariant.2),
-      r.2,
-      marked.0,
-      r.4,
-      c.next_factor-f.ensures,
-      across_round (key x) _ l.f _ _ l.i _ a.b l.best best l.invariant.7 w.1 marked.1 r.5 w.2,
-      λ m. hit_among (key x) best l.best a.e w.1 m (λ h. held-among (key x) _ _ a.b best r.6 w.0 (w.3 h)) l.invariant.8,
-    )
-
-pub returns : goal.returns
-returns c =
-    let a = c.args in
-    let x : Source = source a.layout a.s.now a.t.now a.base in
-    let l = c.loop-i in (
-      l.invariant.1,
-      l.invariant.2,
-      l.invariant.4,
-      l.invariant.5,
-      across_to (key x) l.i a.b a.b l.best c.loop-i-test.false l.invariant.7,
-      l.invariant.8,
-    )
+    let x = g.L.Keys.source a.from.list in
+    let l = c.loop-here in
+    let i = l.invariant in
+    let r = c.hold_round-here.ensures in
+    let w = c.first_held-best.ensures in
+    let q = rw i.list at r.caught in
+    let d = rw i.list at r.earlier in
+    record {
+      list = r.list ∙ i.list;
+      within = r.within;
+      first = w.first;
+      below = omega (arith, w.within, i.below);
+      across = across_round (key x) _ l.by _ _ l.here.entry _ a.from.entry l.best _ i.across w.within c.mark_all.ensures q w.free;
+      hit = λ m. hit_among (key x) _ l.best a.e w.within m (λ h. held-among (key x) _ _ a.from.entry _ d w.first (w.hit h)) i.hit;
+    }

@@ -1,77 +1,92 @@
-use mathlib.Core.Path.{refl, ◌∙◌}
-use native.Mathlib.Omega.{arith}
-use Prim.Native.Nat.{◌<◌}
+use mathlib.Core.Path.{◌≡◌, refl, sym, ◌∙◌}
+use borrow.Author.Rules.{rules}
+use Prim.Native.Nat.{◌≤◌}
 use lib.ListN.{length, length-set}
-use Rattle.repeats.specs.Source.{Source, source, key}
-use Rattle.repeats.proofs.SeenLaws.{once_none, once_empty, once_more, some_none, some_more, all_none, all_more, seen_again}
-use Rattle.repeats.proofs.SourceLaws.{spot-next, inside_at, key-is}
+use native.Mathlib.Omega.{arith}
+use Rattle.repeats.specs.Source.{key}
+use Rattle.repeats.proofs.SeenLaws.{none_there, first_there, once_none, once_empty, once_more, some_none, some_skip, some_more, all_none, all_skip, all_more, seen_again}
+use Rattle.repeats.proofs.SourceLaws.{reads_in}
 use Rattle.repeats.proofs.first_again.Goals as goal
+use Rattle.repeats.proofs.first_again.Goals.{in-Some+else-seen-c, in_default}
 
-pub returns-then-count-eq0 : goal.returns-then-count-eq0
-returns-then-count-eq0 c =
+pub returns-then-suspects-eq0-clause-once : goal.returns-then-suspects-eq0-clause-once
+returns-then-suspects-eq0-clause-once g c =
     let a = c.args in
-    let x : Source = source a.layout a.s.now a.t.now a.base in
-    (c.requires.0, omega arith, once_empty (key x) a.suspects.now a.count a.b a.e c.if-count-eq0.true, λ m. absurd (omega arith))
+    let x = g.L.Keys.source a.from.list in
+    once_empty (key x) a.suspects.now.keys a.suspects.now.count a.from.entry a.e c.if-suspects-eq0.true
 
-pub loop-j-init : goal.loop-j-init
-loop-j-init c =
+pub loop-here-init : goal.loop-here-init
+loop-here-init g c =
     let a = c.args in
-    let x : Source = source a.layout a.s.now a.t.now a.base in
-    let xs = a.suspects.now in (
-      omega arith,
-      c.requires.0,
-      c.requires.1,
-      refl,
-      once_none (key x) xs a.count a.b,
-      some_none (key x) 33 xs a.count a.b,
-      all_none (key x) _ xs a.count a.b,
-    )
+    let x = g.L.Keys.source a.from.list in
+    let s = a.suspects.now in
+    record {
+      list = refl;
+      first = omega arith;
+      within = omega arith;
+      seen = refl;
+      once = once_none (key x) s.keys s.count a.from.entry;
+      some = some_none (key x) 32 s.keys s.count a.from.entry;
+      all = all_none (key x) _ s.keys s.count a.from.entry;
+    }
 
-pub key_at-k-requires : goal.key_at-k-requires
-key_at-k-requires c =
+pub key-k-requires : goal.key-k-requires
+key-k-requires g c =
+    let l = c.loop-here in
+    reads_in g.L.Keys.source _ _ c.args.e _ _ l.invariant.list refl c.requires.inside (omega arith)
+
+pub next-here-requires-clause-reads : goal.next-here-requires-clause-reads
+next-here-requires-clause-reads g c =
+    let l = c.loop-here in
+    reads_in g.L.Keys.source _ _ c.args.e _ _ l.invariant.list refl c.requires.inside (omega arith)
+
+pub returns-then-seen-c-clause-again : goal.returns-then-seen-c-clause-again
+returns-then-seen-c-clause-again g c m =
     let a = c.args in
-    let x : Source = source a.layout a.s.now a.t.now a.base in
-    inside_at x a.e _ _ c.requires.2 c.loop-j-test.true c.loop-j.invariant.2
+    let x = g.L.Keys.source a.from.list in
+    let s = a.suspects.now in
+    let l = c.loop-here in
+    let e : c.key-k.result ≡ key x l.here.entry = rw l.invariant.list at c.key-k.ensures in
+    let h : s.count ≤ length s.keys = search rules in
+    let p = first_there s.keys s.count c.key-k.result h c.in-Some.c c.in-Some.ensures in
+    seen_again (key x) l.seen s.keys s.count l.here.entry c.in-Some.c _ e p.1 c.if-seen-c.true l.invariant.some
 
-pub returns-then-seen-c-eq1 : goal.returns-then-seen-c-eq1
-returns-then-seen-c-eq1 c =
+pub loop-here-preserved : goal.loop-here-preserved
+loop-here-preserved g c =
     let a = c.args in
-    let x : Source = source a.layout a.s.now a.t.now a.base in
-    let l = c.loop-j in
-    let e = key-is x l.j _ _ l.invariant.2 c.key_at-k.ensures in
-    let place = c.place_of-c in (
-      l.invariant.0,
-      l.invariant.1,
-      l.invariant.4,
-      λ m. seen_again (key x) l.seen a.suspects.now a.count l.j place.result _ e place.ensures.2
-          c.if-seen-c-eq1.true l.invariant.5,
-    )
-
-pub next_at-at-requires : goal.next_at-at-requires
-next_at-at-requires c =
-    let a = c.args in
-    let x : Source = source a.layout a.s.now a.t.now a.base in
-    inside_at x a.e _ _ c.requires.2 c.loop-j-test.true c.loop-j.invariant.2
-
-pub loop-j-preserved : goal.loop-j-preserved
-loop-j-preserved c =
-    let a = c.args in
-    let x : Source = source a.layout a.s.now a.t.now a.base in
-    let xs = a.suspects.now in
-    let l = c.loop-j in
-    let e = key-is x l.j _ _ l.invariant.2 c.key_at-k.ensures in
-    let place = c.place_of-c in
-    let p = place.ensures in
-    let one = c.one_below in
-    let h : place.result < length l.seen = omega (arith, p.0, c.requires.3, l.invariant.3) in (
-      omega arith,
-      omega arith,
-      c.next_at-at.ensures ∙ spot-next x l.j _ l.invariant.2,
-      simp length-set l.invariant.3,
-      once_more (key x) l.seen xs a.count a.b l.j place.result _ e p.0 p.1 p.2 c.if-seen-c-eq1.false l.invariant.6 l.invariant.4,
-      some_more (key x) l.seen xs a.count l.j place.result _ one.result e h one.ensures.0 p.2 l.invariant.5,
-      all_more (key x) l.seen xs a.count a.b l.j place.result _ one.result e p.0 h p.1 p.2 one.ensures.1 l.invariant.6,
-    )
-
-pub returns : goal.returns
-returns c = let l = c.loop-j in (l.invariant.0, l.invariant.1, l.invariant.4, λ m. absurd (omega arith))
+    let x = g.L.Keys.source a.from.list in
+    let s = a.suspects.now in
+    let l = c.loop-here in
+    let i = l.invariant in
+    let t = c.next-here.ensures in
+    let e : c.key-k.result ≡ key x l.here.entry = rw i.list at c.key-k.ensures in
+    let h : s.count ≤ length s.keys = search rules in
+    record {
+      list = t.list ∙ i.list;
+      first = omega arith;
+      within = omega arith;
+      seen = elim c.match-position.branch [
+        | in-Some+else-seen-c w ↦ rw w.seen-is (simp length-set i.seen)
+        | in_default w ↦ rw w.seen-is i.seen
+      ];
+      once = rw t.entry (elim c.match-position.branch [
+        | in-Some+else-seen-c w ↦
+            let p = first_there s.keys s.count c.key-k.result h w.in-Some.c w.in-Some.ensures in
+            once_more (key x) l.seen s.keys s.count a.from.entry l.here.entry w.in-Some.c _ e (omega (arith, p.0)) p.2 (λ _. p.1) (λ _ z. cc) i.all i.once
+        | in_default w ↦
+            once_more (key x) l.seen s.keys s.count a.from.entry l.here.entry s.count _ e (omega arith) (none_there s.keys s.count c.key-k.result h (sym w.in_default.is ∙ c.position.ensures)) (λ m. absurd (omega arith)) (λ m. absurd (omega arith))
+            i.all i.once
+      ]);
+      some = rw t.entry (elim c.match-position.branch [
+        | in-Some+else-seen-c w ↦
+            let p = first_there s.keys s.count c.key-k.result h w.in-Some.c w.in-Some.ensures in
+            rw w.seen-is (some_more (key x) l.seen s.keys s.count l.here.entry w.in-Some.c _ e (omega (arith, p.0, h, i.seen)) p.0 p.1 i.some)
+        | in_default w ↦ rw w.seen-is (some_skip (key x) l.seen s.keys s.count l.here.entry i.some)
+      ]);
+      all = rw t.entry (elim c.match-position.branch [
+        | in-Some+else-seen-c w ↦
+            let p = first_there s.keys s.count c.key-k.result h w.in-Some.c w.in-Some.ensures in
+            rw w.seen-is (all_more (key x) l.seen s.keys s.count a.from.entry l.here.entry w.in-Some.c _ e p.0 (omega (arith, p.0, h, i.seen)) p.2 p.1 i.all)
+        | in_default w ↦ rw w.seen-is (all_skip (key x) l.seen s.keys s.count a.from.entry l.here.entry _ e (none_there s.keys s.count c.key-k.result h (sym w.in_default.is ∙ c.position.ensures)) i.all)
+      ]);
+    }

@@ -2,14 +2,20 @@
 use mathlib.Core.Path.{◌≡◌}
 use Prim.Native.Nat.{◌-◌, ◌≤◌}
 use lib.ListN.{length}
-use Rattle.repeats.specs.Source.{source, spot, key}
+use Rattle.repeats.specs.Source.{key}
 use Rattle.repeats.specs.Suspects.{Once, SeenSome, SeenAll}
 use Rattle.repeats.proofs.first_again.Given as goal
 
-abbrev pub invariant-loop-j : goal.invariant-loop-j
-invariant-loop-j l =
-    (l.b ≤ l.j) × (l.j ≤ l.e) × (l.at ≡ spot (source l.layout l.s l.t l.base) l.j) × (length l.seen ≡ 33) × Once l.suspects l.count (key (source l.layout l.s l.t l.base)) l.b l.j
-    × SeenSome l.seen l.suspects l.count (key (source l.layout l.s l.t l.base)) l.j × SeenAll l.seen l.suspects l.count (key (source l.layout l.s l.t l.base)) l.b l.j
+abbrev pub invariant-loop-here : goal.invariant-loop-here
+invariant-loop-here g l = record {
+  list : l.here.list ≡ l.fn.from.list;
+  first : l.fn.from.entry ≤ l.here.entry;
+  within : l.here.entry ≤ l.e;
+  seen : length l.seen ≡ 32;
+  once : Once l.suspects.keys l.suspects.count (key (g.L.Keys.source l.fn.from.list)) l.fn.from.entry l.here.entry;
+  some : SeenSome l.seen l.suspects.keys l.suspects.count (key (g.L.Keys.source l.fn.from.list)) l.here.entry;
+  all : SeenAll l.seen l.suspects.keys l.suspects.count (key (g.L.Keys.source l.fn.from.list)) l.fn.from.entry l.here.entry;
+}
 
-abbrev pub decreases-loop-j : goal.decreases-loop-j
-decreases-loop-j l = l.e - l.j
+abbrev pub decreases-loop-here : goal.decreases-loop-here
+decreases-loop-here g l = l.e - l.here.entry

@@ -1,57 +1,43 @@
-use mathlib.Core.Path.{◌≡◌, sym, ◌∙◌, subst}
-use mathlib.Core.Bool.{true}
+use mathlib.Core.Path.{◌≡◌, refl, sym, ◌∙◌}
 use native.Mathlib.Omega.{arith}
-use Prim.Native.Nat.{ℕ}
-use Rattle.repeats.specs.Source.{Source, source, key}
-use Rattle.repeats.specs.Suspects.{held}
+use Rattle.repeats.specs.Source.{key}
 use Rattle.repeats.proofs.SuspectLaws.{free_none, free_empty, free_more}
-use Rattle.repeats.proofs.SourceLaws.{spot-next, inside_at, key-is}
+use Rattle.repeats.proofs.SourceLaws.{reads_in}
 use Rattle.repeats.proofs.first_held.Goals as goal
 
-pub returns-then-count-eq0 : goal.returns-then-count-eq0
-returns-then-count-eq0 c =
+pub returns-then-suspects-eq0-clause-free : goal.returns-then-suspects-eq0-clause-free
+returns-then-suspects-eq0-clause-free g c =
     let a = c.args in
-    let x : Source = source a.layout a.s.now a.t.now a.base in
-    (c.requires.0, omega arith, free_empty (key x) a.suspects.now a.count a.b a.e c.if-count-eq0.true, λ m. absurd (omega arith))
+    let x = g.L.Keys.source a.from.list in
+    free_empty (key x) a.suspects.now.keys a.suspects.now.count a.from.entry a.e c.if-suspects-eq0.true
 
-pub loop-j-init : goal.loop-j-init
-loop-j-init c =
+pub loop-here-init : goal.loop-here-init
+loop-here-init g c =
     let a = c.args in
-    let x : Source = source a.layout a.s.now a.t.now a.base in
-    (omega arith, c.requires.0, c.requires.1, free_none (key x) a.suspects.now a.count a.b)
+    let x = g.L.Keys.source a.from.list in
+    record { list = refl; first = omega arith; within = omega arith; free = free_none (key x) _ _ a.from.entry }
 
-pub key_at-k-requires : goal.key_at-k-requires
-key_at-k-requires c =
+pub key-k-requires : goal.key-k-requires
+key-k-requires g c =
+    let l = c.loop-here in
+    reads_in g.L.Keys.source _ _ c.args.e _ _ l.invariant.list refl c.requires.inside (omega arith)
+
+pub next-here-requires-clause-reads : goal.next-here-requires-clause-reads
+next-here-requires-clause-reads g c =
+    let l = c.loop-here in
+    reads_in g.L.Keys.source _ _ c.args.e _ _ l.invariant.list refl c.requires.inside (omega arith)
+
+pub loop-here-preserved : goal.loop-here-preserved
+loop-here-preserved g c =
     let a = c.args in
-    let x : Source = source a.layout a.s.now a.t.now a.base in
-    inside_at x a.e _ _ c.requires.2 c.loop-j-test.true c.loop-j.invariant.2
-
-pub returns-then-is_held : goal.returns-then-is_held
-returns-then-is_held c =
-    let a = c.args in
-    let x : Source = source a.layout a.s.now a.t.now a.base in
-    let l = c.loop-j in
-    let e = key-is x l.j _ _ l.invariant.2 c.key_at-k.ensures in
-    let q : held a.suspects.now a.count c.key_at-k.result ≡ true = sym c.is_held.ensures ∙ c.if-is_held.true in
-    (l.invariant.0, l.invariant.1, l.invariant.3, λ m. subst (λ (z : ℕ). held a.suspects.now a.count z ≡ true) e q)
-
-pub next_at-at-requires : goal.next_at-at-requires
-next_at-at-requires c =
-    let a = c.args in
-    let x : Source = source a.layout a.s.now a.t.now a.base in
-    inside_at x a.e _ _ c.requires.2 c.loop-j-test.true c.loop-j.invariant.2
-
-pub loop-j-preserved : goal.loop-j-preserved
-loop-j-preserved c =
-    let a = c.args in
-    let x : Source = source a.layout a.s.now a.t.now a.base in
-    let l = c.loop-j in
-    let e = key-is x l.j _ _ l.invariant.2 c.key_at-k.ensures in (
-      omega arith,
-      omega arith,
-      c.next_at-at.ensures ∙ spot-next x l.j _ l.invariant.2,
-      free_more (key x) a.suspects.now a.count a.b l.j _ e (sym c.is_held.ensures ∙ c.if-is_held.false) l.invariant.3,
-    )
-
-pub returns : goal.returns
-returns c = let l = c.loop-j in (l.invariant.0, l.invariant.1, l.invariant.3, λ m. absurd (omega arith))
+    let x = g.L.Keys.source a.from.list in
+    let s = a.suspects.now in
+    let l = c.loop-here in
+    let t = c.next-here.ensures in
+    let e : c.key-k.result ≡ key x l.here.entry = rw l.invariant.list at c.key-k.ensures in
+    record {
+      list = t.list ∙ l.invariant.list;
+      first = omega arith;
+      within = omega arith;
+      free = rw t.entry (free_more (key x) s.keys s.count a.from.entry l.here.entry _ e (sym c.contains.ensures ∙ c.if-contains.false) l.invariant.free);
+    }

@@ -1,10 +1,17 @@
--- The entries of this layout can be read, and its keys are those of the contract.
-use mathlib.Core.Path.{◌∙◌}
+-- The entries of this list can be read, and its keys are those of the contract.
+use mathlib.Core.Path.{◌≡◌, ap, ◌∙◌}
+use mathlib.Core.List.{List}
+use Prim.Native.Nat.{ℕ}
+use Rattle.repeats.specs.Source.{of_numbers, key}
+use Rattle.repeats.specs.Repeats.{first_repeat_of}
 use Rattle.repeats.proofs.SourceLaws.{list_inside, list_answer}
 use Rattle.repeats.proofs.in_list.Goals as goal
 
-pub first_repeat-requires : goal.first_repeat-requires
-first_repeat-requires c = (list_inside _ _ _ c.requires.0, c.requires.1)
+pub rising-requires : goal.rising-requires
+rising-requires c = list_inside _ _ c.requires.0
+
+pub first_repeat-requires-clause-inside : goal.first_repeat-requires-clause-inside
+first_repeat-requires-clause-inside c = rw c.rising.ensures.list (list_inside _ _ c.requires.0)
 
 pub returns : goal.returns
-returns c = c.first_repeat.ensures ∙ list_answer _ _ _
+returns c = (rw c.rising.ensures.list at c.first_repeat.ensures) ∙ list_answer _ _

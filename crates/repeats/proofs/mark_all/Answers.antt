@@ -1,51 +1,37 @@
-use mathlib.Core.Path.{◌≡◌, ◌∙◌}
+use mathlib.Core.Path.{◌≡◌, refl, ◌∙◌}
+use borrow.Author.Rules.{rules}
 use native.Mathlib.Omega.{arith}
-use lib.ListN.{length-set}
-use Rattle.repeats.specs.Source.{Source, source, key}
+use Rattle.repeats.specs.Source.{key}
 use Rattle.repeats.proofs.MarkLaws.{marked_none, marked_at, marked_to}
-use Rattle.repeats.proofs.SourceLaws.{spot-next, inside_at, key-is}
+use Rattle.repeats.proofs.SourceLaws.{reads_in}
 use Rattle.repeats.proofs.mark_all.Goals as goal
 
-pub loop-j-init : goal.loop-j-init
-loop-j-init c =
+pub loop-here-init : goal.loop-here-init
+loop-here-init g c =
     let a = c.args in
-    let x : Source = source a.layout a.s.now a.t.now a.base in
-    let p = c.requires in
-    (omega arith, p.0, p.1, c.clear.ensures, marked_none (key x) a.f _ a.b)
+    let x = g.L.Keys.source a.from.list in
+    record { list = refl; within = omega arith; marked = marked_none (key x) a.by _ a.from.entry }
 
-pub key_at-k-requires : goal.key_at-k-requires
-key_at-k-requires c =
-    let a = c.args in
-    let x : Source = source a.layout a.s.now a.t.now a.base in
-    let l = c.loop-j in
-    inside_at x a.e l.j _ c.requires.2 c.loop-j-test.true l.invariant.2
+pub key-k-requires : goal.key-k-requires
+key-k-requires g c =
+    let l = c.loop-here in
+    reads_in g.L.Keys.source _ _ c.args.e _ _ l.invariant.list refl c.requires.inside (omega arith)
 
-pub next_at-at-requires : goal.next_at-at-requires
-next_at-at-requires c =
-    let a = c.args in
-    let x : Source = source a.layout a.s.now a.t.now a.base in
-    let l = c.loop-j in
-    inside_at x a.e l.j _ c.requires.2 c.loop-j-test.true l.invariant.2
+pub next-here-requires-clause-reads : goal.next-here-requires-clause-reads
+next-here-requires-clause-reads g c =
+    let l = c.loop-here in
+    reads_in g.L.Keys.source _ _ c.args.e _ _ l.invariant.list refl c.requires.inside (omega arith)
 
-pub loop-j-preserved : goal.loop-j-preserved
-loop-j-preserved c =
+pub loop-here-preserved : goal.loop-here-preserved
+loop-here-preserved g c =
     let a = c.args in
-    let x : Source = source a.layout a.s.now a.t.now a.base in
-    let l = c.loop-j in
-    let read = c.key_at-k in
-    let word = c.word_of-w in
-    let e : read.result ≡ key x l.j = key-is x l.j _ _ l.invariant.2 read.ensures in (
-      omega arith,
-      omega arith,
-      c.next_at-at.ensures ∙ spot-next x l.j _ l.invariant.2,
-      simp length-set l.invariant.3,
-      marked_at (key x) a.f l.marks a.b l.j _ _ _ e word.ensures.0 c.bits_of.ensures l.invariant.3 word.ensures.1
-          l.invariant.4,
-    )
-
-pub returns : goal.returns
-returns c =
-    let a = c.args in
-    let x : Source = source a.layout a.s.now a.t.now a.base in
-    let l = c.loop-j in
-    (l.invariant.3, marked_to (key x) a.f l.marks a.b l.j a.e c.loop-j-test.false l.invariant.4)
+    let x = g.L.Keys.source a.from.list in
+    let l = c.loop-here in
+    let t = c.next-here.ensures in
+    let word = c.word-w.ensures in
+    let e : c.key-k.result ≡ key x l.here.entry = rw l.invariant.list at c.key-k.ensures in
+    record {
+      list = t.list ∙ l.invariant.list;
+      within = omega arith;
+      marked = rw t.entry (marked_at (key x) a.by l.marks a.from.entry l.here.entry _ _ _ e word.0 c.bits.ensures (search rules) word.1 l.invariant.marked);
+    }

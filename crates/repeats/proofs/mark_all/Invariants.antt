@@ -1,14 +1,16 @@
 -- One entry more is marked at each turn, and marks that are set stay set.
 use mathlib.Core.Path.{◌≡◌}
 use Prim.Native.Nat.{◌-◌, ◌≤◌}
-use lib.ListN.{length}
-use Rattle.repeats.specs.Source.{source, spot, key}
+use Rattle.repeats.specs.Source.{key}
 use Rattle.repeats.specs.Marks.{Marked}
 use Rattle.repeats.proofs.mark_all.Given as goal
 
-abbrev pub invariant-loop-j : goal.invariant-loop-j
-invariant-loop-j l =
-    (l.b ≤ l.j) × (l.j ≤ l.e) × (l.at ≡ spot (source l.layout l.s l.t l.base) l.j) × (length l.marks ≡ 896) × Marked l.marks l.f (key (source l.layout l.s l.t l.base)) l.b l.j
+abbrev pub invariant-loop-here : goal.invariant-loop-here
+invariant-loop-here g l = record {
+  list : l.here.list ≡ l.fn.from.list;
+  within : l.here.entry ≤ l.e;
+  marked : Marked l.marks l.by (key (g.L.Keys.source l.fn.from.list)) l.fn.from.entry l.here.entry;
+}
 
-abbrev pub decreases-loop-j : goal.decreases-loop-j
-decreases-loop-j l = l.e - l.j
+abbrev pub decreases-loop-here : goal.decreases-loop-here
+decreases-loop-here g l = l.e - l.here.entry

@@ -1,17 +1,20 @@
 -- An entry that repeats one of the marked ones has all its marks set, so it becomes a suspect. A round that stops has 32 of them, so it has come on.
 use mathlib.Core.Path.{◌≡◌}
-use Prim.Native.Nat.{◌-◌, ◌≤◌}
-use lib.ListN.{length}
-use Rattle.repeats.specs.Source.{source, spot, key}
+use Prim.Native.Nat.{◌+◌, ◌-◌, ◌≤◌}
+use Rattle.repeats.specs.Source.{key}
 use Rattle.repeats.specs.Marks.{Marked}
 use Rattle.repeats.specs.Suspects.{RepeatsHeld}
 use Rattle.repeats.proofs.mark_round.Given as goal
 
-abbrev pub invariant-loop-j : goal.invariant-loop-j
-invariant-loop-j l =
-    (l.start ≤ l.j) × (l.j ≤ l.e) × (l.at ≡ spot (source l.layout l.s l.t l.base) l.j) × (l.count ≤ 32) × (l.count ≤ l.j - l.start) × (length l.marks ≡ 896)
-    × (length l.suspects ≡ 32) × Marked l.marks l.f (key (source l.layout l.s l.t l.base)) l.b l.j
-    × RepeatsHeld l.suspects l.count (key (source l.layout l.s l.t l.base)) l.b l.start l.j
+abbrev pub invariant-loop-here : goal.invariant-loop-here
+invariant-loop-here g l = record {
+  list : l.here.list ≡ l.fn.from.list;
+  within : l.here.entry ≤ l.e;
+  few : l.count ≤ 32;
+  on : l.fn.from.entry + l.count ≤ l.here.entry;
+  marked : Marked l.marks l.by (key (g.L.Keys.source l.fn.from.list)) l.b l.here.entry;
+  held : RepeatsHeld l.suspects.keys l.count (key (g.L.Keys.source l.fn.from.list)) l.b l.fn.from.entry l.here.entry;
+}
 
-abbrev pub decreases-loop-j : goal.decreases-loop-j
-decreases-loop-j l = l.e - l.j
+abbrev pub decreases-loop-here : goal.decreases-loop-here
+decreases-loop-here g l = l.e - l.here.entry

@@ -1,67 +1,56 @@
-use mathlib.Core.Path.{◌≡◌, ◌∙◌}
+use mathlib.Core.Path.{◌≡◌, refl, ◌∙◌}
 use native.Mathlib.Omega.{arith}
-use Rattle.repeats.specs.Source.{Source, source, key}
+use Rattle.repeats.specs.Source.{key}
 use Rattle.repeats.proofs.SearchLaws.{apart_none, apart_one, apart_rise, below_one, below_rise}
-use Rattle.repeats.proofs.SourceLaws.{spot-start, spot-next, inside_at, key-is}
+use Rattle.repeats.proofs.SourceLaws.{reads_in}
 use Rattle.repeats.proofs.rising.Goals as goal
 
-pub returns-then-n-eq0 : goal.returns-then-n-eq0
-returns-then-n-eq0 c =
-    let a = c.args in
-    let x : Source = source a.layout a.s.now a.t.now a.base in
-    (omega arith, spot-start x, apart_none (key x) 0)
+pub returns-then-n-eq0-clause-apart : goal.returns-then-n-eq0-clause-apart
+returns-then-n-eq0-clause-apart g c =
+    rw c.start-here.ensures.entry (apart_none (key (g.L.Keys.source c.args.list)) 0)
 
-pub key_at-top-requires : goal.key_at-top-requires
-key_at-top-requires c =
-    let a = c.args in
-    let x : Source = source a.layout a.s.now a.t.now a.base in
-    let some = c.if-n-eq0.false in
-    inside_at x a.n 0 _ c.requires (omega arith) (spot-start x)
+pub key-top-requires : goal.key-top-requires
+key-top-requires g c =
+    let s = c.start-here.ensures in
+    reads_in g.L.Keys.source _ _ c.args.n 0 _ s.list s.entry c.requires (omega arith)
 
-pub next_at-at-requires : goal.next_at-at-requires
-next_at-at-requires c =
-    let a = c.args in
-    let x : Source = source a.layout a.s.now a.t.now a.base in
-    let some = c.if-n-eq0.false in
-    inside_at x a.n 0 _ c.requires (omega arith) (spot-start x)
+pub next-here-requires-clause-reads : goal.next-here-requires-clause-reads
+next-here-requires-clause-reads g c =
+    let s = c.start-here.ensures in
+    reads_in g.L.Keys.source _ _ c.args.n 0 _ s.list s.entry c.requires (omega arith)
 
-pub loop-j-init : goal.loop-j-init
-loop-j-init c =
-    let a = c.args in
-    let x : Source = source a.layout a.s.now a.t.now a.base in
-    let some = c.if-n-eq0.false in
-    let e = key-is x 0 _ _ (spot-start x) c.key_at-top.ensures in
-    (omega arith, c.next_at-at.ensures ∙ spot-next x 0 _ (spot-start x), apart_one (key x), below_one (key x) _ e)
+pub loop-here-init : goal.loop-here-init
+loop-here-init g c =
+    let x = g.L.Keys.source c.args.list in
+    let s = c.start-here.ensures in
+    let t = c.next-here.ensures in
+    let e : c.key-top.result ≡ key x 0 = rw (s.list, s.entry) at c.key-top.ensures in
+    record {
+      list = t.list ∙ s.list;
+      within = omega arith;
+      apart = rw (t.entry, s.entry) (apart_one (key x));
+      below = rw (t.entry, s.entry) (below_one (key x) _ e);
+    }
 
-pub key_at-k-requires : goal.key_at-k-requires
-key_at-k-requires c =
-    let a = c.args in
-    let x : Source = source a.layout a.s.now a.t.now a.base in
-    let l = c.loop-j in
-    inside_at x a.n l.j _ c.requires c.loop-j-test.true l.invariant.1
+pub key-k-requires : goal.key-k-requires
+key-k-requires g c =
+    let l = c.loop-here in
+    reads_in g.L.Keys.source _ _ c.args.n _ _ l.invariant.list refl c.requires (omega arith)
 
-pub returns-then-k-top : goal.returns-then-k-top
-returns-then-k-top c = let l = c.loop-j in (l.invariant.0, l.invariant.1, l.invariant.2)
+pub next-here-requires-in-loop-here-clause-reads : goal.next-here-requires-in-loop-here-clause-reads
+next-here-requires-in-loop-here-clause-reads g c =
+    let l = c.loop-here in
+    reads_in g.L.Keys.source _ _ c.args.n _ _ l.invariant.list refl c.requires (omega arith)
 
-pub next_at-at-requires-in-loop-j : goal.next_at-at-requires-in-loop-j
-next_at-at-requires-in-loop-j c =
-    let a = c.args in
-    let x : Source = source a.layout a.s.now a.t.now a.base in
-    let l = c.loop-j in
-    inside_at x a.n l.j _ c.requires c.loop-j-test.true l.invariant.1
-
-pub loop-j-preserved : goal.loop-j-preserved
-loop-j-preserved c =
-    let a = c.args in
-    let x : Source = source a.layout a.s.now a.t.now a.base in
-    let l = c.loop-j in
-    let above = c.if-k-top.false in
-    let e : c.key_at-k.result ≡ key x l.j = key-is x l.j _ _ l.invariant.1 c.key_at-k.ensures in (
-      omega arith,
-      c.next_at-at-in-loop-j.ensures ∙ spot-next x l.j _ l.invariant.1,
-      apart_rise (key x) l.top _ l.j e above l.invariant.3 l.invariant.2,
-      below_rise (key x) l.top _ l.j e above l.invariant.3,
-    )
-
-pub returns : goal.returns
-returns c = let l = c.loop-j in (l.invariant.0, l.invariant.1, l.invariant.2)
+pub loop-here-preserved : goal.loop-here-preserved
+loop-here-preserved g c =
+    let x = g.L.Keys.source c.args.list in
+    let l = c.loop-here in
+    let t = c.next-here-in-loop-here.ensures in
+    let e : c.key-k.result ≡ key x l.here.entry = rw l.invariant.list at c.key-k.ensures in
+    record {
+      list = t.list ∙ l.invariant.list;
+      within = omega arith;
+      apart = rw t.entry (apart_rise (key x) l.top _ l.here.entry e c.if-k-top.false l.invariant.below l.invariant.apart);
+      below = rw t.entry (below_rise (key x) l.top _ l.here.entry e c.if-k-top.false l.invariant.below);
+    }

@@ -3,7 +3,7 @@ use mathlib.Core.Path.{ap}
 use native.Mathlib.Omega.{arith}
 use Prim.Native.Nat.{ℕ, ◌/◌, ◌%◌}
 use Rattle.repeats.specs.Marks.{word_of}
-use Rattle.repeats.proofs.word_of.Goals as goal
+use Rattle.repeats.proofs.marks.Scatter.word.Goals as goal
 
 pub returns : goal.returns
 unfolding word_of

@@ -1,6 +1,6 @@
 -- By the definition.
 use Rattle.repeats.specs.Marks.{bits_of}
-use Rattle.repeats.proofs.bits_of.Goals as goal
+use Rattle.repeats.proofs.marks.Scatter.bits.Goals as goal
 
 pub returns : goal.returns
 unfolding bits_of
