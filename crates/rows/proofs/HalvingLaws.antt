@@ -11,6 +11,7 @@ use borrow.Author.Tests.{lt-ltb, le-ltb, ltb-true, ltb-false}
 use Rattle.blorb.specs.Format.{Entry}
 use Rattle.rows.specs.Order.{before, is_pair, Rising}
 use Rattle.rows.specs.Halving.{row_of, middle, onward, while_rows, halve_go, halving, two_to, no_row}
+use Rattle.std.specs.Prelude.{Ok, Err}
 use Rattle.rows.specs.declared.Spot.{Spot}
 use Rattle.rows.proofs.OrderLaws.{Less, less-before, before_not, before_trans, pair_false, rising-at}
 
@@ -19,13 +20,13 @@ abbrev pub Gives : List Entry → ℕ → ℕ → Spot → ℕ → ℕ → ℕ �
 Gives rows u n w k lo hi = (f : ℕ) × (hi ≤ lo + f) × (halve_go f rows u n k lo hi ≡ w)
 
 module _ (rows : List Entry) (u n : ℕ) (w : Spot) (k lo hi : ℕ) where
-  pub gives_end : hi ≤ lo → Gives rows u n w k lo hi → record { found = false; row = lo; probes = k } ≡ w
+  pub gives_end : hi ≤ lo → Gives rows u n w k lo hi → record { row = Err lo; probes = k } ≡ w
   gives_end h (zero, b, e) = e
   gives_end h (suc f, b, e) = rw (le-ltb lo hi h) at e
 
   module _ (h : lo < hi) where
     pub gives_same : is_pair u n (row_of rows (middle lo hi)) ≡ true → Gives rows u n w k lo hi
-        → record { found = true; row = middle lo hi; probes = k + 1 } ≡ w
+        → record { row = Ok (middle lo hi); probes = k + 1 } ≡ w
     gives_same o (zero, b, e) = absurd (omega arith)
     gives_same o (suc f, b, e) = rw (lt-ltb lo hi h, o) at e
 
@@ -42,9 +43,9 @@ module _ (rows : List Entry) (u n : ℕ) (w : Spot) (k lo hi : ℕ) where
 
 -- what each of the four ways of a look keeps, the search keeps
 module _ (rows : List Entry) (u n : ℕ) (I : ℕ → ℕ → ℕ → Type 0) (P : Spot → Type 0)
-    (stops : (k lo hi : ℕ) → I k lo hi → hi ≤ lo → P (record { found = false; row = lo; probes = k }))
+    (stops : (k lo hi : ℕ) → I k lo hi → hi ≤ lo → P (record { row = Err lo; probes = k }))
     (hits : (k lo hi : ℕ) → I k lo hi → lo < hi → is_pair u n (row_of rows (middle lo hi)) ≡ true → P
-    (record { found = true; row = middle lo hi; probes = k + 1 }))
+    (record { row = Ok (middle lo hi); probes = k + 1 }))
     (up : (k lo hi : ℕ) → I k lo hi → lo < hi → is_pair u n (row_of rows (middle lo hi)) ≡ false
     → before (row_of rows (middle lo hi)).usage (row_of rows (middle lo hi)).number u n ≡ true → I (k + 1) (middle lo hi + 1) hi)
     (down : (k lo hi : ℕ) → I k lo hi → lo < hi → is_pair u n (row_of rows (middle lo hi)) ≡ false
@@ -60,7 +61,7 @@ module _ (rows : List Entry) (u n : ℕ) (I : ℕ → ℕ → ℕ → Type 0) (P
   ranged : (f : ℕ) (ih : (k lo hi : ℕ) → hi ≤ lo + f → I k lo hi → P (halve_go f rows u n k lo hi)) (k lo hi : ℕ) → hi ≤ lo + suc f → I k lo hi → (r : Bool)
       → ltb lo hi ≡ r
       → P (while_rows r (onward (is_pair u n (row_of rows (middle lo hi))) (before (row_of rows (middle lo hi)).usage (row_of rows (middle lo hi)).number u n)
-      k lo (middle lo hi) hi (λ l h. halve_go f rows u n (k + 1) l h)) (record { found = false; row = lo; probes = k }))
+      k lo (middle lo hi) hi (λ l h. halve_go f rows u n (k + 1) l h)) (record { row = Err lo; probes = k }))
   ranged f ih k lo hi b i true e = look f ih k lo hi b i (ltb-true lo hi e) _ _ refl refl
   ranged f ih k lo hi b i false e = stops k lo hi i (ltb-false lo hi e)
 
@@ -101,15 +102,14 @@ probes_few rows u n m l =
 
 -- in any rows: a row that is found is a row, and has the pair
 pub record Hit (rows : List Entry) (u n : ℕ) (s : Spot) : Type 0 where
-  pub within : s.row ≤ length rows
-  pub there : s.found ≡ true → s.row < length rows
-  pub pair : s.found ≡ true → is_pair u n (row_of rows s.row) ≡ true
+  pub there : (i : ℕ) → s.row ≡ Ok i → i < length rows
+  pub pair : (i : ℕ) → s.row ≡ Ok i → is_pair u n (row_of rows i) ≡ true
 
 pub hit : (rows : List Entry) (u n : ℕ) → Hit rows u n (halving rows u n)
 hit rows u n =
     halving_keeps rows u n (λ k lo hi. (lo ≤ hi) × (hi ≤ length rows)) (Hit rows u n)
-    (λ k lo hi i h. record { within = omega arith; there = λ e. absurd (let z : ◌≡◌ {A = ℕ} 0 1 = cc in omega arith); pair = λ e. cc })
-    (λ k lo hi i h e. record { within = omega arith; there = λ _. omega arith; pair = λ _. e })
+    (λ k lo hi i h. record { there = λ x e. cc; pair = λ x e. cc })
+    (λ k lo hi i h e. record { there = λ x q. let p : middle lo hi ≡ x = cc in omega arith; pair = λ x q. let p : middle lo hi ≡ x = cc in rw p at e })
     (λ k lo hi i h e p. omega arith) (λ k lo hi i h e p. omega arith)
     (omega arith)
 
@@ -121,8 +121,8 @@ abbrev Behind : List Entry → ℕ → ℕ → ℕ → Type 0
 Behind rows u n x = (i : ℕ) → x ≤ i → i < length rows → before u n (row_of rows i).usage (row_of rows i).number ≡ true
 
 pub record Missed (rows : List Entry) (u n : ℕ) (s : Spot) : Type 0 where
-  pub front : s.found ≡ false → Before rows u n s.row
-  pub back : s.found ≡ false → Behind rows u n s.row
+  pub front : (x : ℕ) → s.row ≡ Err x → Before rows u n x
+  pub back : (x : ℕ) → s.row ≡ Err x → Behind rows u n x
 
 module _ (rows : List Entry) (u n : ℕ) (r : Rising rows) where
   front_more : (mid : ℕ) → mid < length rows → before (row_of rows mid).usage (row_of rows mid).number u n ≡ true → Before rows u n (mid + 1)
@@ -151,13 +151,10 @@ module _ (rows : List Entry) (u n : ℕ) (r : Rising rows) where
   pub missed : Missed rows u n (halving rows u n)
   missed =
       halving_keeps rows u n (λ k lo hi. (lo ≤ hi) × (hi ≤ length rows) × Before rows u n lo × Behind rows u n hi) (Missed rows u n)
-      (λ k lo hi i h. let q : hi ≡ lo = omega arith in record { front = λ _. i.2; back = λ _. rw q at i.3 })
-      (λ k lo hi i h e. record {
-        front = λ z. absurd (let y : ◌≡◌ {A = ℕ} 0 1 = cc in
-            omega arith);
-        back = λ z. absurd (let y : ◌≡◌ {A = ℕ} 0 1 = cc in
-            omega arith);
-      })
+      (λ k lo hi i h.
+      let q : hi ≡ lo = omega arith in
+      record { front = λ x e. let p : lo ≡ x = cc in rw p at i.2; back = λ x e. let p : lo ≡ x = cc in rw (q, p) at i.3 })
+      (λ k lo hi i h e. record { front = λ x q. cc; back = λ x q. cc })
       (λ k lo hi i h e p. (omega arith, i.1, front_more (middle lo hi) (omega arith) p, i.3))
       (λ k lo hi i h e p. (omega arith, omega arith, i.2, back_more (middle lo hi) (omega arith) e p))
       (omega arith, omega arith, λ i l h. absurd (omega arith), λ i l h. absurd (omega arith))

@@ -8,9 +8,9 @@ use native.Mathlib.Nat.{not-suc-le-zero, le_of_suc-le-suc}
 use lib.ListN.{length, get_or}
 use Rattle.blorb.specs.Format.{Entry}
 use Rattle.rows.specs.Rows.{listed, row_in, rows_by}
-use Rattle.rows.specs.Bridging.{Fits}
 use Rattle.rows.specs.Order.{before, is_pair, Below, Rising}
 use Rattle.rows.specs.Halving.{row_of, middle, halving, no_row}
+use Rattle.std.specs.Prelude.{Ok}
 use Rattle.rows.specs.declared.Spot.{Spot}
 use Rattle.rows.proofs.OrderLaws.{key-before, key-same, key_differ, key_not, pair_is, pair_not}
 use Rattle.rows.proofs.HalvingLaws.{Gives, gives_same, gives_after, gives_before, hit}
@@ -42,7 +42,7 @@ module _ (t : List ℕ) (rows step gap u n : ℕ) (w : Spot) (k lo hi : ℕ) (l 
 
   pub turn-same : get_or t (middle lo hi * step) 0 * 4294967296 + get_or t (middle lo hi * step + gap) 0 ≡ u * 4294967296 + n → Gives (rows_by t rows step gap)
       u n w k lo hi
-      → record { found = true; row = middle lo hi; probes = k + 1 } ≡ w
+      → record { row = Ok (middle lo hi); probes = k + 1 } ≡ w
   turn-same e g =
       let s = key-same (get_or t (middle lo hi * step) 0) (get_or t (middle lo hi * step + gap) 0) u n hb hn e in
       gives_same (rows_by t rows step gap) u n w k lo hi l (rw row_is (pair_is u n (row_in t step gap (middle lo hi)) s.0 s.1)) g
@@ -68,11 +68,8 @@ module _ (t : List ℕ) (rows step gap u n : ℕ) (w : Spot) (k lo hi : ℕ) (l 
 
 -- where the row that was found is
 module _ (t : List ℕ) (rows step gap u n : ℕ) where
-  pub spot_in : (halving (rows_by t rows step gap) u n).found ≡ true → (halving (rows_by t rows step gap) u n).row < rows
-  spot_in e = rw (length-listed (row_in t step gap) rows) at ((hit (rows_by t rows step gap) u n).there e)
-
-  pub spot-fits : Fits (length t) rows step gap → (s : Spot) → s ≡ halving (rows_by t rows step gap) u n → s.found ≡ true → s.row * step + 2 * gap < length t
-  spot-fits fit s e f = fit.1 s.row (rw e (spot_in (rw e at f)))
+  pub spot_in : (i : ℕ) → (halving (rows_by t rows step gap) u n).row ≡ Ok i → i < rows
+  spot_in i e = rw (length-listed (row_in t step gap) rows) at ((hit (rows_by t rows step gap) u n).there i e)
 
 pub listed_ext : {A : Type 0} (g h : ℕ → A) (n : ℕ) → ((i : ℕ) → i < n → g i ≡ h i) → listed g n ≡ listed h n
 unfolding listed

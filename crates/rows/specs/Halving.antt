@@ -1,5 +1,5 @@
 -- The search by halving (02, P2), over the rows of a table.
-use Rattle.std.specs.Prelude.{ℕ, zero, suc, ◌+◌, ◌/◌, List, Bool, true, false, length, get_or, ltb}
+use Rattle.std.specs.Prelude.{ℕ, zero, suc, ◌+◌, ◌/◌, List, Bool, true, false, Ok, Err, length, get_or, ltb}
 use Rattle.blorb.specs.Format.{Entry}
 use Rattle.rows.specs.Order.{before, is_pair}
 use Rattle.rows.specs.declared.Spot.{Spot}
@@ -17,7 +17,7 @@ middle low high = (low + high) / 2
 
 -- a look at row mid: the search ends there "if it is the pair sought, else goes on before or after it"; k rows were looked at before
 abbrev pub onward : Bool → Bool → ℕ → ℕ → ℕ → ℕ → (ℕ → ℕ → Spot) → Spot
-onward true b k low mid high rest = record { found = true; row = mid; probes = k + 1 }
+onward true b k low mid high rest = record { row = Ok mid; probes = k + 1 }
 onward false true k low mid high rest = rest (mid + 1) high
 onward false false k low mid high rest = rest low mid
 
@@ -27,12 +27,12 @@ while_rows false a b = b
 
 -- the search among the rows from low up to high, until "no row is left"; f bounds how many are still to be looked at
 abbrev pub halve_go : ℕ → List Entry → ℕ → ℕ → ℕ → ℕ → ℕ → Spot
-halve_go zero rows u n k low high = record { found = false; row = low; probes = k }
+halve_go zero rows u n k low high = record { row = Err low; probes = k }
 halve_go (suc f) rows u n k low high =
     while_rows (ltb low high)
     (onward (is_pair u n (row_of rows (middle low high))) (before (row_of rows (middle low high)).usage (row_of rows (middle low high)).number u n)
     k low (middle low high) high (λ l h. halve_go f rows u n (k + 1) l h))
-    (record { found = false; row = low; probes = k })
+    (record { row = Err low; probes = k })
 
 -- "with low the first row and high one past the last whole one"
 unfoldable pub halving : List Entry → ℕ → ℕ → Spot
