@@ -1,19 +1,12 @@
-// The rows of a 'Reso' chunk (02, P4): refusal 33, and the row of a picture. d is the chunk's data.
+// The rows of a 'Reso' chunk (02, P4): refusal 33, and the row of a picture.
 #![tactic(auto)]
 
-ghost use Rattle.std.specs.Prelude.{◌≡◌, ◌+◌, ◌*◌, ◌≤◌, length};
-ghost use Rattle.reso.specs.Reso.{fraction_at_of, row_at, rows_from, fits, limit_good_of, ordered, row_good_of, rows_good_of, distinct, pictures};
-ghost use Rattle.reso.specs.Reso.{window_good_of, count_of, reso_good};
+ghost use Rattle.std.specs.Prelude.{◌≡◌, ◌+◌, ◌*◌, ◌-◌, ◌≤◌, true, length, MatchOption};
+ghost use Rattle.reso.specs.Reso.{fraction_at_of, row_at, fits, limit_good_of, ordered, row_good_of, rows_good_of, distinct, pictures, rows_of};
+ghost use Rattle.reso.specs.Reso.{shaped, window_good_of, count_of, reso_good};
 ghost use Rattle.reso.specs.Places.{row_place};
 
-use ratio::Fraction;
-use repeats::First;
-
-#[derive(Clone, Copy)]
-pub enum Hit {
-    At(usize),
-    Nothing,
-}
+use ratio::{Fraction, Ratios};
 
 fn fits_small(a: Fraction) -> bool
     ensures { result ≡ fits a }
@@ -24,13 +17,13 @@ fn fits_small(a: Fraction) -> bool
 fn limit_good(a: Fraction) -> bool
     ensures { result ≡ limit_good_of a }
 {
-    (a.num == 0) | (a.den != 0)
+    a.is_none() | (a.den != 0)
 }
 
 fn in_order(least: Fraction, greatest: Fraction) -> bool
     ensures { result ≡ ordered least greatest }
 {
-    (least.num == 0) | ((greatest.num == 0) | ratio::at_most(least, greatest))
+    least.is_none() | (greatest.is_none() | least.at_most(greatest))
 }
 
 pub fn fraction_at(d: &[u8], at: usize) -> Fraction
@@ -43,84 +36,93 @@ pub fn fraction_at(d: &[u8], at: usize) -> Fraction
     }
 }
 
-// What refusal 33 asks of a row by itself.
-fn row_good(d: &[u8], at: usize) -> bool
+// The ratios in the row at `at`.
+pub fn ratios_at(d: &[u8], at: usize) -> Ratios
     requires { at + 28 ≤ length d.now }
-    ensures { result ≡ row_good_of (row_at d.now at) }
+    ensures standard { result.standard ≡ fraction_at_of d.now (at + 4) }
+    ensures least { result.least ≡ fraction_at_of d.now (at + 12) }
+    ensures greatest { result.greatest ≡ fraction_at_of d.now (at + 20) }
 {
-    let standard = fraction_at(d, at + 4);
-    let least = fraction_at(d, at + 12);
-    let greatest = fraction_at(d, at + 20);
-    fits_small(standard)
-        & (fits_small(least)
-            & (fits_small(greatest)
-                & ((standard.den != 0)
-                    & (limit_good(least) & (limit_good(greatest) & in_order(least, greatest))))))
+    Ratios {
+        standard: fraction_at(d, at + 4),
+        least: fraction_at(d, at + 12),
+        greatest: fraction_at(d, at + 20),
+    }
 }
 
-// What refusal 33 asks of all rows, each by itself: one pass.
-fn rows_good(d: &[u8], count: usize) -> bool
-    requires { 24 + 28 * count ≤ length d.now }
-    ensures { result ≡ rows_good_of (rows_from d.now count 24) }
+// What refusal 33 asks of a row by itself.
+fn row_good(row: &[u8]) -> bool
+    requires { 28 ≤ length row.now }
+    ensures { result ≡ row_good_of (row_at row.now 0) }
 {
-    let mut i: usize = 0;
-    while i < count {
-        if !row_good(d, 24 + 28 * i) {
-            return false;
+    let r = ratios_at(row, 0);
+    fits_small(r.standard)
+        & (fits_small(r.least)
+            & (fits_small(r.greatest)
+                & ((r.standard.den != 0)
+                    & (limit_good(r.least) & (limit_good(r.greatest) & in_order(r.least, r.greatest))))))
+}
+
+// The data of a 'Reso' chunk: six numbers of four bytes, and rows of 28 bytes each.
+#[derive(Clone, Copy)]
+pub struct Reso<'a> {
+    pub bytes: &'a [u8],
+    ghost shape: { shaped (length bytes.now) ≡ true },
+}
+
+impl<'a> Reso<'a> {
+    // None where the length is not that of whole rows: refusal 32.
+    pub fn of(bytes: &'a [u8]) -> Option<Reso<'a>>
+        ensures { MatchOption result (shaped (length bytes.now) ≡ false) (λ r. r.bytes ≡ bytes) }
+    {
+        if (bytes.len() < 24) || ((bytes.len() - 24) % 28 != 0) {
+            return None;
         }
-        i += 1;
+        Some(Reso { bytes })
     }
-    true
-}
 
-// Whether no picture number is repeated.
-fn all_distinct(d: &[u8], count: usize) -> bool
-    requires { 24 + 28 * count ≤ length d.now }
-    ensures { result ≡ distinct (pictures (rows_from d.now count 24)) }
-{
-    match repeats::in_rows(d, 28, 24, count) {
-        First::Nothing => true,
-        First::At(_) => false,
+    fn count(self) -> usize
+        ensures { result ≡ count_of (length self.bytes.now) }
+    {
+        (self.bytes.len() - 24) / 28
     }
-}
 
-// Refusal 33 of the six numbers before the rows.
-fn window_good(d: &[u8]) -> bool
-    requires { 24 ≤ length d.now }
-    ensures { result ≡ window_good_of d.now }
-{
-    let standard = fraction_at(d, 0);
-    fits_small(standard)
-        & (fits_small(fraction_at(d, 8))
-            & (fits_small(fraction_at(d, 16)) & ((standard.num != 0) & (standard.den != 0))))
-}
+    // What refusal 33 asks of all rows, each by itself: one pass.
+    fn rows_good(self) -> bool
+        ensures { result ≡ rows_good_of (rows_of self.bytes.now) }
+    {
+        self.bytes[24..].chunks_exact(28).all(|row| row_good(row))
+    }
 
-// Refusal 33 of the whole chunk, which has `count` rows.
-pub fn is_good(d: &[u8], count: usize) -> bool
-    requires { (24 + 28 * count ≤ length d.now) × (count ≡ count_of (length d.now)) }
-    ensures { result ≡ reso_good d.now }
-{
-    if !window_good(d) {
-        return false;
+    // Whether no picture number is repeated.
+    fn all_distinct(self) -> bool
+        ensures { result ≡ distinct (pictures (rows_of self.bytes.now)) }
+    {
+        repeats::in_rows(self.bytes, 28, 24, self.count()).is_none()
     }
-    if !rows_good(d, count) {
-        return false;
-    }
-    all_distinct(d, count)
-}
 
-// The row of a picture.
-pub fn find_row(d: &[u8], count: usize, picture: u32) -> Hit
-    requires { 24 + 28 * count ≤ length d.now }
-    ensures { result ≡ row_place picture d.now count 24 }
-{
-    let mut i: usize = 0;
-    while i < count {
-        let at = 24 + 28 * i;
-        if blorb::be32_at(d, at) == picture as u64 {
-            return Hit::At(at);
-        }
-        i += 1;
+    // Refusal 33 of the six numbers before the rows.
+    fn window_good(self) -> bool
+        ensures { result ≡ window_good_of self.bytes.now }
+    {
+        let standard = fraction_at(self.bytes, 0);
+        fits_small(standard)
+            & (fits_small(fraction_at(self.bytes, 8))
+                & (fits_small(fraction_at(self.bytes, 16)) & ((standard.num != 0) & (standard.den != 0))))
     }
-    Hit::Nothing
+
+    // Refusal 33 of the whole chunk.
+    pub fn is_good(self) -> bool
+        ensures { result ≡ reso_good self.bytes.now }
+    {
+        self.window_good() && self.rows_good() && self.all_distinct()
+    }
+
+    // Where the row of a picture begins.
+    pub fn find_row(self, picture: u32) -> Option<usize>
+        ensures { result ≡ row_place picture self.bytes.now (count_of (length self.bytes.now)) 24 }
+    {
+        let i = self.bytes[24..].chunks_exact(28).position(|row| blorb::be32_at(row, 0) == picture as u64)?;
+        Some(24 + 28 * i)
+    }
 }
