@@ -63,7 +63,11 @@ impl Fraction {
     fn limited(self, limit: Fraction, keeps: bool) -> Fraction
         ensures { result ≡ cond (is_none limit) self (cond keeps self limit) }
     {
-        if limit.is_none() | keeps { self } else { limit }
+        if limit.is_none() || keeps {
+            self
+        } else {
+            limit
+        }
     }
 
     // A side at this ratio, rounded down.

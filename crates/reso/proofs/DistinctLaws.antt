@@ -10,7 +10,8 @@ use borrow.Author.Tests.{eq-eqb, ne_eqb}
 use lib.Dec.{eqb}
 use Rattle.blorb.specs.Rules.{one_of}
 use Rattle.blorb.proofs.Checks.{and_both}
-use Rattle.repeats.specs.declared.First.TheVariants.{At, Nothing}
+use Rattle.std.specs.Prelude.{Option, Some, None}
+use Rattle.std.specs.Option.{is_some}
 use Rattle.repeats.specs.Repeats.{first_repeat_of, Apart}
 use Rattle.repeats.specs.Keys.{row_key_of}
 use Rattle.repeats.proofs.Answers.{first-none, answer_nothing}
@@ -58,8 +59,8 @@ module _ (k : ℕ → ℕ) where
       (eq-or-lt_of_le l)
     where
       never : (c : Bool) → c ≡ true → not c ≡ true → ⊥
-      never true p r = let z : ◌≡◌ {A = ℕ} 0 1 = cc in omega arith
-      never false p r = let z : ◌≡◌ {A = ℕ} 0 1 = cc in omega arith
+      never true p r = cc
+      never false p r = cc
 
 -- the same as the search says it
 apart : (k : ℕ → ℕ) (n : ℕ) → distinct (keys_from k n 0) ≡ true → Apart k 0 n
@@ -79,16 +80,23 @@ module _ (d : List ℕ) (k : ℕ → ℕ) (e : (i : ℕ) → k i ≡ word_at d (
     from_start : distinct (pictures (rows_from d n 24)) ≡ distinct (keys_from k n 0)
     from_start = ap distinct (pictures_keys n 0)
 
-    pub distinct_yes : first_repeat_of k n ≡ Nothing → true ≡ distinct (pictures (rows_from d n 24))
+    distinct_yes : first_repeat_of k n ≡ None → true ≡ distinct (pictures (rows_from d n 24))
     unfolding Apart
     distinct_yes h = sym (from_start ∙ apart_distinct k n 0 (λ i j l m q. answer_nothing k n h i j l m (omega arith)))
 
-    pub distinct_no : (j : ℕ) → first_repeat_of k n ≡ At j → false ≡ distinct (pictures (rows_from d n 24))
+    distinct_no : (j : ℕ) → first_repeat_of k n ≡ Some j → false ≡ distinct (pictures (rows_from d n 24))
     distinct_no j h = sym (from_start ∙ by (distinct (keys_from k n 0)) refl)
       where
         by : (b : Bool) → distinct (keys_from k n 0) ≡ b → b ≡ false
-        by true x = let a = first-none k n n (omega arith) (omega arith) (apart k n x) in let z : ◌≡◌ {A = ℕ} 0 1 = cc in absurd (omega arith)
+        by true x = let a = first-none k n n (omega arith) (omega arith) (apart k n x) in cc
         by false x = refl
+
+    -- so the search finds none exactly where they are all different
+    pub distinct_by : (o : Option ℕ) (b : Bool) → is_some o ≡ not b → o ≡ first_repeat_of k n → b ≡ distinct (pictures (rows_from d n 24))
+    distinct_by None true h q = distinct_yes (sym q)
+    distinct_by (Some j) false h q = distinct_no j (sym q)
+    distinct_by None false h q = cc
+    distinct_by (Some j) true h q = cc
 
 -- the key of row i is its picture number
 pub row-key : (d : List ℕ) (i : ℕ) → row_key_of d 28 24 i ≡ word_at d (24 + 28 * i)

@@ -1,24 +1,22 @@
 -- What a good 'Reso' tells of its numbers: denominators that are not zero, limits in order, 16 bits.
-use mathlib.Core.Path.{◌≡◌, sym}
+use mathlib.Core.Path.{◌≡◌}
 use Prim.Native.Nat.{ℕ, zero, suc, ◌≤◌, ◌<◌}
 use mathlib.Core.List.{List, [], ◌∷◌}
-use mathlib.Core.Bool.{Bool, true, false, ◌||◌, not}
-use mathlib.Mathlib.Data.Bool.Basic.{eq-true_of_not-eq-false', eq-false_of_not-eq-true'}
+use mathlib.Core.Bool.{Bool, true, false, cond, not}
 use native.Mathlib.Omega.{arith}
-use lib.ListN.{length}
 use lib.Dec.{eqb, leb}
 use borrow.Author.Tests.{ne_eqb, leb-true}
 use Rattle.blorb.proofs.Checks.{and_both}
 use Rattle.ratio.specs.declared.Fraction.{Fraction}
-use Rattle.ratio.specs.Ratio.{at_most}
 use Rattle.ratio.specs.Small.{Small}
 use Rattle.ratio.proofs.OrderLaws.{Whole, Limit, Under}
-use Rattle.reso.specs.Reso.{word_at, fraction_at_of, Row, rows_from, rows_of, count_of, fits, limit_good_of, ordered, row_good_of, rows_good_of}
+use Rattle.reso.specs.Reso.{word_at, fraction_at_of, Row, rows_of, fits, limit_good_of, ordered, row_good_of, rows_good_of}
 use Rattle.reso.specs.Reso.{distinct, pictures, window_good_of, reso_good}
-use Rattle.reso.specs.Reso.{Listed, listed, pick_listed, row_of}
+use Rattle.reso.specs.Reso.{row_of}
+use Rattle.std.specs.Prelude.{Option, Some}
 
 not_zero : (n : ℕ) → not (eqb n 0) ≡ true → 0 < n
-not_zero zero e = let z : ◌≡◌ {A = ℕ} 0 1 = cc in absurd (omega arith)
+not_zero zero e = cc
 not_zero (suc n) e = omega arith
 
 fit_small : (a : Fraction) → fits a ≡ true → Small a
@@ -31,10 +29,6 @@ limit_whole a e n = not_zero a.den (rw (ne_eqb a.num 0 n) at e)
 
 ordered_under : (l g : Fraction) → ordered l g ≡ true → (l.num ≡ 0 → ⊥) → (g.num ≡ 0 → ⊥) → Under l g
 ordered_under l g e nl ng = leb-true _ _ (rw (ne_eqb l.num 0 nl, ne_eqb g.num 0 ng) at e)
-
--- the comparison of both limits, where both are
-pub ordered_by : (l g : Fraction) (b : Bool) → b ≡ at_most l g → eqb l.num 0 || (eqb g.num 0 || b) ≡ ordered l g
-ordered_by l g b e = rw e
 
 pub record RowKeeps (r : Row) : Type 0 where
   pub small : Small r.standard
@@ -77,39 +71,21 @@ window_keeps d e =
     record { wide = s.top; high = s.bottom; some_wide = not_zero _ k.0; some_high = not_zero _ k.1 }
 
 -- the row of a picture is a good one
-row-good : (p : ℕ) (rs : List Row) (r : Row) → rows_good_of rs ≡ true → row_of p rs ≡ listed r → row_good_of r ≡ true
+row-good : (p : ℕ) (rs : List Row) (r : Row) → rows_good_of rs ≡ true → row_of p rs ≡ Some r → row_good_of r ≡ true
 unfolding rows_good_of row_of
-row-good p [] r g e = let z : ◌≡◌ {A = ℕ} 0 1 = cc in absurd (omega arith)
+row-good p [] r g e = cc
 row-good p (x ∷ xs) r g e =
     let q = and_both (row_good_of x) (rows_good_of xs) g in
     by (eqb x.picture p) (row_of p xs) q.0 (λ k. row-good p xs r q.1 k) e
   where
-    by : (b : Bool) (l : Listed) → row_good_of x ≡ true → (l ≡ listed r → row_good_of r ≡ true) → pick_listed b x l ≡ listed r → row_good_of r ≡ true
+    by : (b : Bool) (l : Option Row) → row_good_of x ≡ true → (l ≡ Some r → row_good_of r ≡ true) → cond b (Some x) l ≡ Some r → row_good_of r ≡ true
     by true l h k m = let n : x ≡ r = cc in rw (← n) h
     by false l h k m = k m
 
 -- a good 'Reso', of the row of a picture
-pub good_found : (d : List ℕ) (p : ℕ) (r : Row) → reso_good d ≡ true → row_of p (rows_of d) ≡ listed r → (window_good_of d ≡ true) × (row_good_of r ≡ true)
+pub good_found : (d : List ℕ) (p : ℕ) (r : Row) → reso_good d ≡ true → row_of p (rows_of d) ≡ Some r → (window_good_of d ≡ true) × (row_good_of r ≡ true)
 unfolding reso_good
 good_found d p r e h =
     let q = and_both (window_good_of d) _ e in
     let g = and_both (rows_good_of (rows_of d)) (distinct (pictures (rows_of d))) q.1 in
     (q.0, row-good p (rows_of d) r g.0 h)
-
--- the three parts of 33, one after another
-module _ (d : List ℕ) (w : Bool) (ew : w ≡ window_good_of d) where
-  pub bad_window : not w ≡ true → false ≡ reso_good d
-  unfolding reso_good
-  bad_window n = rw (← ew, eq-false_of_not-eq-true' {a = w} n)
-
-  module _ (y : not w ≡ false) (count : ℕ) (c : count ≡ count_of (length d)) (r : Bool) (er : r ≡ rows_good_of (rows_from d count 24)) where
-    good-rows : rows_good_of (rows_of d) ≡ r
-    good-rows = rw (← c) (sym er)
-
-    pub bad_rows : not r ≡ true → false ≡ reso_good d
-    unfolding reso_good
-    bad_rows n = rw (← ew, eq-true_of_not-eq-false' {a = w} y, good-rows, eq-false_of_not-eq-true' {a = r} n)
-
-    pub good-all : not r ≡ false → (s : Bool) → s ≡ distinct (pictures (rows_from d count 24)) → s ≡ reso_good d
-    unfolding reso_good
-    good-all n s e = rw (← ew, eq-true_of_not-eq-false' {a = w} y, good-rows, eq-true_of_not-eq-false' {a = r} n, ← c) e

@@ -1,103 +1,156 @@
--- The rows of a 'Reso' chunk one by one: what is left from row i on, and the row of a picture.
+-- The rows of a 'Reso' chunk one by one: what an iterator over them gives, and the row of a picture.
 use mathlib.Core.Path.{◌≡◌, refl, sym, ap, ◌∙◌}
-use Prim.Native.Nat.{ℕ, zero, suc, ◌+◌, ◌*◌, ◌-◌, ◌≤◌, ◌<◌}
-use mathlib.Core.List.{List, [], ◌∷◌}
-use mathlib.Core.Bool.{Bool, true, false, not}
-use mathlib.Mathlib.Data.Bool.Basic.{eq-true_of_not-eq-false', eq-false_of_not-eq-true'}
+use Prim.Native.Nat.{ℕ, zero, suc, ◌+◌, ◌*◌, ◌-◌, ◌/◌, ◌≤◌, ◌<◌}
+use mathlib.Core.List.{List, [], ◌∷◌, ◌++◌}
+use mathlib.Core.Bool.{Bool, true, false, cond, not}
 use native.Mathlib.Omega.{arith}
-use lib.Dec.{eqb}
-use borrow.Author.Tests.{eq-eqb, ne_eqb}
-use Rattle.reso.specs.declared.Hit.{Hit}
-use Rattle.reso.specs.declared.Hit.TheVariants.{At, Nothing}
-use Rattle.reso.specs.Reso.{word_at, Row, row_at, rows_from, row_good_of, rows_good_of, Listed, unlisted, listed, pick_listed, row_of}
-use Rattle.reso.specs.Places.{pick_hit, row_place}
+use lib.ListN.{length, take, drop, length-append, length-drop}
+use lib.Seq.{get_or-take, drop-drop, take-length, take-append_seam, drop-append_seam}
+use Rattle.std.specs.declared.slice.ChunksExact.{ChunksExact}
+use Rattle.blorb.specs.Bytes.{rd32}
+use Rattle.blorb.proofs.ByteLaws.{rd32-at}
+use lib.Dec.{eqb, ltb}
+use borrow.Author.Tests.{ltb-true, ltb-false, lt-ltb, le-ltb}
+use denote.Ref.{Bor}
+use Rattle.std.specs.Prelude.{Option, Some, None}
+use Rattle.std.specs.Option.{option_map}
+use Rattle.std.specs.List.{list_all, position, position_or_len}
+use Rattle.std.specs.Iterator.{AlwaysYields}
+use Rattle.std.specs.Slice.Iter.{chunks_exact_rest, chunks_exact_size, chunks_exact_steps}
+use Rattle.std.proofs.lemmas.Iterator.{YieldsList}
+use Rattle.reso.specs.Reso.{word_at, count_of, Row, row_at, rows_from, row_good_of, rows_good_of, row_of}
+use Rattle.reso.specs.Places.{row_place}
 
--- the rows from row i on, of count rows
-abbrev pub rows : List ℕ → ℕ → ℕ → List Row
-rows d count i = rows_from d (count - i) (24 + 28 * i)
+-- the bytes of n rows from at on
+unfoldable pub row_bytes : List ℕ → ℕ → ℕ → List (List ℕ)
+row_bytes d zero at = []
+row_bytes d (suc n) at = take 28 (drop at d) ∷ row_bytes d n (at + 28)
 
-module _ (d : List ℕ) (count i : ℕ) where
-  row_on : i < count → rows d count i ≡ row_at d (24 + 28 * i) ∷ rows d count (i + 1)
-  unfolding rows_from
-  row_on h =
-      let p : count - i ≡ suc (count - (i + 1)) = omega arith in
-      let q : 24 + 28 * i + 28 ≡ 24 + 28 * (i + 1) = omega arith in
-      rw p (ap (λ (k : ℕ). row_at d (24 + 28 * i) ∷ rows_from d (count - (i + 1)) k) q)
+four-take : (s : List ℕ) (k : ℕ) → k + 4 ≤ 28 → word_at (take 28 s) k ≡ word_at s k
+four-take s k h =
+    let a : k < 28 = omega arith in
+    let b : k + 1 < 28 = omega arith in
+    let c : k + 2 < 28 = omega arith in
+    let e : k + 3 < 28 = omega arith in
+    rd32-at (take 28 s) k ∙ rw (get_or-take 28 s k 0 a, get_or-take 28 s (k + 1) 0 b, get_or-take 28 s (k + 2) 0 c, get_or-take 28 s (k + 3) 0 e) (sym (rd32-at s k))
 
-  row_off : count ≤ i → rows d count i ≡ []
-  unfolding rows_from
-  row_off h = let p : count - i ≡ 0 = omega arith in rw p
+-- a row's own bytes say what the chunk says of it
+word_there : (d : List ℕ) (at k : ℕ) → k + 4 ≤ 28 → word_at (take 28 (drop at d)) k ≡ word_at d (at + k)
+word_there d at k h = four-take (drop at d) k h ∙ ap rd32 (drop-drop k at d)
 
-  pub rows_start : i ≡ 0 → rows d count i ≡ rows_from d count 24
-  rows_start e =
-      let a : count - i ≡ count = omega arith in
-      let b : 24 + 28 * i ≡ 24 = omega arith in
-      rw (a, b)
+row_there : (d : List ℕ) (at : ℕ) → row_at (take 28 (drop at d)) 0 ≡ row_at d at
+row_there d at =
+    let z : at + 0 ≡ at = omega arith in
+    let s : at + 4 + 4 ≡ at + 8 = omega arith in
+    let l : at + 12 + 4 ≡ at + 16 = omega arith in
+    let g : at + 20 + 4 ≡ at + 24 = omega arith in
+    rw (
+      word_there d at 0 (omega arith),
+      word_there d at 4 (omega arith),
+      word_there d at 8 (omega arith),
+      word_there d at 12 (omega arith),
+      word_there d at 16 (omega arith),
+      word_there d at 20 (omega arith),
+      word_there d at 24 (omega arith),
+      z,
+      s,
+      l,
+      g,
+    )
+
+-- the iterator gives the rows one by one
+module _ (d : List ℕ) where
+  rows_come : (n at : ℕ) (s : ChunksExact ℕ) → chunks_exact_rest s ≡ drop at d → chunks_exact_size s ≡ 28 → length (drop at d) / 28 ≡ n
+      → AlwaysYields (chunks_exact_steps {A = ℕ}) (λ (y : Bor (List ℕ)). y.now) s (row_bytes d n at)
+  unfolding row_bytes
+  rows_come zero at s r z n =
+      λ x j p.
+      let a = ap length (sym r ∙ p.1.0) in
+      omega (arith, simp length-append at a, p.1.1)
+  rows_come (suc n) at s r z e = (
+    λ j p. omega (arith, p.1.0, ap length r),
+    λ x j p.
+        let l : length x.now ≡ 28 = p.1.1 ∙ z in
+        let q : drop at d ≡ x.now ++ chunks_exact_rest j = sym r ∙ p.1.0 in
+        let f : x.now ≡ take 28 (drop at d) = sym (rw (q, ← l) (take-append_seam x.now (chunks_exact_rest j))) in
+        let g : chunks_exact_rest j ≡ drop (at + 28) d
+        = sym (sym (drop-drop 28 at d) ∙ rw (q, ← l) (drop-append_seam x.now (chunks_exact_rest j))) in
+        let a = ap length q in
+        let b = ap length g in
+        (f, rows_come n (at + 28) j g (p.0 ∙ z) (omega (arith, simp length-append at a, b, l))),
+  )
+
+  pub rows_yielded : (s : ChunksExact ℕ) → chunks_exact_rest s ≡ take (length d - 24) (drop 24 d) → chunks_exact_size s ≡ 28
+      → YieldsList (chunks_exact_steps {A = ℕ}) (λ (y : Bor (List ℕ)). y.now) s (row_bytes d (count_of (length d)) 24)
+  rows_yielded s r z =
+      let l : length (drop 24 d) ≡ length d - 24 = length-drop 24 d in
+      let a : take (length d - 24) (drop 24 d) ≡ drop 24 d = rw (← l) (take-length (drop 24 d)) in
+      record { runs = rows_come (count_of (length d)) 24 s (r ∙ a) z (ap (λ (n : ℕ). n / 28) l) }
 
   -- each by itself
-  pub good_end : count ≤ i → true ≡ rows_good_of (rows d count i)
-  unfolding rows_good_of
-  good_end h = rw (row_off h)
+  pub all_good : (n at : ℕ) → list_all (λ (b : List ℕ). row_good_of (row_at b 0)) (row_bytes d n at) ≡ rows_good_of (rows_from d n at)
+  unfolding row_bytes rows_from rows_good_of
+  all_good zero at = refl
+  all_good (suc n) at = rw (row_there d at, all_good n (at + 28))
 
-  module _ (h : i < count) (b : Bool) (e : b ≡ row_good_of (row_at d (24 + 28 * i))) where
-    pub good_stop : not b ≡ true → false ≡ rows_good_of (rows d count i)
-    unfolding rows_good_of
-    good_stop t = rw (row_on h, ← e, eq-false_of_not-eq-true' {a = b} t)
+  -- the search for a picture
+  module _ (p : ℕ) where
+    abbrev pub Of : List ℕ → Bool
+    Of b = eqb (word_at b 0) p
 
-    pub good-next : not b ≡ false → rows_good_of (rows d count (i + 1)) ≡ rows_good_of (rows d count i)
-    unfolding rows_good_of
-    good-next t = rw (row_on h, ← e, eq-true_of_not-eq-false' {a = b} t)
+    abbrev pub placed : ℕ → Option ℕ → Option ℕ
+    placed at None = None
+    placed at (Some i) = Some (at + 28 * i)
 
--- the search for a picture
-module _ (d : List ℕ) (count p i : ℕ) where
-  pub place_end : count ≤ i → Nothing ≡ row_place p d (count - i) (24 + 28 * i)
-  unfolding row_place
-  place_end h = let e : count - i ≡ 0 = omega arith in rw e
+    -- the place that the first row's test and the place among the others make
+    later : (q l : ℕ) → ltb (1 + q) (suc l) ≡ ltb q l
+    later q l = by (ltb q l) refl
+      where
+        by : (b : Bool) → ltb q l ≡ b → ltb (1 + q) (suc l) ≡ b
+        by true e = lt-ltb _ _ (omega (arith, ltb-true q l e))
+        by false e = le-ltb _ _ (omega (arith, ltb-false q l e))
 
-  module _ (h : i < count) where
-    place_on : row_place p d (count - i) (24 + 28 * i)
-        ≡ pick_hit (eqb (word_at d (24 + 28 * i)) p) (24 + 28 * i) (row_place p d (count - (i + 1)) (24 + 28 * (i + 1)))
-    unfolding row_place
-    place_on =
-        let e : count - i ≡ suc (count - (i + 1)) = omega arith in
-        let q : 24 + 28 * i + 28 ≡ 24 + 28 * (i + 1) = omega arith in
-        rw e (ap (λ (k : ℕ). pick_hit (eqb (word_at d (24 + 28 * i)) p) (24 + 28 * i) (row_place p d (count - (i + 1)) k)) q)
+    here : (at : ℕ) (b : Bool) (q l : ℕ) (t : Option ℕ) → placed (at + 28) (cond (ltb q l) (Some q) None) ≡ t
+        → placed at (cond (ltb (cond (not b) (1 + q) 0) (suc l)) (Some (cond (not b) (1 + q) 0)) None) ≡ cond b (Some at) t
+    here at true q l t e = let z : at + 28 * 0 ≡ at = omega arith in rw (lt-ltb 0 (suc l) (omega arith)) (ap Some z)
+    here at false q l t e = rw (later q l) (by (ltb q l) e)
+      where
+        by : (c : Bool) → placed (at + 28) (cond c (Some q) None) ≡ t → placed at (cond c (Some (1 + q)) None) ≡ t
+        by true k = let m : at + 28 * (1 + q) ≡ at + 28 + 28 * q = omega arith in ap Some m ∙ k
+        by false k = k
 
-    pub place_hit : word_at d (24 + 28 * i) ≡ p → At (24 + 28 * i) ≡ row_place p d (count - i) (24 + 28 * i)
-    place_hit e = sym (place_on ∙ rw (eq-eqb (word_at d (24 + 28 * i)) p e))
+    pub place_found : (n at : ℕ) → placed at (position Of (row_bytes d n at)) ≡ row_place p d n at
+    unfolding row_bytes row_place
+    place_found zero at = refl
+    place_found (suc n) at =
+        let z : at + 0 ≡ at = omega arith in
+        rw (word_there d at 0 (omega arith), z)
+        (here at (eqb (word_at d at) p) (position_or_len Of (row_bytes d n (at + 28))) (length (row_bytes d n (at + 28))) (row_place p d n (at + 28))
+        (place_found n (at + 28)))
 
-    pub place-next : (word_at d (24 + 28 * i) ≡ p → ⊥) → row_place p d (count - (i + 1)) (24 + 28 * (i + 1)) ≡ row_place p d (count - i) (24 + 28 * i)
-    place-next e = sym (place_on ∙ rw (ne_eqb (word_at d (24 + 28 * i)) p e))
+    module _ (n : ℕ) (o : Option ℕ) (e : o ≡ position Of (row_bytes d n 24)) where
+      pub place_none : o ≡ None → None ≡ row_place p d n 24
+      place_none h = ap (placed 24) (sym h ∙ e) ∙ place_found n 24
 
-  pub place-start : i ≡ 0 → row_place p d (count - i) (24 + 28 * i) ≡ row_place p d count 24
-  place-start e =
-      let a : count - i ≡ count = omega arith in
-      let b : 24 + 28 * i ≡ 24 = omega arith in
-      rw (a, b)
+      pub place-at : (i : ℕ) → o ≡ Some i → Some (24 + 28 * i) ≡ row_place p d n 24
+      place-at i h = ap (placed 24) (sym h ∙ e) ∙ place_found n 24
 
 -- what stands where the search ends
-abbrev pub listed_at : List ℕ → Hit → Listed
-listed_at d (At x) = listed (row_at d x)
-listed_at d Nothing = unlisted
-
-pub place-row : (p : ℕ) (d : List ℕ) (n at : ℕ) → listed_at d (row_place p d n at) ≡ row_of p (rows_from d n at)
+pub place-row : (p : ℕ) (d : List ℕ) (n at : ℕ) → option_map (row_at d) (row_place p d n at) ≡ row_of p (rows_from d n at)
 unfolding rows_from row_place row_of
 place-row p d zero at = refl
-place-row p d (suc n) at = by (eqb (word_at d at) p) (row_place p d n (at + 28)) (row_of p (rows_from d n (at + 28))) (place-row p d n (at + 28))
+place-row p d (suc n) at = by (eqb (word_at d at) p) _ _ (place-row p d n (at + 28))
   where
-    by : (b : Bool) (h : Hit) (l : Listed) → listed_at d h ≡ l → listed_at d (pick_hit b at h) ≡ pick_listed b (row_at d at) l
-    by true h l e = refl
-    by false h l e = e
+    by : (b : Bool) (o : Option ℕ) (r : Option Row) → option_map (row_at d) o ≡ r → option_map (row_at d) (cond b (Some at) o) ≡ cond b (Some (row_at d at)) r
+    by true o r e = refl
+    by false o r e = e
 
 -- it lies in the data
-picked : (b : Bool) (at x : ℕ) (h : Hit) (C : Type 0) → pick_hit b at h ≡ At x → (at ≡ x → C) → (h ≡ At x → C) → C
-picked true at x h C e f g = f cc
-picked false at x h C e f g = g e
-
-pub place-room : (p : ℕ) (d : List ℕ) (n at x : ℕ) → row_place p d n at ≡ At x → x + 28 ≤ at + 28 * n
+pub place-room : (p : ℕ) (d : List ℕ) (n at x : ℕ) → row_place p d n at ≡ Some x → x + 28 ≤ at + 28 * n
 unfolding row_place
-place-room p d zero at x e = let z : ◌≡◌ {A = ℕ} 0 1 = cc in absurd (omega arith)
-place-room p d (suc n) at x e =
-    picked (eqb (word_at d at) p) at x (row_place p d n (at + 28)) (x + 28 ≤ at + 28 * suc n) e
-    (λ k. omega arith)
-    (λ k. let r = place-room p d n (at + 28) x k in omega arith)
+place-room p d zero at x e = cc
+place-room p d (suc n) at x e = by (eqb (word_at d at) p) _ (λ k. place-room p d n (at + 28) x k) e
+  where
+    by : (b : Bool) (o : Option ℕ) → (o ≡ Some x → x + 28 ≤ at + 28 + 28 * n) → cond b (Some at) o ≡ Some x → x + 28 ≤ at + 28 * suc n
+    by true o r k = let q : at ≡ x = cc in omega arith
+    by false o r k = omega (arith, r k)

@@ -1,6 +1,6 @@
 -- The 'Reso' chunk's data (02, P4; 001, section 11.2): "24 bytes of standard, least and greatest window, each width then height, then 28 bytes an entry:
 -- picture number and three fractions, standard, least and greatest ratio". d is the data.
-use Rattle.std.specs.Prelude.{ℕ, zero, suc, ◌+◌, ◌-◌, ◌/◌, ◌%◌, List, [], ◌∷◌, map, Bool, true, false, ◌&&◌, ◌||◌, not, length, drop, eqb, leb}
+use Rattle.std.specs.Prelude.{ℕ, zero, suc, ◌+◌, ◌-◌, ◌/◌, ◌%◌, List, [], ◌∷◌, map, Bool, true, ◌&&◌, ◌||◌, not, cond, length, drop, eqb, leb, Option, Some, None}
 use Rattle.blorb.specs.Bytes.{rd32}
 use Rattle.blorb.specs.Rules.{one_of}
 use Rattle.ratio.specs.declared.Fraction.{Fraction}
@@ -79,14 +79,6 @@ unfoldable pub reso_good : List ℕ → Bool
 reso_good d = window_good_of d && (rows_good_of (rows_of d) && distinct (pictures (rows_of d)))
 
 -- the row of a picture, if there is one
-pub data Listed : Type 0 where
-  unlisted : Listed
-  listed : Row → Listed
-
-abbrev pub pick_listed : Bool → Row → Listed → Listed
-pick_listed true r l = listed r
-pick_listed false r l = l
-
-unfoldable pub row_of : ℕ → List Row → Listed
-row_of p [] = unlisted
-row_of p (r ∷ rs) = pick_listed (eqb r.picture p) r (row_of p rs)
+unfoldable pub row_of : ℕ → List Row → Option Row
+row_of p [] = None
+row_of p (r ∷ rs) = cond (eqb r.picture p) (Some r) (row_of p rs)
