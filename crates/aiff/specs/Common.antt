@@ -1,5 +1,5 @@
 -- The 'FORM' of an AIFF and its 'COMM' chunk (02, P11).
-use Rattle.std.specs.Prelude.{ℕ, ◌+◌, List, [], ◌∷◌, Bool, true, false, cond, ◌&&◌, length, drop, eqb, leb}
+use Rattle.std.specs.Prelude.{ℕ, ◌+◌, List, [], ◌∷◌, Bool, cond, ◌&&◌, length, drop, eqb, leb, Option, Some, None}
 use Rattle.blorb.specs.Bytes.{rd32}
 use Rattle.blorb.specs.Tags.{tag, FORM, AIFF}
 use Rattle.blorb.specs.Format.{Chunk, chunks_of}
@@ -25,18 +25,10 @@ comms [] = []
 comms (c ∷ cs) = cond (eqb c.type COMM) (c ∷ comms cs) (comms cs)
 
 -- "no 'COMM' or more than one or not 18 bytes", or the data of the one
-pub data Common : Type 0 where
-  lacking : Common
-  common : List ℕ → Common
+unfoldable pub single : List Chunk → Option (List ℕ)
+single [] = None
+single (c ∷ []) = cond (eqb (length c.body) 18) (Some c.body) None
+single (c ∷ (d ∷ cs)) = None
 
-abbrev pub pick_common : Bool → Common → Common → Common
-pick_common true a b = a
-pick_common false a b = b
-
-unfoldable pub single : List Chunk → Common
-single [] = lacking
-single (c ∷ []) = pick_common (eqb (length c.body) 18) (common c.body) lacking
-single (c ∷ (d ∷ cs)) = lacking
-
-unfoldable pub common_of : List ℕ → Common
+unfoldable pub common_of : List ℕ → Option (List ℕ)
 common_of b = single (comms (chunks_of b))

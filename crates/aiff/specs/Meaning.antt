@@ -1,14 +1,10 @@
 -- What 02's P11 says in words, without the way in which the definitions compute it. That they mean this is proved in proofs/RateLaws and proofs/Meaning.
-use Rattle.std.specs.Prelude.{ℕ, ◌+◌, ◌*◌, ◌^◌, ◌≤◌, ◌<◌, ◌≡◌, List, ◌++◌, Bool, true, false, ◌&&◌, length, get_or, drop, eqb}
+use Rattle.std.specs.Prelude.{ℕ, ◌+◌, ◌*◌, ◌^◌, ◌≤◌, ◌<◌, ◌≡◌, List, ◌++◌, Bool, ◌&&◌, length, get_or, drop, eqb}
 use Rattle.blorb.specs.Bytes.{be32, rd32}
 use Rattle.blorb.specs.Tags.{FORM, AIFF}
 use Rattle.blorb.specs.Format.{Chunk, chunk_of, chunk_bytes, chunks_bytes}
-use Rattle.blorb.specs.Verdict.{Verdict, accept, refuse, no_chunk}
+use Rattle.blorb.specs.Verdict.{no_chunk}
 use Rattle.aiff.specs.Rate.{rd16, sign_in, exponent_in, significand_in}
-use Rattle.aiff.specs.declared.rate.Rate.{Rate}
-use Rattle.aiff.specs.declared.rate.Rate.TheVariants.{Whole, Other}
-use Rattle.aiff.specs.declared.Measured.{Measured}
-use Rattle.aiff.specs.declared.Measured.TheVariants.{Sound, Refused}
 
 -- The rate is exactly r, "a whole number from 1 to 4,294,967,295": significand × 2^field = r × 2^(16,383 + 63), so r is "the significand times 2 to the
 -- power (that exponent less 63)", the field being that exponent and the bias; and it is not negative.
@@ -27,18 +23,9 @@ pub record Says (d : List ℕ) (channels frames sampleSize rate seconds : ℕ) :
   pub not_over : seconds * rate ≤ frames
   pub not_under : frames < (seconds + 1) * rate
 
--- the answer's refusal
-abbrev pub refusal_of : Measured → Verdict
-refusal_of (Sound channels frames sampleSize rate seconds) = accept
-refusal_of (Refused k p) = refuse k p
-
 -- one 'COMM', and of 18 bytes
 abbrev pub is_single : List Chunk → Bool
 is_single cs = eqb (length cs) 1 && eqb (length (get_or cs 0 no_chunk).body) 18
-
-abbrev pub is_whole : Rate → Bool
-is_whole (Whole r) = true
-is_whole Other = false
 
 -- "a single 'FORM' of type 'AIFF' filled by chunks of rule 2": a chunk of rule 2 itself, its data the type and these chunks
 abbrev pub aiff_bytes : List Chunk → List ℕ

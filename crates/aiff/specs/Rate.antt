@@ -1,8 +1,6 @@
 -- The rate of an AIFF (02, P11): "an 80-bit number: sign, 15 bits of exponent, bias 16,383, and a 64-bit significand".
-use Rattle.std.specs.Prelude.{ℕ, ◌+◌, ◌*◌, ◌/◌, ◌%◌, ◌^◌, List, Bool, true, false, ◌&&◌, get_or, drop, eqb, leb}
+use Rattle.std.specs.Prelude.{ℕ, ◌+◌, ◌*◌, ◌/◌, ◌%◌, ◌^◌, List, cond, ◌&&◌, get_or, drop, eqb, leb, Option, Some, None}
 use Rattle.blorb.specs.Bytes.{rd32}
-use Rattle.aiff.specs.declared.rate.Rate.{Rate}
-use Rattle.aiff.specs.declared.rate.Rate.TheVariants.{Whole, Other}
 
 -- the number in the first two bytes, big-endian (01); a byte that is not there counts as 0
 unfoldable pub rd16 : List ℕ → ℕ
@@ -26,20 +24,16 @@ numerator significand field = significand * 2 ^ field
 unfoldable pub denominator : ℕ
 denominator = 2 ^ (16383 + 63)
 
-abbrev pub pick_rate : Bool → Rate → Rate → Rate
-pick_rate true a b = a
-pick_rate false a b = b
-
 -- n over the denominator, if that is "a whole number from 1 to 4,294,967,295"
-unfoldable pub whole_of : ℕ → Rate
+unfoldable pub whole_of : ℕ → Option ℕ
 whole_of n =
-    pick_rate (eqb (n % denominator) 0 && leb 1 (n / denominator) && leb (n / denominator) 4294967295)
-    (Whole (n / denominator))
-    Other
+    cond (eqb (n % denominator) 0 && leb 1 (n / denominator) && leb (n / denominator) 4294967295)
+    (Some (n / denominator))
+    None
 
 -- "Give the rate exactly if it is" such a number; "negative if the sign is set". What this means: proofs/RateLaws, rate_exactly and exactly_rate.
-unfoldable pub rate_of : (sign field significand : ℕ) → Rate
-rate_of sign field significand = pick_rate (eqb sign 0) (whole_of (numerator significand field)) Other
+unfoldable pub rate_of : (sign field significand : ℕ) → Option ℕ
+rate_of sign field significand = cond (eqb sign 0) (whole_of (numerator significand field)) None
 
-unfoldable pub rate_in : List ℕ → Rate
+unfoldable pub rate_in : List ℕ → Option ℕ
 rate_in s = rate_of (sign_in s) (exponent_in s) (significand_in s)

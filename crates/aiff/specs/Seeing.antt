@@ -1,12 +1,10 @@
 -- What the search for the 'COMM' chunk keeps: it stands between the code and the definitions of Common.
-use Rattle.std.specs.Prelude.{ℕ, ◌+◌, ◌≤◌, ◌≡◌, List, [], ◌∷◌, Bool, true, false, length, take, drop, eqb}
+use Rattle.std.specs.Prelude.{ℕ, ◌+◌, ◌≤◌, ◌≡◌, List, [], ◌∷◌, cond, length, take, drop, eqb, Option, Some, None}
 use Rattle.blorb.specs.Bytes.{rd32}
 use Rattle.blorb.specs.Format.{Chunk}
 use Rattle.blorb.specs.Verdict.{accept}
 use Rattle.chunks.specs.Walk.{chunk_from, chunks_from, walk_from}
-use Rattle.aiff.specs.Common.{COMM, Common, lacking, common, comms, single, common_of}
-use Rattle.aiff.specs.declared.common.Common.{Common as Found}
-use Rattle.aiff.specs.declared.common.Common.TheVariants.{At, Lacking}
+use Rattle.aiff.specs.Common.{COMM, comms, single, common_of}
 use Rattle.aiff.specs.declared.common.Seen.{Seen}
 use Rattle.aiff.specs.declared.common.Seen.TheVariants.{Nothing, One, Many}
 
@@ -15,18 +13,14 @@ one_more Nothing at = One at
 one_more (One x) at = Many
 one_more Many at = Many
 
-abbrev pub pick_seen : Bool → Seen → Seen → Seen
-pick_seen true a b = a
-pick_seen false a b = b
-
 unfoldable pub seen_next_of : Seen → ℕ → ℕ → Seen
-seen_next_of seen kind at = pick_seen (eqb kind COMM) (one_more seen at) seen
+seen_next_of seen kind at = cond (eqb kind COMM) (one_more seen at) seen
 
 -- the 'COMM' chunks' answer, by those seen and the ones behind them
-abbrev pub seen_with : List ℕ → Seen → List Chunk → Common
+abbrev pub seen_with : List ℕ → Seen → List Chunk → Option (List ℕ)
 seen_with f Nothing l = single l
 seen_with f (One x) l = single (chunk_from f x ∷ l)
-seen_with f Many l = lacking
+seen_with f Many l = None
 
 -- the one seen lies in the bytes, with all its data
 pub record ChunkThere (f : List ℕ) (x : ℕ) : Type 0 where
@@ -49,6 +43,6 @@ abbrev pub Sees : List ℕ → Seen → Type 0
 Sees f seen = (seen_with f seen [] ≡ common_of f) × SeenIn f seen
 
 -- what the code's answer tells of the bytes
-abbrev pub Told : List ℕ → Found → Type 0
-Told f (At x) = (common_of f ≡ common (take 18 (drop (x + 8) f))) × (x + 26 ≤ length f)
-Told f Lacking = common_of f ≡ lacking
+abbrev pub Told : List ℕ → Option ℕ → Type 0
+Told f (Some x) = (common_of f ≡ Some (take 18 (drop (x + 8) f))) × (x + 26 ≤ length f)
+Told f None = common_of f ≡ None

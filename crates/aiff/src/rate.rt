@@ -1,92 +1,47 @@
 // The rate of an AIFF, an 80-bit number, where it is a whole number of 32 bits.
-ghost use Rattle.std.specs.Prelude.{◌≡◌, ◌+◌, ◌≤◌, ◌<◌, length, drop};
+ghost use Rattle.std.specs.Prelude.{◌≡◌, ◌+◌, ◌≤◌, length, drop};
 ghost use Rattle.aiff.specs.Rate.{rd16, numerator, whole_of, rate_of, rate_in};
 
-#[derive(Clone, Copy)]
-pub enum Rate {
-    Whole(u32),
-    Other,
-}
-
-fn wide(x: u8) -> u64
-    ensures { (result ≡ x) × (result < 256) }
-{
-    x as u64
-}
+// The exponent field, bias and 63 bits together, of which the value is the significand itself.
+const UNIT: u32 = 16446;
 
 // The number of 16 bits at `at`.
-pub(crate) fn be16_at(s: &[u8], at: usize) -> u64
+pub(crate) fn be16_at(s: &[u8], at: usize) -> u16
     requires { at + 2 ≤ length s.now }
-    ensures { (result ≡ rd16 (drop at s.now)) × (result < 65536) }
+    ensures { result ≡ rd16 (drop at s.now) }
 {
-    wide(s[at]) * 256 + wide(s[at + 1])
+    u16::from_be_bytes([s[at], s[at + 1]])
 }
 
-// Of the exponent field 16,446, bias and 63 bits together, the value is the significand itself.
-fn in_range(significand: u64) -> Rate
-    ensures { result ≡ whole_of (numerator significand 16446) }
+// The significand times 2 to the power (exponent less UNIT). A significand that is not 0 is no multiple of 2^64, and times that it is too large.
+fn whole(significand: u64, exponent: u32) -> Option<u32>
+    ensures { result ≡ whole_of (numerator significand exponent) }
 {
     if significand == 0 {
-        return Rate::Other;
+        return None;
     }
-    if 4294967295 < significand {
-        return Rate::Other;
-    }
-    Rate::Whole(significand as u32)
-}
-
-// A field of at most 16,446: the significand is halved until the field is that. Past 63 halvings it is odd.
-fn halved(significand: u64, exponent: u64) -> Rate
-    requires { exponent ≤ 16446 }
-    ensures { result ≡ whole_of (numerator significand exponent) }
-{
-    let mut m = significand;
-    let mut e = exponent;
-    while e < 16446 {
-        if m % 2 != 0 {
-            return Rate::Other;
+    if exponent < UNIT {
+        let parts = 1u64.checked_shl(UNIT - exponent)?;
+        if significand % parts != 0 {
+            return None;
         }
-        m = m / 2;
-        e += 1;
+        return u32::try_from(significand / parts).ok();
     }
-    in_range(m)
+    let times = 1u64.checked_shl(exponent - UNIT)?;
+    u32::try_from(significand.checked_mul(times)?).ok()
 }
 
-// A field of at least 16,446: the significand is doubled until the field is that. Past 31 doublings it is too large.
-fn doubled(significand: u64, exponent: u64) -> Rate
-    requires { 16446 ≤ exponent }
-    ensures { result ≡ whole_of (numerator significand exponent) }
-{
-    let mut m = significand;
-    let mut e = exponent;
-    while 16446 < e {
-        if 2147483647 < m {
-            return Rate::Other;
-        }
-        m = m * 2;
-        e -= 1;
-    }
-    in_range(m)
-}
-
-// A significand 0 is sent off first: it alone would be halved or doubled for as long as the field asks.
-fn value(sign: u64, exponent: u64, significand: u64) -> Rate
+fn value(sign: u16, exponent: u16, significand: u64) -> Option<u32>
     ensures { result ≡ rate_of sign exponent significand }
 {
     if sign != 0 {
-        return Rate::Other;
+        return None;
     }
-    if significand == 0 {
-        return Rate::Other;
-    }
-    if exponent < 16446 {
-        return halved(significand, exponent);
-    }
-    doubled(significand, exponent)
+    whole(significand, u32::from(exponent))
 }
 
 // The rate in the ten bytes at `at`.
-pub(crate) fn rate_at(s: &[u8], at: usize) -> Rate
+pub(crate) fn rate_at(s: &[u8], at: usize) -> Option<u32>
     requires { at + 10 ≤ length s.now }
     ensures { result ≡ rate_in (drop at s.now) }
 {

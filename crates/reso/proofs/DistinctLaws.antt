@@ -80,11 +80,11 @@ module _ (d : List ℕ) (k : ℕ → ℕ) (e : (i : ℕ) → k i ≡ word_at d (
     from_start : distinct (pictures (rows_from d n 24)) ≡ distinct (keys_from k n 0)
     from_start = ap distinct (pictures_keys n 0)
 
-    distinct_yes : first_repeat_of k n ≡ None → true ≡ distinct (pictures (rows_from d n 24))
+    pub distinct_yes : first_repeat_of k n ≡ None → true ≡ distinct (pictures (rows_from d n 24))
     unfolding Apart
     distinct_yes h = sym (from_start ∙ apart_distinct k n 0 (λ i j l m q. answer_nothing k n h i j l m (omega arith)))
 
-    distinct_no : (j : ℕ) → first_repeat_of k n ≡ Some j → false ≡ distinct (pictures (rows_from d n 24))
+    pub distinct_no : (j : ℕ) → first_repeat_of k n ≡ Some j → false ≡ distinct (pictures (rows_from d n 24))
     distinct_no j h = sym (from_start ∙ by (distinct (keys_from k n 0)) refl)
       where
         by : (b : Bool) → distinct (keys_from k n 0) ≡ b → b ≡ false
