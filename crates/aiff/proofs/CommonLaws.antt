@@ -3,7 +3,7 @@
 use Prim.Native.Nat.{ℕ, ◌+◌, ◌*◌, ◌/◌, ◌%◌, ◌≤◌, ◌<◌}
 use mathlib.Core.Path.{◌≡◌, refl, ap, sym, ◌∙◌}
 use mathlib.Core.List.{List, ◌∷◌}
-use mathlib.Core.Bool.{Bool, true, false, cond, ◌&&◌}
+use mathlib.Core.Bool.{Bool, true, false, cond}
 use native.Mathlib.Omega.{arith}
 use lib.ListN.{length, take, drop}
 use lib.Seq.{get_or-take, drop-drop}
@@ -17,26 +17,18 @@ use Rattle.blorb.proofs.ByteLaws.{rd32-at}
 use Rattle.blorb.proofs.Checks.{and_both}
 use Rattle.chunks.specs.Walk.{chunk_from, skip_at, chunks_from, walk_from}
 use Rattle.chunks.proofs.ChunkLaws.{chunks_end, fine, walked}
-use Rattle.aiff.specs.Common.{COMM, lacking, common, comms, single, is_form_of, is_filled, is_aiff_of, common_of, pick_common}
-use Rattle.aiff.specs.Seeing.{one_more, pick_seen, seen_next_of, seen_with, ChunkThere, SeenIn, Seeking, Sees, Told}
+use Rattle.aiff.specs.Common.{COMM, comms, single, is_form_of, is_filled, is_aiff_of, common_of}
+use Rattle.aiff.specs.Seeing.{one_more, seen_next_of, seen_with, ChunkThere, SeenIn, Seeking, Sees, Told}
 use Rattle.aiff.specs.Rate.{rd16, rate_of, rate_in, sign_in, exponent_in, significand_in}
 use Rattle.aiff.specs.Length.{sound_of, sound_by, length_of}
-use Rattle.aiff.specs.declared.Measured.TheVariants.{Refused}
-use Rattle.aiff.specs.declared.common.Common.TheVariants.{At, Lacking}
+use Rattle.std.specs.Prelude.{Option, Some, None}
+use Rattle.blorb.specs.Refusals.{Refused}
 use Rattle.aiff.specs.declared.common.Seen.{Seen}
 use Rattle.aiff.specs.declared.common.Seen.TheVariants.{Nothing, One, Many}
 use Rattle.aiff.proofs.RateLaws.{rd16-at}
 
 -- 49
 module _ (f : List ℕ) where
-  pub form_short : length f < 12 → false ≡ is_form_of f
-  unfolding is_form_of
-  form_short h = rw (lt-leb 12 (length f) h)
-
-  pub form_is : 12 ≤ length f → eqb (rd32 f) FORM && (eqb (8 + rd32 (drop 4 f)) (length f) && eqb (rd32 (drop 8 f)) AIFF) ≡ is_form_of f
-  unfolding is_form_of
-  form_is h = rw (le-leb 12 (length f) h)
-
   pub not_form : is_form_of f ≡ false → false ≡ is_aiff_of f
   unfolding is_aiff_of
   not_form e = rw e
@@ -57,25 +49,16 @@ module _ (f : List ℕ) where
       by accept w = w
       by (refuse k p) w = let z : ◌≡◌ {A = Bool} false true = not_filled k p (and_both (is_form_of f) (is_filled f) e).0 w ∙ e in cc
 
--- a chunk of another type, and one more 'COMM'
-pub seen_same : (seen : Seen) (kind at : ℕ) → (kind ≡ COMM → ⊥) → seen ≡ seen_next_of seen kind at
-unfolding seen_next_of
-seen_same seen kind at h = rw (ne_eqb kind COMM h)
-
-pub seen_more : (seen : Seen) (kind at : ℕ) → kind ≡ COMM → one_more seen at ≡ seen_next_of seen kind at
-unfolding seen_next_of
-seen_more seen kind at h = rw (eq-eqb kind COMM h)
-
 -- what was seen, and what is still to come
 seen_found : (f : List ℕ) (at : ℕ) (b : Bool) (seen : Seen) (l : List Chunk)
-    → seen_with f (pick_seen b (one_more seen at) seen) l ≡ seen_with f seen (cond b (chunk_from f at ∷ l) l)
+    → seen_with f (cond b (one_more seen at) seen) l ≡ seen_with f seen (cond b (chunk_from f at ∷ l) l)
 unfolding single
 seen_found f at false seen l = refl
 seen_found f at true Nothing l = refl
 seen_found f at true (One x) l = refl
 seen_found f at true Many l = refl
 
-seen_in : (f : List ℕ) (at : ℕ) (b : Bool) (seen : Seen) → ChunkThere f at → SeenIn f seen → SeenIn f (pick_seen b (one_more seen at) seen)
+seen_in : (f : List ℕ) (at : ℕ) (b : Bool) (seen : Seen) → ChunkThere f at → SeenIn f seen → SeenIn f (cond b (one_more seen at) seen)
 seen_in f at false seen h i = i
 seen_in f at true Nothing h i = h
 seen_in f at true (One x) h i = tt
@@ -105,24 +88,24 @@ sees f at seen h s = let g = s.found in (rw (chunks_end f at h) at g, s.there)
 
 -- 50
 module _ (f : List ℕ) where
-  pub told-nothing : Sees f Nothing → Told f Lacking
+  pub told-nothing : Sees f Nothing → Told f None
   unfolding single
   told-nothing s = sym s.0
 
-  pub told_many : Sees f Many → Told f Lacking
+  pub told_many : Sees f Many → Told f None
   told_many s = sym s.0
 
   module _ (x : ℕ) (s : Sees f (One x)) where
-    one : common_of f ≡ pick_common (eqb (rd32 (drop (x + 4) f)) 18) (common (take (rd32 (drop (x + 4) f)) (drop (x + 8) f))) lacking
+    one : common_of f ≡ cond (eqb (rd32 (drop (x + 4) f)) 18) (Some (take (rd32 (drop (x + 4) f)) (drop (x + 8) f))) None
     unfolding single chunk_in
     one = sym s.0 ∙ rw (s.1.bodied, drop-drop 4 x f, drop-drop 8 x f)
 
-    pub told-one : rd32 (drop (x + 4) f) ≡ 18 → Told f (At x)
+    pub told-one : rd32 (drop (x + 4) f) ≡ 18 → Told f (Some x)
     told-one e =
         let c = one in
         (rw e at c, omega (arith, e, s.1.inside))
 
-    pub told_other : (rd32 (drop (x + 4) f) ≡ 18 → ⊥) → Told f Lacking
+    pub told_other : (rd32 (drop (x + 4) f) ≡ 18 → ⊥) → Told f None
     told_other e = one ∙ rw (ne_eqb (rd32 (drop (x + 4) f)) 18 e)
 
 -- the fields lie in the 18 bytes
@@ -172,10 +155,10 @@ module _ (f : List ℕ) where
   no_aiff e = rw e
 
   module _ (e : is_aiff_of f ≡ true) where
-    pub no_common : Told f Lacking → Refused 50 0 ≡ length_of f
+    pub no_common : Told f None → Refused 50 0 ≡ length_of f
     unfolding length_of
     no_common t = rw (e, t)
 
-    pub one-common : (x : ℕ) → Told f (At x) → sound_of (take 18 (drop (x + 8) f)) ≡ length_of f
+    pub one-common : (x : ℕ) → Told f (Some x) → sound_of (take 18 (drop (x + 8) f)) ≡ length_of f
     unfolding length_of
     one-common x t = rw (e, t.0)

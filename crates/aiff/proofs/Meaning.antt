@@ -4,7 +4,7 @@
 use Prim.Native.Nat.{ℕ, ◌+◌, ◌*◌, ◌/◌, ◌%◌, ◌≤◌, ◌<◌}
 use mathlib.Core.Path.{◌≡◌, refl, ap, sym, ◌∙◌}
 use mathlib.Core.List.{List, [], ◌∷◌, ◌++◌, append-nil}
-use mathlib.Core.Bool.{Bool, true, false, ◌&&◌, ◌||◌}
+use mathlib.Core.Bool.{Bool, true, false, cond, ◌&&◌, ◌||◌}
 use native.Mathlib.Omega.{arith}
 use native.Mathlib.Nat.{div-mul-le_self, lt-div-mul-add, div-eq_of_lt-le}
 use lib.ListN.{length, get_or, take, drop, length-append, length-drop, take-append-drop}
@@ -17,6 +17,9 @@ use Rattle.blorb.specs.All.{All}
 use Rattle.blorb.specs.Sound.{W, ChunkOk}
 use Rattle.blorb.specs.Format.{Chunk, sized, size, total, chunk_bytes, chunks_bytes, chunks_of}
 use Rattle.blorb.specs.Verdict.{accept, check, ◌then◌, no_chunk, walk_fault}
+use Rattle.blorb.specs.Refusals.{Refused, verdict_of}
+use Rattle.std.specs.Prelude.{Option, Some, None}
+use Rattle.std.specs.Option.{is_some}
 use Rattle.blorb.specs.Rules.{plain_allows_of, one_of}
 use Rattle.blorb.specs.Lookup.{shown}
 use Rattle.blorb.proofs.ByteLaws.{length-be32, rd32-be32, drop-be32, drop_two, drop_three}
@@ -28,31 +31,28 @@ use Rattle.blorb.proofs.VerdictLaws.{walk_fine}
 use Rattle.blorb.proofs.ShownLaws.{left_form}
 use Rattle.chunks.specs.Walk.{walk_from}
 use Rattle.aiff.specs.Rate.{rd16, rate_in}
-use Rattle.aiff.specs.Common.{Common, lacking, common, pick_common, comms, single, is_form_of, is_filled, is_aiff_of, common_of}
-use Rattle.aiff.specs.Length.{sound_by, sound_of, common_by, pick_measured, length_of}
-use Rattle.aiff.specs.Meaning.{Exactly, Says, refusal_of, is_single, is_whole, aiff_bytes}
-use Rattle.aiff.specs.declared.rate.Rate.{Rate}
-use Rattle.aiff.specs.declared.rate.Rate.TheVariants.{Whole, Other}
-use Rattle.aiff.specs.declared.Measured.TheVariants.{Sound, Refused}
+use Rattle.aiff.specs.Common.{comms, single, is_form_of, is_filled, is_aiff_of, common_of}
+use Rattle.aiff.specs.Length.{sound, sound_by, sound_of, common_by, length_of}
+use Rattle.aiff.specs.Meaning.{Exactly, Says, is_single, aiff_bytes}
 use Rattle.aiff.proofs.RateLaws.{exactly_rate, rate_exactly}
 use Rattle.aiff.proofs.CommonLaws.{aiff_walked, filled}
 
 -- "49 .., 50 .., 51 ..; in that order"
 pub in_order : (b : List ℕ) → let cs = comms (chunks_of b) in
-    refusal_of (length_of b) ≡ check (is_aiff_of b) 49 0 then check (is_single cs) 50 0 then check (is_whole (rate_in (drop 8 (get_or cs 0 no_chunk).body))) 51 0
+    verdict_of (length_of b) ≡ check (is_aiff_of b) 49 0 then check (is_single cs) 50 0 then check (is_some (rate_in (drop 8 (get_or cs 0 no_chunk).body))) 51 0
 unfolding length_of common_of single sound_of check ◌then◌
 in_order b = go (is_aiff_of b) (comms (chunks_of b))
   where
-    rated : (r : Rate) (c f z : ℕ) → refusal_of (sound_by r c f z) ≡ check (is_whole r) 51 0
-    rated (Whole r) c f z = refl
-    rated Other c f z = refl
+    rated : (r : Option ℕ) (c f z : ℕ) → verdict_of (sound_by r c f z) ≡ check (is_some r) 51 0
+    rated (Some r) c f z = refl
+    rated None c f z = refl
 
-    one : (x : Bool) (d : List ℕ) → refusal_of (common_by (pick_common x (common d) lacking)) ≡ check x 50 0 then check (is_whole (rate_in (drop 8 d))) 51 0
+    one : (x : Bool) (d : List ℕ) → verdict_of (common_by (cond x (Some d) None)) ≡ check x 50 0 then check (is_some (rate_in (drop 8 d))) 51 0
     one true d = rated (rate_in (drop 8 d)) (rd16 d) (rd32 (drop 2 d)) (rd16 (drop 6 d))
     one false d = refl
 
-    go : (x : Bool) (cs : List Chunk) → refusal_of (pick_measured x (common_by (single cs)) (Refused 49 0))
-        ≡ check x 49 0 then check (is_single cs) 50 0 then check (is_whole (rate_in (drop 8 (get_or cs 0 no_chunk).body))) 51 0
+    go : (x : Bool) (cs : List Chunk) → verdict_of (cond x (common_by (single cs)) (Refused 49 0))
+        ≡ check x 49 0 then check (is_single cs) 50 0 then check (is_some (rate_in (drop 8 (get_or cs 0 no_chunk).body))) 51 0
     go false cs = refl
     go true [] = refl
     go true (c ∷ []) = one (eqb (length c.body) 18) c.body
@@ -60,24 +60,24 @@ in_order b = go (is_aiff_of b) (comms (chunks_of b))
 
 -- the 18 bytes: all that is given, exactly if they say it
 module _ (d : List ℕ) (channels frames sampleSize rate seconds : ℕ) where
-  pub says_sound : Says d channels frames sampleSize rate seconds → sound_of d ≡ Sound channels frames sampleSize rate seconds
+  pub says_sound : Says d channels frames sampleSize rate seconds → sound_of d ≡ sound channels frames sampleSize rate seconds
   unfolding sound_of rate_in
   says_sound s =
       let r = exactly_rate _ _ _ rate s.rate_is in
       rw (r, s.channels_are, s.frames_are, s.sample_size_is, div-eq_of_lt-le rate s.not_over s.not_under)
 
-  pub sound_says : sound_of d ≡ Sound channels frames sampleSize rate seconds → Says d channels frames sampleSize rate seconds
+  pub sound_says : sound_of d ≡ sound channels frames sampleSize rate seconds → Says d channels frames sampleSize rate seconds
   unfolding sound_of rate_in
   sound_says e = go (rate_in (drop 8 d)) refl e
     where
-      go : (r : Rate) → rate_in (drop 8 d) ≡ r → sound_by r (rd16 d) (rd32 (drop 2 d)) (rd16 (drop 6 d)) ≡ Sound channels frames sampleSize rate seconds
+      go : (r : Option ℕ) → rate_in (drop 8 d) ≡ r → sound_by r (rd16 d) (rd32 (drop 2 d)) (rd16 (drop 6 d)) ≡ sound channels frames sampleSize rate seconds
           → Says d channels frames sampleSize rate seconds
-      go (Whole r) q h =
+      go (Some r) q h =
           let k : r ≡ rate = cc in
           let f : rd32 (drop 2 d) ≡ frames = cc in
           let s : rd32 (drop 2 d) / r ≡ seconds = cc in
           let t : frames / rate ≡ seconds = sym (λ i. f i / k i) ∙ s in
-          let x : Exactly _ _ _ rate = rate_exactly _ _ _ rate (q ∙ ap Whole k) in
+          let x : Exactly _ _ _ rate = rate_exactly _ _ _ rate (q ∙ ap Some k) in
           let o : frames / rate * rate ≤ frames = div-mul-le_self frames rate in
           let u : frames < frames / rate * rate + rate = lt-div-mul-add x.least in
           let v : frames < seconds * rate + rate = rw t at u in
@@ -89,26 +89,26 @@ module _ (d : List ℕ) (channels frames sampleSize rate seconds : ℕ) where
             not_over = rw t at o;
             not_under = omega (arith, v);
           }
-      go Other q h = let z : ◌≡◌ {A = ℕ} 0 1 = cc in absurd (omega arith)
+      go None q h = cc
 
 -- the call's answer: a sound is given exactly if the bytes are an AIFF whose one 'COMM' holds 18 bytes that say it
 module _ (b : List ℕ) (channels frames sampleSize rate seconds : ℕ) where
   abbrev Plays : Type 0
-  Plays = (is_aiff_of b ≡ true) × ((d : List ℕ) × ((common_of b ≡ common d) × Says d channels frames sampleSize rate seconds))
+  Plays = (is_aiff_of b ≡ true) × ((d : List ℕ) × ((common_of b ≡ Some d) × Says d channels frames sampleSize rate seconds))
 
-  pub says_length : Plays → length_of b ≡ Sound channels frames sampleSize rate seconds
+  pub says_length : Plays → length_of b ≡ sound channels frames sampleSize rate seconds
   unfolding length_of
   says_length (a, (d, (e, s))) = rw (a, e) (says_sound d channels frames sampleSize rate seconds s)
 
-  pub length_says : length_of b ≡ Sound channels frames sampleSize rate seconds → Plays
+  pub length_says : length_of b ≡ sound channels frames sampleSize rate seconds → Plays
   unfolding length_of
   length_says h = go (is_aiff_of b) refl (common_of b) refl h
     where
-      go : (x : Bool) → is_aiff_of b ≡ x → (c : Common) → common_of b ≡ c
-          → pick_measured x (common_by c) (Refused 49 0) ≡ Sound channels frames sampleSize rate seconds → Plays
-      go true a (common d) e q = (a, (d, (e, sound_says d channels frames sampleSize rate seconds q)))
-      go true a lacking e q = let z : ◌≡◌ {A = ℕ} 0 1 = cc in absurd (omega arith)
-      go false a c e q = let z : ◌≡◌ {A = ℕ} 0 1 = cc in absurd (omega arith)
+      go : (x : Bool) → is_aiff_of b ≡ x → (c : Option (List ℕ)) → common_of b ≡ c
+          → cond x (common_by c) (Refused 49 0) ≡ sound channels frames sampleSize rate seconds → Plays
+      go true a (Some d) e q = (a, (d, (e, sound_says d channels frames sampleSize rate seconds q)))
+      go true a None e q = cc
+      go false a c e q = cc
 
 -- Which bytes are an AIFF. A header of this length and data of this type are a single 'FORM',
 form_holds : (d : List ℕ) → 4 ≤ length d → rd32 d ≡ AIFF → length d < W → is_form_of (be32 FORM ++ (be32 (length d) ++ d)) ≡ true

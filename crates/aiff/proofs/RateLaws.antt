@@ -4,7 +4,7 @@
 use Prim.Native.Nat.{ℕ, zero, suc, ◌+◌, ◌-◌, ◌*◌, ◌/◌, ◌%◌, ◌^◌, ◌≤◌, ◌<◌}
 use mathlib.Core.Path.{◌≡◌, refl, ap, sym, ◌∙◌}
 use mathlib.Core.List.{List}
-use mathlib.Core.Bool.{Bool, true, false, ◌&&◌}
+use mathlib.Core.Bool.{Bool, true, false, cond, ◌&&◌}
 use native.Mathlib.Omega.{arith}
 use native.Mathlib.Numerals.{add-one}
 use native.Mathlib.Nat.{mul_assoc, mul_comm, mul-one, mul-le-mul, eq_of_mul-eq-mul_right, add-suc, add-zero, pow-zero, pow-suc, one-le-pow}
@@ -14,10 +14,9 @@ use lib.Seq.{get_or-drop}
 use lib.Dec.{eqb, leb}
 use borrow.Author.Tests.{le-leb, lt-leb, eq-eqb, ne_eqb, leb-true, eqb-true}
 use Rattle.blorb.proofs.Checks.{and_both}
-use Rattle.aiff.specs.Rate.{rd16, numerator, denominator, pick_rate, whole_of, rate_of, rate_in}
+use Rattle.std.specs.Prelude.{Option, Some, None}
+use Rattle.aiff.specs.Rate.{rd16, numerator, denominator, whole_of, rate_of, rate_in}
 use Rattle.aiff.specs.Meaning.{Exactly}
-use Rattle.aiff.specs.declared.rate.Rate.{Rate}
-use Rattle.aiff.specs.declared.rate.Rate.TheVariants.{Whole, Other}
 
 pow_add : (a m n : ℕ) → a ^ (m + n) ≡ a ^ m * a ^ n
 pow_add a m zero = rw (add-zero m, pow-zero a) (sym (mul-one (a ^ m)))
@@ -65,11 +64,11 @@ denominator_pos : 0 < denominator
 unfolding denominator
 denominator_pos = two_pos 16446
 
-pub whole_not : (n : ℕ) → (n % denominator ≡ 0 → ⊥) → Other ≡ whole_of n
+pub whole_not : (n : ℕ) → (n % denominator ≡ 0 → ⊥) → None ≡ whole_of n
 unfolding whole_of
 whole_not n h = rw (ne_eqb (n % denominator) 0 h)
 
-pub whole_big : (n : ℕ) → 4294967295 < n / denominator → Other ≡ whole_of n
+pub whole_big : (n : ℕ) → 4294967295 < n / denominator → None ≡ whole_of n
 unfolding whole_of
 whole_big n h = rw (lt-leb (n / denominator) 4294967295 h, last_false (eqb (n % denominator) 0) (leb 1 (n / denominator)))
 
@@ -84,14 +83,14 @@ module _ (m : ℕ) where
   unit_div : m * denominator / denominator ≡ m
   unit_div = mul-div_cancel m denominator_pos
 
-  pub range-zero : m ≡ 0 → Other ≡ whole_of (numerator m 16446)
+  pub range-zero : m ≡ 0 → None ≡ whole_of (numerator m 16446)
   unfolding whole_of
   range-zero e = rw (numerator_unit m, unit_mod, unit_div, e)
 
-  pub range_big : 4294967295 < m → Other ≡ whole_of (numerator m 16446)
+  pub range_big : 4294967295 < m → None ≡ whole_of (numerator m 16446)
   range_big h = rw (numerator_unit m) (whole_big (m * denominator) (rw unit_div h))
 
-  pub range_whole : (m ≡ 0 → ⊥) → m ≤ 4294967295 → Whole m ≡ whole_of (numerator m 16446)
+  pub range_whole : (m ≡ 0 → ⊥) → m ≤ 4294967295 → Some m ≡ whole_of (numerator m 16446)
   unfolding whole_of
   range_whole z h =
       let p : 1 ≤ m = omega arith in
@@ -111,7 +110,7 @@ double m (suc k) h =
     let q : suc k - 1 ≡ k = omega arith in
     rw (q, pow-suc 2 k, mul_comm (2 ^ k) 2, mul_assoc m 2 (2 ^ k))
 
-pub odd-none : (m e : ℕ) → e < 16446 → (m % 2 ≡ 0 → ⊥) → Other ≡ whole_of (numerator m e)
+pub odd-none : (m e : ℕ) → e < 16446 → (m % 2 ≡ 0 → ⊥) → None ≡ whole_of (numerator m e)
 unfolding numerator denominator
 odd-none m e l h =
     let j : ℕ = 16446 - e - 1 in
@@ -119,7 +118,7 @@ odd-none m e l h =
     let z : m * 2 ^ e % 2 ^ 16446 ≡ 0 → ⊥ = rw q at (odd_left m e j h) in
     whole_not (m * 2 ^ e) z
 
-pub large_none : (m e : ℕ) → 16446 < e → 2147483647 < m → Other ≡ whole_of (numerator m e)
+pub large_none : (m e : ℕ) → 16446 < e → 2147483647 < m → None ≡ whole_of (numerator m e)
 unfolding numerator denominator
 large_none m e l h =
     let j : ℕ = e - 16446 - 1 in
@@ -131,16 +130,16 @@ nil : (e : ℕ) → numerator 0 e ≡ 0
 unfolding numerator
 nil e = omega arith
 
-pub zero-none : (e : ℕ) → Other ≡ whole_of (numerator 0 e)
+pub zero-none : (e : ℕ) → None ≡ whole_of (numerator 0 e)
 zero-none e = range-zero 0 refl ∙ ap whole_of (nil 16446 ∙ sym (nil e))
 
 -- the rate's own branches
 module _ (sign e m : ℕ) where
-  pub negative : (sign ≡ 0 → ⊥) → Other ≡ rate_of sign e m
+  pub negative : (sign ≡ 0 → ⊥) → None ≡ rate_of sign e m
   unfolding rate_of
   negative h = rw (ne_eqb sign 0 h)
 
-  pub nothing : sign ≡ 0 → m ≡ 0 → Other ≡ rate_of sign e m
+  pub nothing : sign ≡ 0 → m ≡ 0 → None ≡ rate_of sign e m
   unfolding rate_of
   nothing h z = rw (eq-eqb sign 0 h, z) (zero-none e)
 
@@ -153,17 +152,17 @@ unfolding rd16
 rd16-at s at = rw (get_or-drop at s 0 0, get_or-drop at s 1 0, add-zero at)
 
 -- What the definition means, both ways: the rate is r exactly if the value is r.
-pub exactly_rate : (sign e m r : ℕ) → Exactly sign e m r → rate_of sign e m ≡ Whole r
+pub exactly_rate : (sign e m r : ℕ) → Exactly sign e m r → rate_of sign e m ≡ Some r
 unfolding numerator denominator
 exactly_rate sign e m r x =
     let n : (r ≡ 0 → ⊥) = λ z. omega (arith, x.least) in
     sym (positive sign e m x.clear) ∙ rw x.equal (sym (range_whole r n x.most))
 
-taken : (a : Bool) (x r : ℕ) → pick_rate a (Whole x) Other ≡ Whole r → (a ≡ true) × (x ≡ r)
+taken : (a : Bool) (x r : ℕ) → pick_rate a (Whole x) None ≡ Some r → (a ≡ true) × (x ≡ r)
 taken true x r e = (refl, cc)
-taken false x r e = let z : ◌≡◌ {A = ℕ} 0 1 = cc in absurd (omega arith)
+taken false x r e = cc
 
-pub whole_exactly : (n r : ℕ) → whole_of n ≡ Whole r → (n ≡ r * denominator) × (1 ≤ r) × (r ≤ 4294967295)
+pub whole_exactly : (n r : ℕ) → whole_of n ≡ Some r → (n ≡ r * denominator) × (1 ≤ r) × (r ≤ 4294967295)
 unfolding whole_of
 whole_exactly n r e =
     let t = taken _ (n / denominator) r e in
@@ -176,17 +175,17 @@ whole_exactly n r e =
     let g : n / denominator ≤ 4294967295 = leb-true _ _ a.1 in
     (sym d2 ∙ ap (λ (x : ℕ). x * denominator) t.1, rw t.1 at l, rw t.1 at g)
 
-signed : (b : Bool) (w : Rate) (r : ℕ) → pick_rate b w Other ≡ Whole r → (b ≡ true) × (w ≡ Whole r)
+signed : (b : Bool) (w : Option ℕ) (r : ℕ) → pick_rate b w None ≡ Some r → (b ≡ true) × (w ≡ Some r)
 signed true w r e = (refl, e)
-signed false w r e = let z : ◌≡◌ {A = ℕ} 0 1 = cc in absurd (omega arith)
+signed false w r e = cc
 
-pub rate_exactly : (sign e m r : ℕ) → rate_of sign e m ≡ Whole r → Exactly sign e m r
+pub rate_exactly : (sign e m r : ℕ) → rate_of sign e m ≡ Some r → Exactly sign e m r
 unfolding rate_of numerator denominator
 rate_exactly sign e m r h =
     let t = signed (eqb sign 0) (whole_of (numerator m e)) r h in
     let w = whole_exactly (numerator m e) r t.1 in
     record { clear = eqb-true _ _ t.0; least = w.1; most = w.2; equal = w.0 }
 
-pub rate_least : (s : List ℕ) (r : ℕ) → rate_in s ≡ Whole r → 1 ≤ r
+pub rate_least : (s : List ℕ) (r : ℕ) → rate_in s ≡ Some r → 1 ≤ r
 unfolding rate_in
 rate_least s r e = (rate_exactly _ _ _ r e).least
