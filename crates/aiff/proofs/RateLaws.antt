@@ -1,5 +1,6 @@
--- The rate: what its definition means in plain numbers, and a law for each way out of the code. The code's loops keep the numerator (halve, double), and
--- stop where no whole number can come of it any more: an odd significand that is to be halved (odd-none), a large one to be doubled (large_none).
+-- The rate: what its definition means in plain numbers, and a law for each way out of the code. Of a field below 16,446 the value is the significand over
+-- a power of two, above it the significand times one (below, above). Halving and doubling the significand keep the value (halve, double), and no whole
+-- number can come of an odd significand that is to be halved (odd-none), nor of a large one to be doubled (large_none).
 -- A power of two is a number that nobody looks into.
 use Prim.Native.Nat.{ℕ, zero, suc, ◌+◌, ◌-◌, ◌*◌, ◌/◌, ◌%◌, ◌^◌, ◌≤◌, ◌<◌}
 use mathlib.Core.Path.{◌≡◌, refl, ap, sym, ◌∙◌}
@@ -7,36 +8,31 @@ use mathlib.Core.List.{List}
 use mathlib.Core.Bool.{Bool, true, false, cond, ◌&&◌}
 use native.Mathlib.Omega.{arith}
 use native.Mathlib.Numerals.{add-one}
-use native.Mathlib.Nat.{mul_assoc, mul_comm, mul-one, mul-le-mul, eq_of_mul-eq-mul_right, add-suc, add-zero, pow-zero, pow-suc, one-le-pow}
+use native.Mathlib.Nat.{mul_assoc, mul_comm, add_comm, one-mul, zero-mul, mul-pos, mul-le-mul, eq_of_mul-eq-mul_right, add-zero, pow-suc, lt_of_lt_of_le, div-eq_of_lt}
+use lib.Pow.{pow-add, pow_pos, pow_mono, shr-shr, shl-shr, shl_exact, mod-pow-add}
 use native.Mathlib.Nat.{mul-mod_left, mul-div_cancel, div-add-mod'}
 use lib.ListN.{drop, get_or}
 use lib.Seq.{get_or-drop}
 use lib.Dec.{eqb, leb}
 use borrow.Author.Tests.{le-leb, lt-leb, eq-eqb, ne_eqb, leb-true, eqb-true}
 use Rattle.blorb.proofs.Checks.{and_both}
-use Rattle.std.specs.Prelude.{Option, Some, None}
+use Rattle.std.specs.Prelude.{Option, Some, None, Result, Ok, Err}
+use Rattle.std.specs.Result.{result_ok, OkIff}
 use Rattle.aiff.specs.Rate.{rd16, numerator, denominator, whole_of, rate_of, rate_in}
 use Rattle.aiff.specs.Meaning.{Exactly}
-
-pow_add : (a m n : ℕ) → a ^ (m + n) ≡ a ^ m * a ^ n
-pow_add a m zero = rw (add-zero m, pow-zero a) (sym (mul-one (a ^ m)))
-pow_add a m (suc n) = rw (add-suc m n, pow-suc a (m + n), pow-suc a n, pow_add a m n) (mul_assoc (a ^ m) (a ^ n) a)
-
-two_pos : (n : ℕ) → 0 < 2 ^ n
-two_pos n = one-le-pow n 2 (omega arith)
 
 -- an odd number of halves less than all of them is not whole
 odd_left : (m e j : ℕ) → (m % 2 ≡ 0 → ⊥) → m * 2 ^ e % 2 ^ (e + suc j) ≡ 0 → ⊥
 odd_left m e j h z =
     let p : ℕ = 2 ^ e in
     let q : ℕ = 2 ^ j in
-    let d : 2 ^ (e + suc j) ≡ p * (q * 2) = pow_add 2 e (suc j) ∙ rw (pow-suc 2 j) in
+    let d : 2 ^ (e + suc j) ≡ p * (q * 2) = pow-add 2 e (suc j) ∙ rw (pow-suc 2 j) in
     let t : ℕ = m * p / (p * (q * 2)) in
     let y : m * p % (p * (q * 2)) ≡ 0 = rw d at z in
     let x : t * (p * (q * 2)) + m * p % (p * (q * 2)) ≡ m * p = div-add-mod' (m * p) (p * (q * 2)) in
     let w : t * (p * (q * 2)) ≡ m * p = omega arith in
     let v : t * (q * 2) * p ≡ m * p = mul_assoc t (q * 2) p ∙ ap (λ (k : ℕ). t * k) (mul_comm (q * 2) p) ∙ w in
-    let u : t * (q * 2) ≡ m = eq_of_mul-eq-mul_right p (two_pos e) (t * (q * 2)) m v in
+    let u : t * (q * 2) ≡ m = eq_of_mul-eq-mul_right p (pow_pos e) (t * (q * 2)) m v in
     h (ap (λ (k : ℕ). k % 2) (sym u ∙ sym (mul_assoc t q 2)) ∙ mul-mod_left (t * q) 2)
 
 -- a number of 32 bits or more, doubled
@@ -44,9 +40,9 @@ doubles : (m k j : ℕ) → m * 2 ^ (k + suc j) / 2 ^ k ≡ m * (2 ^ j * 2)
 doubles m k j =
     let p : ℕ = 2 ^ k in
     let q : ℕ = 2 ^ j in
-    let d : 2 ^ (k + suc j) ≡ p * (q * 2) = pow_add 2 k (suc j) ∙ rw (pow-suc 2 j) in
+    let d : 2 ^ (k + suc j) ≡ p * (q * 2) = pow-add 2 k (suc j) ∙ rw (pow-suc 2 j) in
     let e : m * (p * (q * 2)) ≡ m * (q * 2) * p = ap (λ (x : ℕ). m * x) (mul_comm p (q * 2)) ∙ sym (mul_assoc m (q * 2) p) in
-    rw (d, e) (mul-div_cancel (m * (q * 2)) (two_pos k))
+    rw (d, e) (mul-div_cancel (m * (q * 2)) (pow_pos k))
 
 grown : (m q : ℕ) → 0 < q → 2147483647 < m → 4294967295 < m * (q * 2)
 grown m q hq hm =
@@ -62,7 +58,7 @@ last_false false b = refl
 -- the denominator, as a number that nobody looks into
 denominator_pos : 0 < denominator
 unfolding denominator
-denominator_pos = two_pos 16446
+denominator_pos = pow_pos 16446
 
 pub whole_not : (n : ℕ) → (n % denominator ≡ 0 → ⊥) → None ≡ whole_of n
 unfolding whole_of
@@ -83,18 +79,131 @@ module _ (m : ℕ) where
   unit_div : m * denominator / denominator ≡ m
   unit_div = mul-div_cancel m denominator_pos
 
-  pub range-zero : m ≡ 0 → None ≡ whole_of (numerator m 16446)
+  range-zero : m ≡ 0 → None ≡ whole_of (numerator m 16446)
   unfolding whole_of
   range-zero e = rw (numerator_unit m, unit_mod, unit_div, e)
 
-  pub range_big : 4294967295 < m → None ≡ whole_of (numerator m 16446)
+  range_big : 4294967295 < m → None ≡ whole_of (numerator m 16446)
   range_big h = rw (numerator_unit m) (whole_big (m * denominator) (rw unit_div h))
 
-  pub range_whole : (m ≡ 0 → ⊥) → m ≤ 4294967295 → Some m ≡ whole_of (numerator m 16446)
+  range_whole : (m ≡ 0 → ⊥) → m ≤ 4294967295 → Some m ≡ whole_of (numerator m 16446)
   unfolding whole_of
   range_whole z h =
       let p : 1 ≤ m = omega arith in
       rw (numerator_unit m, unit_mod, unit_div, le-leb 1 m p, le-leb m 4294967295 h)
+
+nil : (e : ℕ) → numerator 0 e ≡ 0
+unfolding numerator
+nil e = omega arith
+
+zero-none : (e : ℕ) → None ≡ whole_of (numerator 0 e)
+zero-none e = range-zero 0 refl ∙ ap whole_of (nil 16446 ∙ sym (nil e))
+
+-- q, if nothing is left of it and it is "a whole number from 1 to 4,294,967,295"
+abbrev pub kept : (left q : ℕ) → Option ℕ
+kept left q = cond (eqb left 0 && leb 1 q && leb q 4294967295) (Some q) None
+
+times_zero : (a b : ℕ) → 0 < b → eqb (a * b) 0 ≡ eqb a 0
+times_zero zero b h = rw (zero-mul b)
+times_zero (suc a) b h =
+    let p : 0 < suc a * b = mul-pos (omega arith) h in
+    rw (ne_eqb (suc a * b) 0 (λ z. omega arith), ne_eqb (suc a) 0 (λ z. omega arith))
+
+module _ (m e k : ℕ) where
+  below_unit : e + k ≡ 16446 → denominator ≡ 2 ^ (k + e)
+  unfolding denominator
+  below_unit h = ap (λ (n : ℕ). 2 ^ n) (sym h ∙ add_comm e k)
+
+  pub below : e + k ≡ 16446 → whole_of (numerator m e) ≡ kept (m % 2 ^ k) (m / 2 ^ k)
+  unfolding whole_of numerator
+  below h =
+      let q : m * 2 ^ e / 2 ^ (k + e) ≡ m / 2 ^ k
+      = ap (λ (n : ℕ). m * 2 ^ e / 2 ^ n) (add_comm k e) ∙ sym (shr-shr (m * 2 ^ e) e k) ∙ ap (λ (n : ℕ). n / 2 ^ k) (shl-shr m e) in
+      let r : m * 2 ^ e % 2 ^ (k + e) ≡ m % 2 ^ k * 2 ^ e
+      = mod-pow-add (m * 2 ^ e) k e ∙ rw (shl-shr m e, mul-mod_left m (2 ^ e)) (add-zero (m % 2 ^ k * 2 ^ e)) in
+      rw (below_unit h, q, r, times_zero (m % 2 ^ k) (2 ^ e) (pow_pos e))
+
+  above_unit : 16446 + k ≡ e → numerator m e ≡ m * 2 ^ k * denominator
+  unfolding numerator denominator
+  above_unit h =
+      ap (λ (x : ℕ). m * 2 ^ x) (sym h ∙ add_comm 16446 k)
+      ∙ ap (λ (x : ℕ). m * x) (pow-add 2 k 16446) ∙ sym (mul_assoc m (2 ^ k) (2 ^ 16446))
+
+  pub above : 16446 + k ≡ e → whole_of (numerator m e) ≡ kept 0 (m * 2 ^ k)
+  unfolding whole_of
+  above h = rw (above_unit h, mul-mod_left (m * 2 ^ k) denominator, mul-div_cancel (m * 2 ^ k) denominator_pos)
+
+kept_left : (r q : ℕ) → (r ≡ 0 → ⊥) → None ≡ kept r q
+kept_left r q h = rw (ne_eqb r 0 h)
+
+kept_none : (r : ℕ) → None ≡ kept r 0
+kept_none r = by (eqb r 0)
+  where
+    by : (b : Bool) → ◌≡◌ {A = Option ℕ} None (cond (b && leb 1 0 && leb 0 4294967295) (Some 0) None)
+    by true = rw (lt-leb 1 0 (omega arith))
+    by false = refl
+
+kept_large : (r q : ℕ) → 4294967295 < q → None ≡ kept r q
+kept_large r q h = rw (lt-leb q 4294967295 h, last_false (eqb r 0) (leb 1 q))
+
+kept-fit : (q : ℕ) → 1 ≤ q → q ≤ 4294967295 → Some q ≡ kept 0 q
+kept-fit q l h = rw (le-leb 1 q l, le-leb q 4294967295 h)
+
+-- whether it fits into 32 bits, as the conversion answers it
+kept_tried : {E : Type 0} (r q : ℕ) (t : Result ℕ E) → r ≡ 0 → 1 ≤ q → OkIff t (q < 4294967296) q → result_ok t ≡ kept r q
+kept_tried r q (Ok x) z l o = rw (z, o.1) (kept-fit q l (omega (arith, o.0)))
+kept_tried r q (Err e) z l o = rw z (kept_large 0 q (omega arith))
+
+-- The code's ways out: k is how far the field is from 16,446, and u the power of two as the code has it.
+power : (k u : ℕ) → k < 64 → u ≡ (1 * 2 ^ k) % 2 ^ 64 → u ≡ 2 ^ k
+power k u l e = e ∙ shl_exact {a = 1} 1 k 64 (omega arith) (omega arith) ∙ one-mul (2 ^ k)
+
+module _ (m e : ℕ) where
+  pub none_of_zero : m ≡ 0 → None ≡ whole_of (numerator m e)
+  none_of_zero h = rw h (zero-none e)
+
+  module _ (l : e < 16446) where
+    pub none_of_few : (16446 - e < 64 → ⊥) → m < 2 ^ 64 → None ≡ whole_of (numerator m e)
+    none_of_few h s =
+        let k : 64 ≤ 16446 - e = omega arith in
+        let p : m < 2 ^ (16446 - e) = lt_of_lt_of_le s (pow_mono k) in
+        rw (below m e (16446 - e) (omega arith), div-eq_of_lt p) (kept_none (m % 2 ^ (16446 - e)))
+
+    module _ (u : ℕ) (s : 16446 - e < 64) (eu : u ≡ (1 * 2 ^ (16446 - e)) % 2 ^ 64) where
+      parted : whole_of (numerator m e) ≡ kept (m % u) (m / u)
+      parted = below m e (16446 - e) (omega arith) ∙ rw (power (16446 - e) u s eu)
+
+      pub none_of_left : (m % u ≡ 0 → ⊥) → None ≡ whole_of (numerator m e)
+      none_of_left h = rw parted (kept_left (m % u) (m / u) h)
+
+      pub part_tried : {E : Type 0} (t : Result ℕ E) → m % u ≡ 0 → (m ≡ 0 → ⊥) → OkIff t (m / u < 4294967296) (m / u) → result_ok t ≡ whole_of (numerator m e)
+      part_tried t z n o =
+          let d : m / u * u + m % u ≡ m = div-add-mod' m u in
+          let q : (m / u ≡ 0 → ⊥) = λ y. n (sym d ∙ rw (y, z) (add-zero (0 * u) ∙ zero-mul u)) in
+          rw parted (kept_tried (m % u) (m / u) t z (omega arith) o)
+
+  module _ (g : 16446 ≤ e) (n : m ≡ 0 → ⊥) where
+    pub none_of_many : (e - 16446 < 64 → ⊥) → None ≡ whole_of (numerator m e)
+    none_of_many h =
+        let k : 64 ≤ e - 16446 = omega arith in
+        let p : 2 ^ 64 ≤ 2 ^ (e - 16446) = pow_mono k in
+        let q : 1 ≤ m = omega arith in
+        let r : 1 * 2 ^ 64 ≤ m * 2 ^ (e - 16446) = mul-le-mul q p in
+        let l : 4294967295 < m * 2 ^ (e - 16446) = omega arith in
+        rw (above m e (e - 16446) (omega arith)) (kept_large 0 (m * 2 ^ (e - 16446)) l)
+
+    module _ (u : ℕ) (s : e - 16446 < 64) (eu : u ≡ (1 * 2 ^ (e - 16446)) % 2 ^ 64) where
+      timed : whole_of (numerator m e) ≡ kept 0 (m * u)
+      timed = above m e (e - 16446) (omega arith) ∙ rw (power (e - 16446) u s eu)
+
+      pub none_of_large : (m * u < 2 ^ 64 → ⊥) → None ≡ whole_of (numerator m e)
+      none_of_large h = rw timed (kept_large 0 (m * u) (omega arith))
+
+      pub times_tried : {E : Type 0} (t : Result ℕ E) (q : ℕ) → q ≡ m * u → OkIff t (q < 4294967296) q → result_ok t ≡ whole_of (numerator m e)
+      times_tried t q eq o =
+          let a : 0 < u = rw (power (e - 16446) u s eu) (pow_pos (e - 16446)) in
+          let b : 0 < m * u = mul-pos (omega arith) a in
+          rw (timed, ← eq) (kept_tried 0 q t refl (omega arith) o)
 
 -- the code's loops keep the numerator
 pub halve : (m e : ℕ) → m % 2 ≡ 0 → numerator (m / 2) (e + 1) ≡ numerator m e
@@ -124,24 +233,13 @@ large_none m e l h =
     let j : ℕ = e - 16446 - 1 in
     let q : 16446 + suc j ≡ e = omega arith in
     let d : m * 2 ^ e / 2 ^ 16446 ≡ m * (2 ^ j * 2) = rw q at (doubles m 16446 j) in
-    whole_big (m * 2 ^ e) (rw d (grown m (2 ^ j) (two_pos j) h))
-
-nil : (e : ℕ) → numerator 0 e ≡ 0
-unfolding numerator
-nil e = omega arith
-
-pub zero-none : (e : ℕ) → None ≡ whole_of (numerator 0 e)
-zero-none e = range-zero 0 refl ∙ ap whole_of (nil 16446 ∙ sym (nil e))
+    whole_big (m * 2 ^ e) (rw d (grown m (2 ^ j) (pow_pos j) h))
 
 -- the rate's own branches
 module _ (sign e m : ℕ) where
   pub negative : (sign ≡ 0 → ⊥) → None ≡ rate_of sign e m
   unfolding rate_of
   negative h = rw (ne_eqb sign 0 h)
-
-  pub nothing : sign ≡ 0 → m ≡ 0 → None ≡ rate_of sign e m
-  unfolding rate_of
-  nothing h z = rw (eq-eqb sign 0 h, z) (zero-none e)
 
   pub positive : sign ≡ 0 → whole_of (numerator m e) ≡ rate_of sign e m
   unfolding rate_of
@@ -158,7 +256,7 @@ exactly_rate sign e m r x =
     let n : (r ≡ 0 → ⊥) = λ z. omega (arith, x.least) in
     sym (positive sign e m x.clear) ∙ rw x.equal (sym (range_whole r n x.most))
 
-taken : (a : Bool) (x r : ℕ) → pick_rate a (Whole x) None ≡ Some r → (a ≡ true) × (x ≡ r)
+taken : (a : Bool) (x r : ℕ) → cond a (Some x) None ≡ Some r → (a ≡ true) × (x ≡ r)
 taken true x r e = (refl, cc)
 taken false x r e = cc
 
@@ -175,7 +273,7 @@ whole_exactly n r e =
     let g : n / denominator ≤ 4294967295 = leb-true _ _ a.1 in
     (sym d2 ∙ ap (λ (x : ℕ). x * denominator) t.1, rw t.1 at l, rw t.1 at g)
 
-signed : (b : Bool) (w : Option ℕ) (r : ℕ) → pick_rate b w None ≡ Some r → (b ≡ true) × (w ≡ Some r)
+signed : (b : Bool) (w : Option ℕ) (r : ℕ) → cond b w None ≡ Some r → (b ≡ true) × (w ≡ Some r)
 signed true w r e = (refl, e)
 signed false w r e = cc
 
