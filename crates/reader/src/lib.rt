@@ -194,6 +194,6 @@ pub fn inspect(
 ) -> Result<Facts, Refusal>
     ensures { result ≡ inspection_of (profile_verdict profile file.now) (model file.now) usage number at }
 {
-    let judged = judge_file(file, profile)?;
-    Ok(parts::facts(file, judged, usage as u64, number as u64, at))
+    let whole = judge_file(file, profile)?;
+    Ok(parts::facts(file, whole, usage as u64, number as u64, at))
 }

@@ -13,8 +13,7 @@ slice_bounds-result-end c = let r = c.in-Ok.found in omega (arith, part_in _ _ _
 
 pub returns-in-Ok : goal.returns-in-Ok
 returns-in-Ok c =
-    let r = c.in-Ok.found in
-    let q : r.start + r.length - r.start ≡ r.length = omega arith in
+    let q : c.in-Ok.found.start + c.in-Ok.found.length - c.in-Ok.found.start ≡ c.in-Ok.found.length = omega arith in
     let l = sym c.lookup.ensures ∙ c.in-Ok.is in
     (rw (l, q), rw l refl)
 
