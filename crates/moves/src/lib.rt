@@ -21,11 +21,17 @@ pub struct Move {
     pub minus: u32,
 }
 
-// An index entry by its numbers.
+// What an entry is named by: its usage, one of the four or not, and its number.
 #[derive(Clone, Copy)]
-pub struct Entry {
+pub struct Name {
     pub usage: u32,
     pub number: u32,
+}
+
+// An index entry as a record keeps it.
+#[derive(Clone, Copy)]
+pub struct Entry {
+    pub name: Name,
     pub start: u32,
 }
 
@@ -123,12 +129,15 @@ pub fn put_record(jrn: &mut [u8], at: usize, kind: u8, e: Entry, place: u64, t: 
     ensures { jrn.new ≡ noted jrn.old at (rec_bytes (record_of kind e place t d.now)) }
 {
     let m = d.len();
-    let usage = e.usage as u64;
-    let number = e.number as u64;
-    let start = e.start as u64;
     put8(jrn, at, kind);
-    put_words(jrn, at + 1, usage, number, place);
-    put_words(jrn, at + 13, start, t, m as u64);
+    put_words(
+        jrn,
+        at + 1,
+        e.name.usage as u64,
+        e.name.number as u64,
+        place,
+    );
+    put_words(jrn, at + 13, e.start as u64, t, m as u64);
     copy_in(jrn, at + 25, d);
     put32(jrn, at + 25 + m, 25 + m as u64);
 }

@@ -11,7 +11,7 @@ ghost use Rattle.rewrite.specs.Rewriting.{Stands, closed, resized, Removable, Re
 ghost use Rattle.edits.specs.Starts.{behind};
 ghost use Rattle.moves.specs.Moves.{starts_moved};
 
-use moves::shift;
+use moves::{Name, shift};
 use std::cmp::Ordering;
 
 // The file that a buffer begins with: its length, and how many entries its index has.
@@ -44,13 +44,6 @@ pub struct Part {
 pub struct Gap {
     pub place: usize,
     pub at: usize,
-}
-
-// What an entry is asked for by.
-#[derive(Clone, Copy)]
-pub struct Name {
-    pub usage: u32,
-    pub number: u32,
 }
 
 // How many bytes a chunk with this data takes, with the padding.
