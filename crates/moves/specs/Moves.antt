@@ -6,9 +6,9 @@ use Rattle.moves.specs.declared.Move.{Move}
 use Rattle.moves.specs.declared.Entry.{Entry}
 use Rattle.edits.specs.Journal.{Rec}
 
--- a start behind the limit grows and falls by one pair of numbers, any other by the other pair
+-- a start behind the limit moves by one step, any other by the other
 unfoldable pub relocated : Move → ℕ → ℕ
-relocated m t = cond (ltb m.limit t) (t + m.grow - m.fall) (t + m.plus - m.minus)
+relocated m t = cond (ltb m.limit t) (t + m.behind.up - m.behind.down) (t + m.others.up - m.others.down)
 
 -- n entries from offset at on: each start becomes f of it
 unfoldable pub starts_moved : (ℕ → ℕ) → ℕ → ℕ → List ℕ → List ℕ

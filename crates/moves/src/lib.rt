@@ -11,14 +11,28 @@ ghost use Rattle.moves.specs.Moves.{relocated, starts_moved, record_of};
 
 pub mod shift;
 
-// How starts move: one behind `limit` by `grow` and `fall`, any other by `plus` and `minus`.
+// How far a start moves: up, then down, at most to 0.
+#[derive(Clone, Copy)]
+pub struct Step {
+    pub up: u32,
+    pub down: u32,
+}
+
+impl Step {
+    fn moved(self, t: u64) -> u64
+        requires { t < 4294967296 }
+        ensures { result ≡ t + self.up - self.down }
+    {
+        (t + self.up as u64).saturating_sub(self.down as u64)
+    }
+}
+
+// How starts move: one behind `limit` by a step of its own.
 #[derive(Clone, Copy)]
 pub struct Move {
     pub limit: u32,
-    pub grow: u32,
-    pub fall: u32,
-    pub plus: u32,
-    pub minus: u32,
+    pub behind: Step,
+    pub others: Step,
 }
 
 // What an entry is named by: its usage, one of the four or not, and its number.
@@ -66,9 +80,9 @@ impl Move {
         ensures { result ≡ relocated self t }
     {
         if (self.limit as u64) < t {
-            return (t + self.grow as u64).saturating_sub(self.fall as u64);
+            return self.behind.moved(t);
         }
-        (t + self.plus as u64).saturating_sub(self.minus as u64)
+        self.others.moved(t)
     }
 }
 

@@ -32,14 +32,14 @@ use Rattle.rewrite.proofs.Writes.{entries-append, entries-cons, length-entry, en
 use Rattle.rewrite.proofs.Writes.{stands_length}
 
 -- starts at or behind s: behind s - 1
-pub relocated-risen : (m : Move) (s a : ℕ) → 1 ≤ s → m.limit ≡ s - 1 → m.grow ≡ 12 + a → m.fall ≡ 0 → m.plus ≡ 12 → m.minus ≡ 0 → relocated m ≡ risen s a
+pub relocated-risen : (m : Move) (s a : ℕ) → 1 ≤ s → m.limit ≡ s - 1 → m.behind.up ≡ 12 + a → m.behind.down ≡ 0 → m.others.up ≡ 12 → m.others.down ≡ 0 → relocated m ≡ risen s a
 unfolding relocated
 relocated-risen m s a h p q r t w = λ i x. all x i
   where
     e : suc (s - 1) ≡ s
     e = omega arith
 
-    all : (x : ℕ) → cond (leb (suc m.limit) x) (x + m.grow - m.fall) (x + m.plus - m.minus) ≡ risen s a x
+    all : (x : ℕ) → cond (leb (suc m.limit) x) (x + m.behind.up - m.behind.down) (x + m.others.up - m.others.down) ≡ risen s a x
     all x = rw (p, q, r, t, w, e, sub-zero (x + (12 + a)), sub-zero (x + 12))
 
 -- the leaves, one after another, on any buffer that holds a front, entries and two parts behind them

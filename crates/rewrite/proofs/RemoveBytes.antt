@@ -31,11 +31,11 @@ use Rattle.moves.specs.Shift.{slid}
 use Rattle.rewrite.specs.Rewriting.{Stands}
 use Rattle.rewrite.proofs.Writes.{entries-append, entries-cons, length-entry, left_behind, slid_left, starts_moved_lem, written-shorter, stands_length}
 
-pub relocated-fallen : (m : Move) (s a : ℕ) → m.limit ≡ s → m.grow ≡ 0 → m.fall ≡ 12 + a → m.plus ≡ 0 → m.minus ≡ 12 → relocated m ≡ fallen s a
+pub relocated-fallen : (m : Move) (s a : ℕ) → m.limit ≡ s → m.behind.up ≡ 0 → m.behind.down ≡ 12 + a → m.others.up ≡ 0 → m.others.down ≡ 12 → relocated m ≡ fallen s a
 unfolding relocated
 relocated-fallen m s a p q r t w = λ i x. all x i
   where
-    all : (x : ℕ) → cond (ltb m.limit x) (x + m.grow - m.fall) (x + m.plus - m.minus) ≡ fallen s a x
+    all : (x : ℕ) → cond (ltb m.limit x) (x + m.behind.up - m.behind.down) (x + m.others.up - m.others.down) ≡ fallen s a x
     all x = rw (p, q, r, t, w, add-zero x)
 
 without_is : {A : Type 0} (i : ℕ) (l : List A) → take i l ++ drop (suc i) l ≡ without i l

@@ -34,11 +34,11 @@ use Rattle.moves.proofs.MoveLaws.{starts_stay}
 use Rattle.rewrite.proofs.Content.{written-first, put_written, starts_written, Resized, resized-written}
 use Rattle.rewrite.proofs.Writes.{last_apart}
 
-pub relocated-behind : (m : Move) (s a b : ℕ) → m.limit ≡ s → m.grow ≡ b → m.fall ≡ a → m.plus ≡ 0 → m.minus ≡ 0 → relocated m ≡ behind s a b
+pub relocated-behind : (m : Move) (s a b : ℕ) → m.limit ≡ s → m.behind.up ≡ b → m.behind.down ≡ a → m.others.up ≡ 0 → m.others.down ≡ 0 → relocated m ≡ behind s a b
 unfolding relocated
 relocated-behind m s a b p q r t w = λ i x. all x i
   where
-    all : (x : ℕ) → cond (ltb m.limit x) (x + m.grow - m.fall) (x + m.plus - m.minus) ≡ behind s a b x
+    all : (x : ℕ) → cond (ltb m.limit x) (x + m.behind.up - m.behind.down) (x + m.others.up - m.others.down) ≡ behind s a b x
     all x = rw (p, q, r, t, w, add-zero x, sub-zero x)
 
 -- a part of the same size: no start moves, and no byte

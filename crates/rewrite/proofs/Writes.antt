@@ -116,7 +116,7 @@ starts_moved_lem f p (x ∷ es) s at e ok =
     ∙ append_assoc p y (entries_bytes (map (moved f) es) ++ s) ∙ ap (λ (l : List ℕ). p ++ l) (sym (append_assoc y (entries_bytes (map (moved f) es)) s))
 
 -- starts that all move alike
-pub relocated_alike : (m : Move) (k : ℕ) → m.grow ≡ k → m.fall ≡ 0 → m.plus ≡ k → m.minus ≡ 0 → relocated m ≡ (λ (t : ℕ). t + k)
+pub relocated_alike : (m : Move) (k : ℕ) → m.behind.up ≡ k → m.behind.down ≡ 0 → m.others.up ≡ k → m.others.down ≡ 0 → relocated m ≡ (λ (t : ℕ). t + k)
 unfolding relocated
 relocated_alike m k a b c d = λ i t. all t i
   where
@@ -124,7 +124,7 @@ relocated_alike m k a b c d = λ i t. all t i
     both t true = sub-zero (t + k)
     both t false = sub-zero (t + k)
 
-    all : (t : ℕ) → cond (ltb m.limit t) (t + m.grow - m.fall) (t + m.plus - m.minus) ≡ t + k
+    all : (t : ℕ) → cond (ltb m.limit t) (t + m.behind.up - m.behind.down) (t + m.others.up - m.others.down) ≡ t + k
     all t = rw (a, b, c, d) (both t (ltb m.limit t))
 
 -- a file that is no shorter than the one it replaces

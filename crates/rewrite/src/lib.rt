@@ -11,7 +11,7 @@ ghost use Rattle.rewrite.specs.Rewriting.{Stands, closed, resized, Removable, Re
 ghost use Rattle.edits.specs.Starts.{behind};
 ghost use Rattle.moves.specs.Moves.{starts_moved};
 
-use moves::{Name, shift};
+use moves::{Move, Name, Step, shift};
 use std::cmp::Ordering;
 
 // The file that a buffer begins with: its length, and how many entries its index has.
@@ -88,12 +88,13 @@ pub fn remove_bytes(buf: &mut [u8], extent: Extent, part: Part)
         buf,
         24,
         extent.count,
-        moves::Move {
+        Move {
             limit: part.start as u32,
-            grow: 0,
-            fall: gone as u32,
-            plus: 0,
-            minus: 12,
+            behind: Step {
+                up: 0,
+                down: gone as u32,
+            },
+            others: Step { up: 0, down: 12 },
         },
     );
     shift::shift_left(buf, 36 + 12 * part.place, part.start, 12);
@@ -127,12 +128,13 @@ fn move_behind(buf: &mut [u8], count: usize, start: usize, old: usize, new: usiz
         buf,
         24,
         count,
-        moves::Move {
+        Move {
             limit: start as u32,
-            grow: new as u32,
-            fall: old as u32,
-            plus: 0,
-            minus: 0,
+            behind: Step {
+                up: new as u32,
+                down: old as u32,
+            },
+            others: Step { up: 0, down: 0 },
         },
     );
 }
@@ -169,12 +171,13 @@ pub fn insert_bytes(buf: &mut [u8], extent: Extent, gap: Gap, name: Name, kind: 
         buf,
         24,
         extent.count,
-        moves::Move {
+        Move {
             limit: (gap.at - 1) as u32,
-            grow: (12 + size) as u32,
-            fall: 0,
-            plus: 12,
-            minus: 0,
+            behind: Step {
+                up: (12 + size) as u32,
+                down: 0,
+            },
+            others: Step { up: 12, down: 0 },
         },
     );
     shift::shift_right(buf, gap.at, extent.len, 12 + size);
@@ -203,12 +206,10 @@ pub fn insert_entry(buf: &mut [u8], extent: Extent, gap: Gap, name: Name)
         buf,
         24,
         extent.count,
-        moves::Move {
+        Move {
             limit: 0,
-            grow: 12,
-            fall: 0,
-            plus: 12,
-            minus: 0,
+            behind: Step { up: 12, down: 0 },
+            others: Step { up: 12, down: 0 },
         },
     );
     shift::shift_right(buf, entry, extent.len, 12);

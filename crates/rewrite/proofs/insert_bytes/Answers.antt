@@ -12,7 +12,7 @@ returns c =
     let b = a.buf.now in
     let p = c.requires in
     let sz = 8 + (length a.d.now + length a.d.now % 2) in
-    let mv : Move = record { limit = a.gap.at - 1; grow = 12 + sz; fall = 0; plus = 12; minus = 0 } in
+    let mv : Move = record { limit = a.gap.at - 1; behind = record { up = 12 + sz; down = 0 }; others = record { up = 12; down = 0 } } in
     rw (
       c.put_heading.ensures,
       c.behind.ensures,

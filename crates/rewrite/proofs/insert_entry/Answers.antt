@@ -9,7 +9,7 @@ returns c =
     let a = c.args in
     let b = a.buf.now in
     let p = c.requires in
-    let mv : Move = record { limit = 0; grow = 12; fall = 0; plus = 12; minus = 0 } in
+    let mv : Move = record { limit = 0; behind = record { up = 12; down = 0 }; others = record { up = 12; down = 0 } } in
     rw (
       c.put_heading.ensures,
       c.behind.ensures,

@@ -17,6 +17,6 @@ returns-then-old-new c =
 pub returns : goal.returns
 returns c =
     let a = c.args in
-    let mv : Move = record { limit = a.start; grow = a.new; fall = a.old; plus = 0; minus = 0 } in
+    let mv : Move = record { limit = a.start; behind = record { up = a.new; down = a.old }; others = record { up = 0; down = 0 } } in
     c.move_starts.ensures ∙ ap (λ (f : ℕ → ℕ). starts_moved f a.count 24 a.buf.now) (relocated-behind mv a.start a.old
     a.new refl refl refl refl refl)

@@ -12,7 +12,7 @@ returns c =
     let a = c.args in
     let b = a.buf.now in
     let p = c.requires in
-    let mv : Move = record { limit = a.part.start; grow = 0; fall = 12 + a.part.size; plus = 0; minus = 12 } in
+    let mv : Move = record { limit = a.part.start; behind = record { up = 0; down = 12 + a.part.size }; others = record { up = 0; down = 12 } } in
     let cleared : c.clear.new.buf ≡ noted
     c.shift_left-2.new.buf (a.extent.len - (12 + a.part.size))
     (replicate (12 + a.part.size) 0) = c.clear.ensures in
