@@ -7,7 +7,7 @@ use native.Mathlib.Omega.{arith}
 use Rattle.std.specs.Prelude.{Result, Ok, Err}
 use Rattle.blorb.specs.declared.refusal.Refusal.{Refusal}
 use Rattle.blorb.specs.Refusals.{Refused, verdict_of}
-use Rattle.blorb.specs.Verdict.{Verdict, accept, refuse}
+use Rattle.blorb.specs.Verdict.{accept}
 
 pub same_refusal : {A : Type 0} {a b k p : ℕ} → ◌≡◌ {A = Result A Refusal} (Refused a b) (Refused k p) → (a ≡ k) × (b ≡ p)
 same_refusal {A} {a} {b} {k} {p} e =

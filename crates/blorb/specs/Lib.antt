@@ -1,6 +1,5 @@
 pub mod Bytes
 pub mod All
-pub mod Little
 pub mod Tags
 pub mod Format
 pub mod Layout

@@ -22,6 +22,9 @@ use Rattle.blorb.specs.Tags.{
   MAGS,
   ADVS,
   EXEC,
+  WAV,
+  MIDI,
+  MP3,
 }
 use Rattle.blorb.specs.declared.Usage.{Usage}
 use Rattle.blorb.specs.declared.Usage.TheVariants.{Pict, Snd, Data, Exec}
@@ -50,6 +53,10 @@ pict_type_of t m = eqb t JPEG || (eqb t PNG || (eqb t Rect && eqb m 8))
 
 abbrev pub snd_type_of : ℕ → Bool
 snd_type_of t = eqb t OGGV || (eqb t MOD || eqb t SONG)
+
+-- what ADRIFT allows besides
+abbrev pub adrift_sound_type_of : ℕ → Bool
+adrift_sound_type_of t = eqb t WAV || (eqb t MIDI || eqb t MP3)
 
 abbrev pub data_type_of : ℕ → Bool
 data_type_of t = eqb t TEXT || eqb t BINA

@@ -5,12 +5,11 @@ mod refusal;
 
 ghost use Rattle.std.specs.Prelude.{◌≡◌, ◌+◌, ◌≤◌, ◌<◌, ◌^◌, ◌&&◌, eqb, length, drop};
 ghost use Rattle.blorb.specs.Bytes.{rd32};
-ghost use Rattle.blorb.specs.Little.{Little, swapped};
 ghost use Rattle.blorb.specs.Format.{chunk_of};
 ghost use Rattle.blorb.specs.Lookup.{left_out_of};
 ghost use Rattle.blorb.specs.Rules.{plain_allows_of, adrift_allows_of, allows};
 ghost use Rattle.blorb.specs.declared.Usage.TheVariants.{Snd};
-ghost use Rattle.blorb.specs.Usages.{code_of, usage_of, pict_type_of, snd_type_of, data_type_of, exec_type_of};
+ghost use Rattle.blorb.specs.Usages.{code_of, usage_of, pict_type_of, snd_type_of, data_type_of, exec_type_of, adrift_sound_type_of};
 
 pub use refusal::{Fault, Refusal};
 
@@ -31,33 +30,12 @@ pub struct Entry {
     pub start: u32,
 }
 
-fn wide(x: u8) -> u64
-    ensures { (result ≡ x) × (result < 256) }
-{
-    x as u64
-}
-
-// The four bytes at `at`, the first the lowest: one load on this processor.
-fn le32_at(s: &[u8], at: usize) -> u64
-    requires { at + 4 ≤ length s.now }
-    ensures { Little s.now at result }
-{
-    wide(s[at]) + wide(s[at + 1]) * 256 + wide(s[at + 2]) * 65536 + wide(s[at + 3]) * 16777216
-}
-
-fn swap(v: u64) -> u64
-    requires { v < 2 ^ 32 }
-    ensures { result ≡ swapped v }
-{
-    v % 256 * 16777216 + v / 256 % 256 * 65536 + v / 65536 % 256 * 256 + v / 16777216
-}
-
 // The number at `at`, whose four bytes lie in the slice.
 pub fn be32_at(s: &[u8], at: usize) -> u64
     requires { at + 4 ≤ length s.now }
     ensures { (result ≡ rd32 (drop at s.now)) × (result < 2 ^ 32) }
 {
-    swap(le32_at(s, at))
+    u32::from_be_bytes([s[at], s[at + 1], s[at + 2], s[at + 3]]) as u64
 }
 
 // Chunk types as the numbers in their four bytes.
@@ -140,28 +118,28 @@ fn pict_type(t: u64, m: u64) -> bool
 fn snd_type(t: u64) -> bool
     ensures { result ≡ snd_type_of t }
 {
-    (t == OGGV) | ((t == MOD) | (t == SONG))
+    matches!(t, OGGV | MOD | SONG)
+}
+
+fn adrift_sound_type(t: u64) -> bool
+    ensures { result ≡ adrift_sound_type_of t }
+{
+    matches!(t, WAV | MIDI | MP3)
 }
 
 fn data_type(t: u64) -> bool
     ensures { result ≡ data_type_of t }
 {
-    (t == TEXT) | (t == BINA)
+    matches!(t, TEXT | BINA)
 }
 
 fn exec_type(t: u64) -> bool
     ensures { result ≡ exec_type_of t }
 {
-    (t == ZCOD)
-        | ((t == GLUL)
-            | ((t == TAD2)
-                | ((t == TAD3)
-                    | ((t == HUGO)
-                        | ((t == ALAN)
-                            | ((t == ADRI)
-                                | ((t == LEVE)
-                                    | ((t == AGT)
-                                        | ((t == MAGS) | ((t == ADVS) | (t == EXEC)))))))))))
+    matches!(
+        t,
+        ZCOD | GLUL | TAD2 | TAD3 | HUGO | ALAN | ADRI | LEVE | AGT | MAGS | ADVS | EXEC
+    )
 }
 
 // Rule 5 for a sound: a 'FORM' must hold 'AIFF'.
@@ -186,7 +164,7 @@ impl Usage {
 
     pub const EXEC: u64 = 0x45786563;
 
-    // The usage that four bytes name, read as a number.
+    // The usage that four bytes name, read as a number. No TryFrom: of a code that names none there is nothing to say.
     pub fn of_code(code: u64) -> Option<Usage>
         ensures { result ≡ usage_of code }
     {
@@ -235,7 +213,7 @@ impl Usage {
     {
         match self {
             Usage::Pict => kind == GIF,
-            Usage::Snd => (kind == WAV) | ((kind == MIDI) | (kind == MP3)),
+            Usage::Snd => adrift_sound_type(kind),
             Usage::Data => false,
             Usage::Exec => false,
         }

@@ -1,5 +1,5 @@
 -- Told the usage, only its own part of the definition is left: the code's tests, one by one, for a picture or a sound, none for data and executables.
-use mathlib.Core.Path.{◌≡◌}
+use mathlib.Core.Path.{◌≡◌, ◌∙◌}
 use mathlib.Core.Bool.{◌||◌, or-false}
 use lib.Dec.{eqb}
 use Rattle.blorb.specs.Tags.{GIF, WAV, MIDI, MP3}
@@ -20,7 +20,7 @@ unfolding adrift_allows_of one_of
 returns-in-Snd c =
     let t = c.args.kind in
     let tests : (eqb t WAV || (eqb t MIDI || eqb t MP3)) ≡ adrift_allows_of (code_of Snd) t = simp or-false in
-    rw c.in-Snd.is tests
+    rw c.in-Snd.is (c.adrift_sound_type.ensures ∙ tests)
 
 pub returns-in-Data : goal.returns-in-Data
 unfolding adrift_allows_of
