@@ -8,11 +8,12 @@ use native.Mathlib.Omega.{arith}
 use mathlib.Core.Logic.{◌⊎◌, inl, inr}
 use lib.ListN.{get_or, drop}
 use lib.Seq.{get_or-drop}
-use lib.Dec.{leb}
-use borrow.Author.Tests.{le-leb, lt-leb, lt-ltb, le-ltb, eq-eqb, ne_eqb}
+use lib.Dec.{leb, ltb}
+use borrow.Author.Tests.{le-leb, lt-leb, lt-ltb, le-ltb, ne_eqb}
 use Rattle.blorb.proofs.UsageLaws.{or-false}
 use Rattle.blorb.proofs.NumberLaws.{below?}
 use Rattle.utf8.specs.Utf8.{range, in_range, tail_byte, forms, begins, form_length, char_length}
+use Rattle.utf8.specs.Runs.{tail}
 use Rattle.utf8.specs.Leads.{by_lead, by_tests, two_bytes_of, low_second_of, high_second_of}
 
 -- tests with one result are one test
@@ -236,26 +237,6 @@ lead_any a b c d g h = from_two (below? a 224)
     from_two (inl l) = lead_two a b c d g (omega arith)
     from_two (inr l) = from_224 (below? a 225) l
 
--- the range of the second byte, case by case
-module _ (a : ℕ) where
-  pub low_224 : a ≡ 224 → 160 ≡ low_second_of a
-  low_224 e = rw (eq-eqb a 224 e)
-
-  pub low_240 : (a ≡ 224 → ⊥) → a ≡ 240 → 144 ≡ low_second_of a
-  low_240 n e = rw (ne_eqb a 224 n, eq-eqb a 240 e)
-
-  pub low_else : (a ≡ 224 → ⊥) → (a ≡ 240 → ⊥) → 128 ≡ low_second_of a
-  low_else n m = rw (ne_eqb a 224 n, ne_eqb a 240 m)
-
-  pub high_237 : a ≡ 237 → 159 ≡ high_second_of a
-  high_237 e = rw (eq-eqb a 237 e)
-
-  pub high_244 : (a ≡ 237 → ⊥) → a ≡ 244 → 143 ≡ high_second_of a
-  high_244 n e = rw (ne_eqb a 237 n, eq-eqb a 244 e)
-
-  pub high_else : (a ≡ 237 → ⊥) → (a ≡ 244 → ⊥) → 191 ≡ high_second_of a
-  high_else n m = rw (ne_eqb a 237 n, ne_eqb a 244 m)
-
 -- the characters of a text: of one byte, none by its first byte, and by the first byte and those behind it
 module _ (s : List ℕ) (at a : ℕ) (ea : a ≡ get_or s at 256) where
   pub one_char : a < 128 → 1 ≡ char_length (drop at s)
@@ -270,3 +251,12 @@ module _ (s : List ℕ) (at a : ℕ) (ea : a ≡ get_or s at 256) where
 
   pub by_lead_lem : 194 ≤ a → a ≤ 244 → char_length (drop at s) ≡ by_lead a (get_or s (at + 1) 256) (get_or s (at + 2) 256) (get_or s (at + 3) 256)
   by_lead_lem g h = char_at s at ∙ rw (← ea) (lead_any a (get_or s (at + 1) 256) (get_or s (at + 2) 256) (get_or s (at + 3) 256) g h)
+
+  pub by_two : 194 ≤ a → a < 224 → char_length (drop at s) ≡ cond (tail s (at + 1)) 2 0
+  by_two g h = by_lead_lem g (omega arith) ∙ rw (lt-ltb a 224 h)
+
+  pub by_long : 223 < a → a ≤ 244
+      → char_length (drop at s)
+      ≡ cond (in_range (range (low_second_of a) (high_second_of a)) (get_or s (at + 1) 256))
+      (cond (tail s (at + 2)) (cond (ltb a 240) 3 (cond (tail s (at + 3)) 4 0)) 0) 0
+  by_long g h = by_lead_lem (omega arith) h ∙ rw (le-ltb a 224 (omega arith))

@@ -30,9 +30,6 @@ two_inside c e = char_inside _ _ 2 (one_of_two c e) c.loop-at.invariant.inside
 pub loop-at-init : goal.loop-at-init
 loop-at-init c = reached_first _ _ _ c.requires.0 c.requires.1
 
-pub overflow_cast-a : goal.overflow_cast-a
-overflow_cast-a c = omega (arith, c.type_inv.s c.loop-at.at)
-
 pub loop-at-preserved-then-a-lt128 : goal.loop-at-preserved-then-a-lt128
 loop-at-preserved-then-a-lt128 c =
     let l = c.loop-at in
@@ -59,27 +56,24 @@ loop-at-preserved-then-a-lt224 c =
     reached_next _ _ _ _ l.invariant c.loop-at-test.true 2
     (one_of_two (goal.at.loop-at-preserved-then-a-lt224 c).After-two_bytes c.if-not-two_bytes.false) (λ e. omega arith)
 
-pub long_char-n-requires : goal.long_char-n-requires
-long_char-n-requires c =
+pub long_char-requires : goal.long_char-requires
+long_char-requires c =
     let s = c.args.s.now in
-    let inside = there (goal.at.long_char-n-requires c).In-loop-at in
+    let inside = there (goal.at.long_char-requires c).In-loop-at in
     (inside, same_byte s c.loop-at.at 0 256 inside, omega (arith, c.if-a-lt224.false))
 
-pub returns-then-n-eq0 : goal.returns-then-n-eq0
-returns-then-n-eq0 c =
-    until_stuck _ _ _ _ c.loop-at.invariant (sym c.if-n-eq0.true ∙ c.long_char-n.ensures)
+pub returns-in_default : goal.returns-in_default
+returns-in_default c = until_stuck _ _ _ _ c.loop-at.invariant (sym c.in_default.ensures)
 
 pub overflow_add-at-in-loop-at : goal.overflow_add-at-in-loop-at
 overflow_add-at-in-loop-at c =
-    omega (arith, char_inside _ _ _ c.long_char-n.ensures c.loop-at.invariant.inside)
-
-pub loop-at-smaller : goal.loop-at-smaller
-loop-at-smaller c = omega (arith, c.if-n-eq0.false, c.loop-at-test.true)
+    omega (arith, char_inside _ _ _ (sym c.in-Some.ensures.0) c.loop-at.invariant.inside)
 
 pub loop-at-preserved : goal.loop-at-preserved
 loop-at-preserved c =
     let l = c.loop-at in
-    reached_next _ _ _ _ l.invariant c.loop-at-test.true _ c.long_char-n.ensures c.if-n-eq0.false
+    let some : 0 < c.in-Some.n = c.in-Some.ensures.1 in
+    reached_next _ _ _ _ l.invariant c.loop-at-test.true _ (sym c.in-Some.ensures.0) (λ e. omega arith)
 
 pub returns : goal.returns
 returns c = until_there _ _ _ _ c.loop-at.invariant c.loop-at-test.false

@@ -1,19 +1,15 @@
 -- Below 194 no first byte stands; from there to 223 the table asks only for a tail byte.
-use mathlib.Core.Path.{◌≡◌, sym, ◌∙◌}
-use native.Mathlib.Omega.{arith}
-use borrow.Author.Tests.{lt-ltb}
-use Rattle.utf8.specs.Utf8.{in_range, tail_byte}
-use Rattle.utf8.proofs.FormLaws.{few, by_lead_lem}
+use Rattle.std.proofs.Common.{sym, ◌∙◌, arith}
+use borrow.Author.Tests.{lt-leb}
+use Rattle.utf8.proofs.FormLaws.{few, by_two}
 use Rattle.utf8.proofs.two_bytes.Goals as goal
 
-pub returns-then-a-lt194 : goal.returns-then-a-lt194
-returns-then-a-lt194 c =
+pub returns-then-a-ge194 : goal.returns-then-a-ge194
+returns-then-a-ge194 c =
     let a = c.args in
-    sym (few a.s.now a.at a.a c.requires.1 c.requires.2 (omega (arith, c.if-a-lt194.true)))
+    by_two a.s.now a.at a.a c.requires.1 c.if-a-ge194.true c.requires.3 ∙ rw (← c.is_tail.ensures)
 
-pub returns : goal.returns
-returns c =
+pub returns-else-a-ge194 : goal.returns-else-a-ge194
+returns-else-a-ge194 c =
     let a = c.args in
-    let tail : c.within.result ≡ in_range tail_byte c.byte_at.result = c.within.ensures in
-    by_lead_lem a.s.now a.at a.a c.requires.1 (omega (arith, c.if-a-lt194.false)) (omega (arith, c.requires.3))
-    ∙ rw (lt-ltb a.a 224 c.requires.3, ← c.byte_at.ensures, ← tail)
+    rw (lt-leb 194 a.a c.if-a-ge194.false) (sym (few a.s.now a.at a.a c.requires.1 c.requires.2 (omega arith)))
