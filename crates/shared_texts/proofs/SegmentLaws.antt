@@ -140,8 +140,17 @@ module _ (s : List ℕ) where
         = ap (λ (x : ℕ). x * segment_size s) (omega arith) ∙ suc-mul (g + n) (segment_size s) in
         rw e (leads_join p _ _ w (set-joins (g + n) _ refl (a n (omega arith))))
 
-    pub over_word : (p g x : ℕ) → x ≡ g * segment_size s → AllSet known g → Leads s p x → Leads s p (x + 64 * segment_size s)
+    over_word : (p g x : ℕ) → x ≡ g * segment_size s → AllSet known g → Leads s p x → Leads s p (x + 64 * segment_size s)
     over_word p g x e a l = rw (border_64 g x (segment_size s) e) (over-set p g 64 (omega arith) a (subst (Leads s p) e l))
+
+    pub word_joined : (g x : ℕ) → x ≡ g * segment_size s → AllSet known g → Joined s x (x + 64 * segment_size s)
+    unfolding AllSet
+    word_joined g x e a =
+        let z : g + 0 ≡ g = omega arith in
+        let bit : bit_at known (g + 0) ≡ 1 = a 0 (omega arith) in
+        let one = set-joins g x e (subst (λ (y : ℕ). bit_at known y ≡ 1) z bit) in
+        let here_ : Leads s one.first x = record { start = one.first; runs = here s one.first; begins = one.begins } in
+        record { first = one.first; begins = one.begins; leads = over_word one.first g x e a here_ }
 
 -- the greatest word
 pub full_word : (known : List ℕ) (g : ℕ) → g % 64 ≡ 0 → get_or known (g / 64) 0 ≡ 18446744073709551615 → AllSet known g

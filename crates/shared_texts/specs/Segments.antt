@@ -20,6 +20,10 @@ pub record Joined (s : List ℕ) (x y : ℕ) : Type 0 where
   pub begins : Start s x first
   pub leads : Leads s first y
 
+-- what leads to x leads on to y
+abbrev pub LeadsOn : List ℕ → ℕ → ℕ → Type 0
+LeadsOn s x y = (p : ℕ) → Leads s p x → Leads s p y
+
 -- of a text from p to q: characters lead from p to r; r is behind q only where q lies inside a character
 pub record Passed (s : List ℕ) (p q r : ℕ) : Type 0 where
   pub runs : Runs s p r

@@ -5,7 +5,15 @@
 
 ghost use Rattle.std.specs.Prelude.{◌≡◌, true, ◌+◌, ◌*◌, ◌^◌, ◌≤◌, ◌<◌, length, eqb};
 ghost use Rattle.utf8.specs.Runs.{Start};
-ghost use Rattle.shared_texts.specs.Segments.{text_between, Leads, Joined, Passed, segment_size, bit_of, OneMore, Remembers, AllSet};
+ghost use Rattle.shared_texts.specs.Segments.{text_between, Leads, Joined, Passed, LeadsOn, segment_size, bit_of, OneMore, Remembers};
+
+use std::marker::Model;
+
+// How many words remember segments, a bit for each.
+pub const WORDS: usize = 896;
+
+// There are fewer whole segments than this.
+const SEGMENTS: usize = WORDS * 64;
 
 // The first offset from `x` on that can begin a character.
 fn first_start(texts: &[u8], x: usize) -> usize
@@ -25,10 +33,7 @@ fn leads(texts: &[u8], from: usize, stop: usize) -> bool
     ensures { result ≡ true → Leads texts.now from stop }
 {
     let end = utf8::good_until(texts, from, stop);
-    if end < stop {
-        return false;
-    }
-    !utf8::is_tail(texts, end)
+    end >= stop && !utf8::is_tail(texts, end)
 }
 
 // The same from the first offset from `x` on that can begin a character.
@@ -37,10 +42,7 @@ fn joins(texts: &[u8], x: usize, stop: usize) -> bool
     ensures { result ≡ true → Joined texts.now x stop }
 {
     let from = first_start(texts, x);
-    if stop < from {
-        return false;
-    }
-    leads(texts, from, stop)
+    from <= stop && leads(texts, from, stop)
 }
 
 fn is_set(word: u64, i: u64) -> bool
@@ -57,99 +59,114 @@ fn with_bit(word: u64, i: u64) -> u64
     word | 1u64 << i
 }
 
-// Whether the characters of segment `g`, which is from `x` to `stop`, lead into the next one; what is found is remembered.
-fn segment_joins(texts: &[u8], g: usize, x: usize, stop: usize, known: &mut [u64; 896]) -> bool
-    requires { (x ≡ g * segment_size texts.now) × (stop ≡ x + segment_size texts.now) × (stop ≤ length texts.now)
-        × (length known.old ≡ 896) × Remembers texts.now known.old }
-    ensures { ((result ≡ true → Joined texts.now x stop)) × (length known.new ≡ 896)
-        × Remembers texts.now known.new }
-{
-    let place = g / 64;
-    let i = (g % 64) as u64;
-    let word = known[place];
-    if is_set(word, i) {
-        return true;
-    }
-    if !joins(texts, x, stop) {
-        return false;
-    }
-    known[place] = with_bit(word, i);
-    true
+// A slice of texts, and what is remembered of it.
+pub struct Segments<'a> {
+    texts: &'a [u8],
+    known: &'a mut [u64; WORDS],
 }
 
-// Whether 64 segments from segment `g` on lie in the next `room` bytes and are all remembered.
-fn word_full(known: &[u64; 896], g: usize, size: usize, room: usize) -> bool
-    requires { (g < 57344) × (length known.now ≡ 896) × (size < 2 ^ 50) }
-    ensures { result ≡ true → (64 * size ≤ room) × AllSet known.now g }
-{
-    if room < 64 * size {
-        return false;
-    }
-    if g % 64 != 0 {
-        return false;
-    }
-    known[g / 64] == 18446744073709551615
+// In contracts it is the texts: what is remembered of them is right.
+impl<'a> Model for Segments<'a> {
+    ghost use Rattle.std.specs.Prelude.{◌≡◌, ℕ, List, length};
+    ghost use Rattle.shared_texts.specs.Segments.{Remembers};
+
+    ghost Value = { List ℕ };
+
+    ghost view = { λ s. s.texts.now };
+
+    ghost invariant = { λ s. (length s.known.now ≡ 896) × Remembers s.texts.now s.known.now };
 }
 
-// How far segments are joined from segment `first` on, which begins at `from`, without passing `q`. Characters lead there from `p`.
-fn pass(
-    texts: &[u8],
-    p: usize,
-    q: usize,
-    size: usize,
-    first: usize,
-    from: usize,
-    known: &mut [u64; 896],
-) -> usize
-    requires { (size ≡ segment_size texts.now) × (from ≡ first * size) × (from ≤ q) × (q ≤ length texts.now) × Leads texts.now p from
-        × (length known.old ≡ 896) × Remembers texts.now known.old }
-    ensures { Leads texts.now p result × (result ≤ q) × (length known.new ≡ 896) × Remembers texts.now known.new }
-{
-    let mut g = first;
-    let mut x = from;
-    while size <= q - x {
-        if word_full(known, g, size, q - x) {
-            g += 64;
-            x += 64 * size;
-            continue;
+impl<'a> Segments<'a> {
+    // `known` is what is remembered of these texts: at first nothing, all its words 0.
+    pub fn new(texts: &'a [u8], known: &'a mut [u64; WORDS]) -> Segments<'a>
+        requires { Remembers texts.now known.old }
+        ensures { result ≡ texts.now }
+    {
+        Segments { texts, known }
+    }
+
+    // The bytes of a segment. A short text is walked faster than it is looked up.
+    fn size(&self) -> usize
+        ensures { (result ≡ segment_size self.now) × (result < 2 ^ 50) }
+    {
+        self.texts.len() / SEGMENTS + 256
+    }
+
+    // Whether the characters of segment `g`, which is from `x` to `stop`, lead into the next one; what is found is remembered.
+    fn segment_joins(&mut self, g: usize, x: usize, stop: usize) -> bool
+        requires { (x ≡ g * segment_size self.old) × (stop ≡ x + segment_size self.old) × (stop ≤ length self.old) }
+        ensures { ((result ≡ true → Joined self.old x stop)) × (self.new ≡ self.old) }
+    {
+        let place = g / 64;
+        let i = (g % 64) as u64;
+        let word = self.known[place];
+        if is_set(word, i) {
+            return true;
         }
-        if !segment_joins(texts, g, x, x + size, known) {
-            return x;
+        if !joins(self.texts, x, stop) {
+            return false;
         }
-        g += 1;
-        x += size;
+        self.known[place] = with_bit(word, i);
+        true
     }
-    x
-}
 
-// How far characters lead from `p` by what is remembered, and where the next one begins; behind `q` only where `q` lies inside a character. Of a short text
-// nothing is looked up.
-fn passed(texts: &[u8], p: usize, q: usize, known: &mut [u64; 896]) -> usize
-    requires { (p ≤ q) × (q ≤ length texts.now) × (length known.old ≡ 896) × Remembers texts.now known.old }
-    ensures { Passed texts.now p q result × (length known.new ≡ 896) × Remembers texts.now known.new }
-{
-    let size = texts.len() / 57344 + 256;
-    if q - p < 2 * size {
-        return p;
+    // Whether the 64 segments from `x` to `stop`, the first of them segment `g`, are all remembered by one word.
+    fn word_joins(&self, g: usize, x: usize, stop: usize) -> bool
+        requires { (x ≡ g * segment_size self.now) × (stop ≡ x + 64 * segment_size self.now) × (stop ≤ length self.now) }
+        ensures { result ≡ true → Joined self.now x stop }
+    {
+        g % 64 == 0 && matches!(self.known.get(g / 64), Some(&u64::MAX))
     }
-    let first = p / size + 1;
-    let from = p - p % size + size;
-    if !leads(texts, p, from) {
-        return p;
-    }
-    let x = pass(texts, p, q, size, first, from, known);
-    first_start(texts, x)
-}
 
-// Whether the bytes from `p` to `q` are UTF-8. `known` is what is remembered of these texts: at first nothing, all its words 0.
-pub fn is_text(texts: &[u8], p: usize, q: usize, known: &mut [u64; 896]) -> bool
-    requires { (p ≤ q) × (q ≤ length texts.now) × (length known.old ≡ 896) × Remembers texts.now known.old }
-    ensures { (result ≡ text_between texts.now p q) × (length known.new ≡ 896)
-        × Remembers texts.now known.new }
-{
-    let at = passed(texts, p, q, known);
-    if q < at {
-        return false;
+    // How far segments are joined from segment `first` on, which begins at `from`, without passing `q`.
+    fn pass(&mut self, first: usize, from: usize, q: usize) -> usize
+        requires { (from ≡ first * segment_size self.old) × (from ≤ q) × (q ≤ length self.old) }
+        ensures { LeadsOn self.old from result × (result ≤ q) × (self.new ≡ self.old) }
+    {
+        let size = self.size();
+        let mut g = first;
+        let mut x = from;
+        while size <= q - x {
+            if 64 * size <= q - x && self.word_joins(g, x, x + 64 * size) {
+                g += 64;
+                x += 64 * size;
+                continue;
+            }
+            if !self.segment_joins(g, x, x + size) {
+                return x;
+            }
+            g += 1;
+            x += size;
+        }
+        x
     }
-    utf8::good_until(texts, at, q) == q
+
+    // How far characters lead from `p` by what is remembered, and where the next one begins; behind `q` only where `q` lies inside a character. Of a short
+    // text nothing is looked up.
+    fn passed(&mut self, p: usize, q: usize) -> usize
+        requires { (p ≤ q) × (q ≤ length self.old) }
+        ensures { Passed self.old p q result × (self.new ≡ self.old) }
+    {
+        let size = self.size();
+        if q - p < 2 * size {
+            return p;
+        }
+        let first = p / size + 1;
+        let from = p - p % size + size;
+        if !leads(self.texts, p, from) {
+            return p;
+        }
+        let x = self.pass(first, from, q);
+        first_start(self.texts, x)
+    }
+
+    // Whether the bytes from `p` to `q` are UTF-8.
+    pub fn is_text(&mut self, p: usize, q: usize) -> bool
+        requires { (p ≤ q) × (q ≤ length self.old) }
+        ensures { (result ≡ text_between self.old p q) × (self.new ≡ self.old) }
+    {
+        let at = self.passed(p, q);
+        at <= q && utf8::good_until(self.texts, at, q) == q
+    }
 }
