@@ -1,5 +1,7 @@
 -- The search goes from chunk to chunk of an accepted walk: a chunk of another type leaves the list of those of the type as it is, and the first of the
 -- type begins that list.
+use Rattle.std.specs.Prelude.{Ok, Some, None, is_some}
+use Rattle.blorb.specs.Refusals.{Refused}
 use mathlib.Core.Path.{◌≡◌, refl, sym, ap, ◌∙◌}
 use Prim.Native.Nat.{ℕ, suc, ◌+◌, ◌*◌, ◌≤◌, ◌<◌}
 use mathlib.Core.List.{List, [], ◌∷◌, map}
@@ -10,19 +12,17 @@ use lib.Dec.{eqb, ltb, leb-suc-suc}
 use borrow.Author.Tests.{eq-eqb, ne_eqb, lt-ltb, le-ltb}
 use Rattle.blorb.specs.Bytes.{rd32}
 use Rattle.blorb.specs.Format.{Chunk, Entry, chunk_in, entries_in, ref_of}
-use Rattle.blorb.proofs.EntryList.{length-entries_in}
 use Rattle.blorb.specs.Verdict.{accept, pair_in}
 use Rattle.blorb.specs.Rules.{profile_verdict}
 use Rattle.blorb.specs.Model.{base, model}
 use Rattle.chunks.specs.Walk.{chunks_from, walk_from, skip_at}
 use Rattle.chunks.proofs.ChunkLaws.{fine, chunks_end}
 use Rattle.index.specs.Entries.{place, pair_place}
-use Rattle.reader.specs.Reading.{read_of}
-use Rattle.reader.specs.declared.Reading.TheVariants.{Accepted, Refused as No}
+use Rattle.reader.specs.Reading.{read_of, accepted_with}
 use Rattle.reader.proofs.Promises.{layout_is, accepted_is, accepted_when, refused-is}
 use Rattle.locate.specs.Located.{Spot, of_type, located_in, located_of}
-use Rattle.locate.specs.Bridging.{Next}
-use Rattle.locate.specs.declared.Located.TheVariants.{Nothing, One, More, Refused}
+use Rattle.locate.specs.Bridging.{First}
+use Rattle.locate.specs.declared.Located.TheVariants.{One, More}
 
 module _ (f : List ℕ) (t at : ℕ) where
   pub of_end : length f ≤ at → of_type t at (chunks_from f at) ≡ []
@@ -39,37 +39,38 @@ module _ (f : List ℕ) (t at : ℕ) where
     unfolding of_type chunk_in
     of_hit m em e = let i = fine f at h w in rw (i.chunks, i.next, eq-eqb (rd32 (drop at f)) t e, i.bodied, em)
 
--- the three answers
-module _ (f : List ℕ) (t from x : ℕ) (a : Next f t from x) where
-  pub none_located : length f ≤ x → Nothing ≡ located_in (of_type t from (chunks_from f from))
-  none_located l = sym (ap located_in (sym a.same ∙ of_end f t x l))
+-- the answers where a chunk of the type stands first at x
+module _ (f : List ℕ) (t from x : ℕ) (a : First f t from x) (m : ℕ) (em : m ≡ rd32 (drop (x + 4) f)) (z : ℕ) (ez : z ≡ skip_at f x) where
+  abbrev behind : List Spot → List Spot
+  behind xs = record { start = x; amount = m } ∷ xs
 
-  module _ (l : x < length f) (m : ℕ) (em : m ≡ rd32 (drop (x + 4) f)) (z y : ℕ) (ez : z ≡ skip_at f x) (b : Next f t z y) where
-    abbrev behind : List Spot → List Spot
-    behind xs = record { start = x; amount = m } ∷ xs
+  listed : of_type t from (chunks_from f from) ≡ behind (of_type t z (chunks_from f z))
+  listed = sym a.same ∙ of_hit f t x a.inside a.walks m em a.type ∙ ap behind (rw ez)
 
-    listed : of_type t from (chunks_from f from) ≡ behind (of_type t y (chunks_from f y))
-    listed = sym a.same ∙ of_hit f t x l a.walks m em (a.type l) ∙ ap behind (rw (← ez) (sym b.same))
+  pub one_located : of_type t z (chunks_from f z) ≡ [] → One x m ≡ located_in (of_type t from (chunks_from f from))
+  one_located e = sym (ap located_in (listed ∙ ap behind e))
 
-    pub one_located : length f ≤ y → One x m ≡ located_in (of_type t from (chunks_from f from))
-    one_located k = sym (ap located_in (listed ∙ ap behind (of_end f t y k)))
-
-    pub more_located : y < length f → More x m y ≡ located_in (of_type t from (chunks_from f from))
-    more_located k =
-        sym (ap located_in (listed ∙ ap behind (of_hit f t y k b.walks (rd32 (drop (y + 4) f)) refl (b.type k))))
+  pub more_located : (y : ℕ) → First f t z y → More x m y ≡ located_in (of_type t from (chunks_from f from))
+  more_located y b =
+      sym (ap located_in (listed ∙ ap behind (sym b.same ∙ of_hit f t y b.inside b.walks (rd32 (drop (y + 4) f)) refl b.type)))
 
 -- the whole
 module _ (profile : ℕ) (f : List ℕ) (t : ℕ) where
-  pub located_no : (k p : ℕ) → read_of profile f ≡ No k p → Refused k p ≡ located_of profile f t
+  pub located_no : (k p : ℕ) → read_of profile f ≡ Refused k p → Refused k p ≡ located_of profile f t
   unfolding located_of
   located_no k p e = rw ((refused-is profile f k p).0 e)
 
-  pub located_go : (l n : ℕ) → read_of profile f ≡ Accepted l n → located_in (of_type t (24 + 12 * n) (chunks_from f (24 + 12 * n))) ≡ located_of profile f t
+  pub located_go : (l n : ℕ) → read_of profile f ≡ accepted_with l n → Ok (located_in (of_type t (24 + 12 * n) (chunks_from f (24 + 12 * n)))) ≡ located_of profile f t
   unfolding located_of base
   located_go l n e =
       let a = accepted_is profile f l n e in
       let r = layout_is profile f l n e in
       rw (a.2, ← a.1, r.model)
+
+-- a search that is answered where a test holds
+pub some-if : (b : Bool) (i : ℕ) → is_some (cond b (Some i) None) ≡ b
+some-if true i = refl
+some-if false i = refl
 
 -- a pair is among the entries exactly where the search for it ends before their number
 place_in : (at : ℕ) (cs : List Chunk) (u n : ℕ) (es : List Entry) → ltb (pair_place u n es) (length es) ≡ pair_in u n (map (ref_of at cs) es)
@@ -87,17 +88,17 @@ module _ (profile : ℕ) (f : List ℕ) (h : profile_verdict profile f ≡ accep
   count_room = omega (arith, (layout_is profile f _ _ (accepted_when profile f h)).room)
 
   module _ (count : ℕ) (ec : count ≡ rd32 (drop 20 f)) where
-    read : read_of profile f ≡ Accepted (length f) count
+    read : read_of profile f ≡ accepted_with (length f) count
     read =
         let e = accepted_when profile f h in
-        e ∙ ap (Accepted (length f)) (sym (layout_is profile f _ _ e).count ∙ sym ec)
+        e ∙ ap (accepted_with (length f)) (sym (layout_is profile f _ _ e).count ∙ sym ec)
 
     pub index-room : (count ≤ 4096) × (place count ≤ length f)
     index-room = ((accepted_is profile f _ _ read).4, (layout_is profile f _ _ read).room)
 
-    pub index-pair : (u n i : ℕ) → i ≡ pair_place u n (entries_in count (drop 24 f)) → ltb i count ≡ pair_in u n (model f).refs
-    index-pair u n i e =
+    pub index-pair : (u n : ℕ) → ltb (pair_place u n (entries_in count (drop 24 f))) (length (entries_in count (drop 24 f))) ≡ pair_in u n (model f).refs
+    index-pair u n =
         let es : List Entry = entries_in count (drop 24 f) in
         let p : ltb (pair_place u n es) (length es) ≡ pair_in u n (map (ref_of (place count) (chunks_from f (place count))) es)
         = place_in (place count) (chunks_from f (place count)) u n es in
-        rw (e, (layout_is profile f _ _ read).model) (rw (length-entries_in count (drop 24 f)) at p)
+        rw (layout_is profile f _ _ read).model p

@@ -1,4 +1,7 @@
 -- What the crates above know of a located chunk: it lies in the file, and the file is accepted and not too long.
+use Rattle.std.specs.Prelude.{Result, Ok}
+use Rattle.blorb.specs.Refusals.{Refused}
+use Rattle.blorb.specs.declared.refusal.Refusal.{Refusal}
 use mathlib.Core.Path.{◌≡◌, refl, sym, ap, ◌∙◌}
 use Prim.Native.Nat.{ℕ, ◌+◌, ◌*◌, ◌≤◌, ◌<◌}
 use mathlib.Core.List.{List, [], ◌∷◌}
@@ -17,13 +20,12 @@ use Rattle.blorb.proofs.Profiles.{plain_adrift}
 use Rattle.chunks.specs.Walk.{chunk_from, next_at, chunks_from, walk_from}
 use Rattle.chunks.proofs.ChunkLaws.{Whole}
 use Rattle.chunks.proofs.StartLaws.{good_ind}
-use Rattle.reader.specs.Reading.{read_of}
-use Rattle.reader.specs.declared.Reading.{Reading}
-use Rattle.reader.specs.declared.Reading.TheVariants.{Accepted, Refused as No}
+use Rattle.reader.specs.declared.Accepted.{Accepted}
+use Rattle.reader.specs.Reading.{read_of, accepted_with}
 use Rattle.reader.proofs.Promises.{accepted_is, layout_is, unknown_answers}
 use Rattle.locate.specs.Located.{Spot, spot_at, pick_spot, of_type, located_in, located_of, data_at}
 use Rattle.locate.specs.declared.Located.{Located}
-use Rattle.locate.specs.declared.Located.TheVariants.{Nothing, One, More, Refused}
+use Rattle.locate.specs.declared.Located.TheVariants.{Nothing, One, More}
 use Rattle.locate.proofs.LocateLaws.{located_no, located_go}
 
 -- a chunk of type t stands at x, with m bytes of data
@@ -33,10 +35,10 @@ pub record Stands (f : List ℕ) (t x m : ℕ) : Type 0 where
   pub field : rd32 (drop (x + 4) f) ≡ m
   pub bytes : data_at f x m ≡ (chunk_from f x).body
 
-abbrev pub Stood : List ℕ → ℕ → Located → Type 0
-Stood f t Nothing = Unit {0}
-Stood f t (One x m) = Stands f t x m
-Stood f t (More x m y) = Stands f t x m × (y < length f)
+abbrev pub Stood : List ℕ → ℕ → Result Located Refusal → Type 0
+Stood f t (Ok Nothing) = Unit {0}
+Stood f t (Ok (One x m)) = Stands f t x m
+Stood f t (Ok (More x m y)) = Stands f t x m × (y < length f)
 Stood f t (Refused k p) = Unit {0}
 
 all_stand : (f : List ℕ) (t at : ℕ) → walk_from f at ≡ accept → All (λ (x : Spot). Stands f t x.start x.amount) (of_type t at (chunks_from f at))
@@ -63,34 +65,27 @@ all_stand f t at w =
     go a i true e xs k = (here a i (eqb-true _ _ e), k)
     go a i false e xs k = k
 
-listed_stood : (f : List ℕ) (t : ℕ) (xs : List Spot) → All (λ (x : Spot). Stands f t x.start x.amount) xs → Stood f t (located_in xs)
+listed_stood : (f : List ℕ) (t : ℕ) (xs : List Spot) → All (λ (x : Spot). Stands f t x.start x.amount) xs → Stood f t (Ok (located_in xs))
 listed_stood f t [] k = tt
 listed_stood f t (x ∷ []) k = k.0
 listed_stood f t (x ∷ (y ∷ ys)) k = (k.0, omega (arith, k.1.0.room))
 
 -- of a file that is not refused
-abbrev pub Unrefused : Type 0 → Located → Type 0
-Unrefused P Nothing = P
-Unrefused P (One x m) = P
-Unrefused P (More x m y) = P
+abbrev pub Unrefused : Type 0 → Result Located Refusal → Type 0
+Unrefused P (Ok x) = P
 Unrefused P (Refused k p) = Unit {0}
 
-unrefused : (P : Type 0) (r : Located) → P → Unrefused P r
-unrefused P Nothing h = h
-unrefused P (One x m) h = h
-unrefused P (More x m y) h = h
-unrefused P (Refused k p) h = tt
-
-module _ (profile : ℕ) (f : List ℕ) (t : ℕ) (r : Located) (e : located_of profile f t ≡ r) where
+module _ (profile : ℕ) (f : List ℕ) (t : ℕ) (r : Result Located Refusal) (e : located_of profile f t ≡ r) where
   abbrev behind : ℕ → List Spot
   behind n = of_type t (24 + 12 * n) (chunks_from f (24 + 12 * n))
 
-  by_reading : (P : Located → Type 0) → ((l n : ℕ) → read_of profile f ≡ Accepted l n → P (located_in (behind n))) → ((k p : ℕ) → P (Refused k p)) → P r
+  by_reading : (P : Result Located Refusal → Type 0) → ((l n : ℕ) → read_of profile f ≡ accepted_with l n → P (Ok (located_in (behind n))))
+      → ((k p : ℕ) → P (Refused k p)) → P r
   by_reading P read refused = rw (← e) (go (read_of profile f) refl)
     where
-      go : (v : Reading) → read_of profile f ≡ v → P (located_of profile f t)
-      go (Accepted l n) h = rw (← located_go profile f t l n h) (read l n h)
-      go (No k p) h = rw (← located_no profile f t k p h) (refused k p)
+      go : (v : Result Accepted Refusal) → read_of profile f ≡ v → P (located_of profile f t)
+      go (Ok a) h = rw (← located_go profile f t a.length a.count h) (read a.length a.count h)
+      go (Refused k p) h = rw (← located_no profile f t k p h) (refused k p)
 
   -- what is located lies in the file
   pub located_stood : Stood f t r
@@ -99,8 +94,8 @@ module _ (profile : ℕ) (f : List ℕ) (t : ℕ) (r : Located) (e : located_of 
       (λ l n h. listed_stood f t (behind n) (all_stand f t (24 + 12 * n) (layout_is profile f l n h).walks))
       (λ k p. tt)
 
-  of_accepted : (P : Type 0) → ((l n : ℕ) → read_of profile f ≡ Accepted l n → P) → Unrefused P r
-  of_accepted P g = by_reading (Unrefused P) (λ l n h. unrefused P (located_in (behind n)) (g l n h)) (λ k p. tt)
+  of_accepted : (P : Type 0) → ((l n : ℕ) → read_of profile f ≡ accepted_with l n → P) → Unrefused P r
+  of_accepted P g = by_reading (Unrefused P) g (λ k p. tt)
 
   -- the file is not over the limit
   pub located_short : Unrefused (length f ≤ 16777216) r

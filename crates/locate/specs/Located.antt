@@ -1,11 +1,12 @@
 -- The chunks of a type in a file (02, P4 and P7): the first behind the index, with the length of its data, and the second.
-use Rattle.std.specs.Prelude.{ℕ, ◌+◌, List, [], ◌∷◌, Bool, true, false, length, take, drop, eqb}
+use Rattle.std.specs.Prelude.{ℕ, ◌+◌, List, [], ◌∷◌, Bool, true, false, length, take, drop, eqb, Result}
 use Rattle.blorb.specs.Format.{Chunk, size}
-use Rattle.blorb.specs.Verdict.{Verdict, accept, refuse}
+use Rattle.blorb.specs.Refusals.{answer_by}
+use Rattle.blorb.specs.declared.refusal.Refusal.{Refusal}
 use Rattle.blorb.specs.Rules.{profile_verdict}
-use Rattle.blorb.specs.Model.{Model, base, model}
+use Rattle.blorb.specs.Model.{base, model}
 use Rattle.locate.specs.declared.Located.{Located}
-use Rattle.locate.specs.declared.Located.TheVariants.{Nothing, One, More, Refused}
+use Rattle.locate.specs.declared.Located.TheVariants.{Nothing, One, More}
 
 -- where a chunk starts and how much data it has
 pub record Spot : Type 0 where
@@ -29,13 +30,9 @@ located_in [] = Nothing
 located_in (x ∷ []) = One x.start x.amount
 located_in (x ∷ (y ∷ ys)) = More x.start x.amount y.start
 
-abbrev pub located_by : Verdict → Model → ℕ → Located
-located_by accept m t = located_in (of_type t (base (length m.refs)) m.chunks)
-located_by (refuse k p) m t = Refused k p
-
 -- of a file, "after the reader's own" refusals
-unfoldable pub located_of : (profile : ℕ) → List ℕ → ℕ → Located
-located_of profile f t = located_by (profile_verdict profile f) (model f) t
+unfoldable pub located_of : (profile : ℕ) → List ℕ → ℕ → Result Located Refusal
+located_of profile f t = answer_by (profile_verdict profile f) (located_in (of_type t (base (length (model f).refs)) (model f).chunks))
 
 -- the data of a chunk at x that has m bytes of it
 abbrev pub data_at : List ℕ → ℕ → ℕ → List ℕ

@@ -1,27 +1,21 @@
 -- The first chunk of the type begins the list of those from `from` on; behind it the next one, if any, begins the rest of that list.
-use native.Mathlib.Omega.{arith}
+use Rattle.std.proofs.Common.{arith}
 use Rattle.chunks.proofs.ChunkLaws.{walked, fine}
-use Rattle.locate.proofs.LocateLaws.{none_located, one_located, more_located}
+use Rattle.locate.proofs.LocateLaws.{one_located, more_located}
 use Rattle.locate.proofs.from_on.Goals as goal
 
-pub returns-then-s-start : goal.returns-then-s-start
-returns-then-s-start c = none_located _ _ _ _ c.next_of-start.ensures c.if-s-start.true
-
-pub be32_at-m-requires : goal.be32_at-m-requires
-be32_at-m-requires c = omega (arith, (fine _ _ c.if-s-start.false c.next_of-start.ensures.walks).header)
+pub be32_at-length-requires : goal.be32_at-length-requires
+be32_at-length-requires c = let a = c.in-Some.ensures in omega (arith, (fine _ _ a.inside a.walks).header)
 
 pub skip-requires : goal.skip-requires
-skip-requires c = (fine _ _ c.if-s-start.false c.next_of-start.ensures.walks).header
+skip-requires c = let a = c.in-Some.ensures in (fine _ _ a.inside a.walks).header
 
-pub next_of-second-requires : goal.next_of-second-requires
-next_of-second-requires c = rw c.skip.ensures (walked _ _ c.if-s-start.false c.next_of-start.ensures.walks)
+pub next_of-requires-2 : goal.next_of-requires-2
+next_of-requires-2 c = let a = c.in-Some.ensures in rw c.skip.ensures (walked _ _ a.inside a.walks)
 
-pub returns-then-s-second : goal.returns-then-s-second
-returns-then-s-second c =
-    one_located _ _ _ _ c.next_of-start.ensures c.if-s-start.false
-    _ c.be32_at-m.ensures.0 _ _ c.skip.ensures c.next_of-second.ensures c.if-s-second.true
+pub returns-in-None : goal.returns-in-None
+returns-in-None c = one_located _ _ _ _ c.in-Some.ensures _ c.be32_at-length.ensures.0 _ c.skip.ensures c.in-None.ensures
 
-pub returns : goal.returns
-returns c =
-    more_located _ _ _ _ c.next_of-start.ensures c.if-s-start.false
-    _ c.be32_at-m.ensures.0 _ _ c.skip.ensures c.next_of-second.ensures c.if-s-second.false
+pub returns-in-Some-next_of : goal.returns-in-Some-next_of
+returns-in-Some-next_of c =
+    more_located _ _ _ _ c.in-Some.ensures _ c.be32_at-length.ensures.0 _ c.skip.ensures _ c.in-Some-next_of.ensures

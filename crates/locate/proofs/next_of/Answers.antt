@@ -1,7 +1,7 @@
 use mathlib.Core.Path.{refl, sym, ◌∙◌}
 use native.Mathlib.Omega.{arith}
 use Rattle.chunks.proofs.ChunkLaws.{walked, fine}
-use Rattle.locate.proofs.LocateLaws.{of_other}
+use Rattle.locate.proofs.LocateLaws.{of_end, of_other}
 use Rattle.locate.proofs.next_of.Goals as goal
 
 pub loop-at-init : goal.loop-at-init
@@ -13,7 +13,7 @@ be32_at-requires c = omega (arith, (fine _ _ c.loop-at-test.true c.loop-at.invar
 pub returns-then-be32_at-kind : goal.returns-then-be32_at-kind
 returns-then-be32_at-kind c =
     let inv = c.loop-at.invariant in
-    record { walks = inv.0; same = inv.1; type = λ l. sym c.be32_at.ensures.0 ∙ c.if-be32_at-kind.true }
+    record { inside = c.loop-at-test.true; walks = inv.0; same = inv.1; type = sym c.be32_at.ensures.0 ∙ c.if-be32_at-kind.true }
 
 pub skip-at-requires : goal.skip-at-requires
 skip-at-requires c = (fine _ _ c.loop-at-test.true c.loop-at.invariant.0).header
@@ -29,7 +29,4 @@ loop-at-preserved c =
     (walked _ _ there inv.0, of_other _ _ _ there inv.0 (λ e. c.if-be32_at-kind.false (c.be32_at.ensures.0 ∙ e)) ∙ inv.1)
 
 pub returns : goal.returns
-returns c =
-    let inv = c.loop-at.invariant in
-    let past = c.loop-at-test.false in
-    record { walks = inv.0; same = inv.1; type = λ l. absurd (omega (arith, past)) }
+returns c = let inv = c.loop-at.invariant in sym inv.1 ∙ of_end _ _ _ c.loop-at-test.false
