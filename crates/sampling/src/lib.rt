@@ -1,128 +1,112 @@
-// What the programs that run samples share: what they print, and the numbers that stand packed in their input.
+// What the programs that run samples share: the loop over their packed input, and what they print.
 #![tactic(auto)]
 
-ghost use Rattle.std.specs.Prelude.{◌≡◌, ◌<◌, ◌^◌};
-ghost use Rattle.blorb.specs.Bytes.{be32};
+mod packed;
+
+ghost use Rattle.std.specs.Prelude.{◌≡◌, ◌+◌, ◌*◌, ◌%◌, ◌<◌, ◌^◌};
 ghost use Rattle.sampling.specs.Samples.{checksum_of, loaded};
 
+pub use packed::Packed;
+
+use blorb::Refusal;
+use intake::read_full;
 use std::io;
 
-pub fn text(rt: &impl Print, s: &[u8]) -> io::Result<()> {
-    rt.write_all(s)
+// Why no more samples are run.
+#[derive(Drop)]
+pub enum Stop {
+    BadPacking,
+    Io(io::Error),
 }
 
-pub fn number(rt: &impl Print, n: u64) -> io::Result<()> {
-    rt.print(n)
-}
-
-// A number and what stands before it.
-pub fn labelled(rt: &impl Print, label: &[u8], n: u64) -> io::Result<()> {
-    text(rt, label)?;
-    number(rt, n)
-}
-
-pub fn refused(rt: &impl Print, k: u64, place: usize) -> io::Result<()> {
-    labelled(rt, b"refused ", k)?;
-    labelled(rt, b" at ", place as u64)
-}
-
-fn wide(x: u8) -> u64
-    ensures { (result ≡ x) × (result < 256) }
-{
-    x as u64
-}
-
-fn wide32(x: u32) -> u64
-    ensures { (result ≡ x) × (result < 2 ^ 32) }
-{
-    x as u64
-}
-
-fn digit(x: u64) -> u8 {
-    let d = x % 16;
-    (48 + d / 10 * 49 + d % 10) as u8
-}
-
-pub fn hex(rt: &impl Print, s: &[u8]) -> io::Result<()> {
-    for i in 0..s.len() {
-        let x = wide(s[i]);
-        text(rt, &[digit(x / 16), digit(x)])?;
+impl From<io::Error> for Stop {
+    fn from(e: io::Error) -> Stop {
+        Stop::Io(e)
     }
-    text(rt, b"\n")
+}
+
+fn all<F: Fn(&mut Packed) -> Result<(), Stop>>(mut packed: Packed, one: F) -> Result<(), Stop>
+    requires { F.IsAlwaysCallable one }
+{
+    while !packed.is_empty() {
+        let left = packed.0.len();
+        one(&mut packed)?;
+        if left <= packed.0.len() {
+            return Err(Stop::BadPacking);
+        }
+    }
+    Ok(())
+}
+
+// Runs `one` for each of the samples that stand packed on standard input, which has fewer than ROOM bytes.
+pub fn run<const ROOM: usize, F: Fn(&mut Packed) -> Result<(), Stop>>(rt: &(impl Input + Print), one: F) -> io::Result<()>
+    requires fits { ROOM < 2 ^ 63 }
+    requires callable { F.IsAlwaysCallable one }
+{
+    let mut buffer = [0; ROOM];
+    let mut reader = rt.reader();
+    let n = read_full(&mut reader, &mut buffer)?;
+    if n == ROOM {
+        return print!(rt; "too long\n");
+    }
+    match all(Packed(&buffer[..n]), one) {
+        Ok(()) => Ok(()),
+        Err(Stop::BadPacking) => print!(rt; "bad packing\n"),
+        Err(Stop::Io(e)) => Err(e),
+    }
+}
+
+pub fn refused(rt: &impl Print, r: Refusal) -> io::Result<()> {
+    let number = r.number();
+    let place = r.place;
+    print!(rt; "refused {number} at {place}")
+}
+
+// The bytes in hexadecimal, and the line's end.
+pub fn hex(rt: &impl Print, s: &[u8]) -> io::Result<()> {
+    for x in s {
+        print!(rt; "{x:02x}")?;
+    }
+    print!(rt; "\n")
+}
+
+// The sum with one number more; the remainder of M keeps it small.
+fn summed<const M: u64>(sum: u64, x: u32) -> u64
+    requires { (0 < M) × (M < 2 ^ 32) }
+    ensures { result ≡ sum % M * 257 + x + 1 }
+{
+    sum % M * 257 + u64::from(x) + 1
 }
 
 // A sum of the bytes that depends on their order.
+#[tactic(auto, unfolding(crate::specs::Samples::checksum_of))]
 pub fn checksum(s: &[u8]) -> u64
     ensures { result ≡ checksum_of 4294967291 s.now }
 {
-    let mut sum = 0;
-    for i in 0..s.len() {
-        sum = sum % 4294967291 * 257 + wide(s[i]) + 1;
-    }
-    sum
+    s.iter()
+        .fold(0, |sum, x| summed::<4294967291>(sum, u32::from(*x)))
 }
 
-// The same of numbers; a smaller remainder leaves room for them.
+// The same of numbers, by a smaller remainder.
+#[tactic(auto, unfolding(crate::specs::Samples::checksum_of))]
 pub fn checksum_of_numbers(t: &[u32]) -> u64
     ensures { result ≡ checksum_of 16777213 t.now }
 {
-    let mut sum = 0;
-    for i in 0..t.len() {
-        sum = sum % 16777213 * 257 + wide32(t[i]) + 1;
-    }
-    sum
-}
-
-// The lowest 32 bits of a number as four bytes.
-pub fn four_bytes(n: u64) -> [u8; 4]
-    ensures { result ≡ be32 n }
-{
-    [
-        (n / 16777216 % 256) as u8,
-        (n / 65536 % 256) as u8,
-        (n / 256 % 256) as u8,
-        (n % 256) as u8,
-    ]
-}
-
-// The number at `at`, or 0 where its four bytes aren't there.
-pub fn field(s: &[u8], at: usize) -> usize
-    ensures { result < 2 ^ 32 }
-{
-    if s.len() < 4 {
-        return 0;
-    }
-    if s.len() - 4 < at {
-        return 0;
-    }
-    blorb::be32_at(s, at) as usize
+    t.iter().fold(0, |sum, x| summed::<16777213>(sum, *x))
 }
 
 // Behind its packed bytes s a buffer has bytes that are not zero and differ from place to place.
-fn byte(s: &[u8], i: usize) -> u8 {
-    if i < s.len() {
-        s[i]
-    } else {
-        (i % 251 + 1) as u8
-    }
-}
-
 pub fn fill(buf: &mut [u8], s: &[u8]) {
-    for i in 0..buf.len() {
-        buf[i] = byte(s, i);
+    for (i, b) in buf.iter_mut().enumerate() {
+        *b = s.get(i).copied().unwrap_or((i % 251 + 1) as u8);
     }
 }
 
-// The numbers of `bytes`, four bytes each, at the front of `t`.
+// The numbers of `bytes`, four bytes each, at the front of `t`; by index, since a proof doesn't know what is written through `iter_mut`.
 pub fn load(bytes: &[u8], t: &mut [u32])
     ensures { t.new ≡ loaded bytes.now t.old }
 {
-    for k in 0..t.len() {
-        let at = 4 * k;
-        let end = at + 4;
-        if bytes.len() < end {
-            return;
-        }
-        t[k] = blorb::be32_at(bytes, at) as u32;
+    for k in 0..t.len().min(bytes.len() / 4) {
+        t[k] = blorb::be32_at(bytes, 4 * k) as u32;
     }
 }
