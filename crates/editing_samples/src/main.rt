@@ -7,182 +7,60 @@
 // writes them; what a step is stands in `editing_steps`.
 #![tactic(auto)]
 
-ghost use Rattle.std.specs.Prelude.{◌≡◌, ◌+◌, ◌≤◌, length};
-
-use editing_steps::{lengths, step};
-use intake::read_full;
-use sampling::{field, fill, hex, labelled, text};
+use editing_steps::Stage;
+use sampling::{Packed, Stop, each, fill, hex, run};
 use std::io;
 
-fn input() -> [u8; 1048576]
-    ensures { 1048576 ≡ length result }
-{
-    [0; 1048576]
-}
-
-fn room() -> [u8; 65536]
-    ensures { 65536 ≡ length result }
-{
-    [0; 65536]
-}
-
-// Both whole buffers.
-fn show(rt: &impl Print, file: &[u8], jrn: &[u8]) -> io::Result<()> {
-    text(rt, b" buffer ")?;
-    hex(rt, file)?;
-    text(rt, b" journal ")?;
-    hex(rt, jrn)
-}
-
-fn heading(
-    rt: &impl Print,
-    room: usize,
-    journal: usize,
-    len: usize,
-    used: usize,
-) -> io::Result<()> {
-    labelled(rt, b": buffer ", room as u64)?;
-    labelled(rt, b" journal ", journal as u64)?;
-    lengths(rt, len, used)?;
-    text(rt, b"\n")
-}
-
-fn steps(
-    rt: &impl Print,
-    s: &[u8],
-    file: &mut [u8],
-    jrn: &mut [u8],
-    first_len: usize,
-    first_used: usize,
-    profile: u32,
-) -> io::Result<()> {
-    let mut at = 0;
-    let mut len = first_len;
-    let mut used = first_used;
-    while at < s.len() {
-        let next = step(rt, s, at, file, jrn, len, used, profile)?;
-        if next.at <= at {
-            text(rt, b"bad packing\n")?;
-            return Ok(());
-        }
-        at = next.at;
-        len = next.len;
-        used = next.used;
-    }
-    Ok(())
-}
-
 // The steps of a scenario, and at the end both buffers if they are to be shown.
-fn play(
-    rt: &impl Print,
-    s: &[u8],
-    file: &mut [u8],
-    jrn: &mut [u8],
-    len: usize,
-    used: usize,
-    profile: u32,
-    shown: bool,
-) -> io::Result<()> {
-    heading(rt, file.len(), jrn.len(), len, used)?;
-    steps(rt, s, file, jrn, len, used, profile)?;
+fn play(rt: &impl Print, mut stage: Stage, steps: &[u8], shown: bool) -> io::Result<()> {
+    print!(rt; ": buffer {} journal {}", stage.file.len(), stage.jrn.len())?;
+    stage.say_lengths(rt)?;
+    println!(rt; "")?;
+    each(rt, Packed(steps), |packed| stage.step(rt, packed))?;
     if shown {
-        show(rt, file, jrn)?;
+        print!(rt; " buffer ")?;
+        hex(rt, stage.file)?;
+        print!(rt; " journal ")?;
+        hex(rt, stage.jrn)?;
     }
     Ok(())
 }
 
-// The scenario at `at`, in buffers of its own lengths: the packed bytes of the file buffer stand at `bytes`, those of the
-// journal at `records`, the steps from `rest` to `end`.
-fn stage(
-    rt: &impl Print,
-    s: &[u8],
-    at: usize,
-    bytes: usize,
-    records: usize,
-    rest: usize,
-    end: usize,
-    file: &mut [u8],
-    jrn: &mut [u8],
-) -> io::Result<()>
-    requires { (at + 40 ≤ bytes) × ((bytes ≤ records) × ((records ≤ rest) × ((rest ≤ end) × (end ≤ length s.now)))) }
-{
-    let name = at + 40;
-    text(rt, &s[name..bytes])?;
-    fill(file, &s[bytes..records]);
-    fill(jrn, &s[records..rest]);
-    play(
-        rt,
-        &s[rest..end],
-        file,
-        jrn,
-        field(s, at + 20),
-        field(s, at + 24),
-        field(s, at + 36) as u32,
-        field(s, at + 32) == 1,
-    )
-}
-
-// The scenario at `at`. Answers where the next one stands, or 0 where the packing is bad.
-fn scenario(
-    rt: &impl Print,
-    s: &[u8],
-    at: usize,
-    file: &mut [u8],
-    jrn: &mut [u8],
-) -> io::Result<usize> {
-    if s.len() < at {
-        return Ok(0);
-    }
-    let lent = field(s, at + 4);
-    let journal = field(s, at + 8);
-    let bytes = at + 40 + field(s, at);
-    let records = bytes + field(s, at + 12);
-    let rest = records + field(s, at + 16);
-    let end = rest + field(s, at + 28);
-    if s.len() < end {
-        return Ok(0);
-    }
-    if file.len() < lent {
-        return Ok(0);
-    }
-    if jrn.len() < journal {
-        return Ok(0);
-    }
-    stage(
-        rt,
-        s,
-        at,
+fn scenario(rt: &impl Print, packed: &mut Packed) -> Result<(), Stop> {
+    let [
+        name,
+        lent,
+        journal,
         bytes,
         records,
-        rest,
-        end,
-        &mut file[0..lent],
-        &mut jrn[0..journal],
-    )?;
-    Ok(end)
-}
-
-fn scenarios(rt: &impl Print, s: &[u8], file: &mut [u8], jrn: &mut [u8]) -> io::Result<()> {
-    let mut at = 0;
-    while at < s.len() {
-        let next = scenario(rt, s, at, file, jrn)?;
-        if next <= at {
-            text(rt, b"bad packing\n")?;
-            return Ok(());
-        }
-        at = next;
-    }
+        len,
+        used,
+        steps,
+        shown,
+        profile,
+    ] = packed.numbers::<10>()?;
+    let name = packed.take(name as usize)?;
+    let bytes = packed.take(bytes as usize)?;
+    let records = packed.take(records as usize)?;
+    let steps = packed.take(steps as usize)?;
+    let mut file = [0; 65536];
+    let mut jrn = [0; 65536];
+    let file = file.get_mut(..lent as usize).ok_or(Stop::BadPacking)?;
+    let jrn = jrn.get_mut(..journal as usize).ok_or(Stop::BadPacking)?;
+    rt.write_all(name)?;
+    fill(file, bytes);
+    fill(jrn, records);
+    let stage = Stage {
+        file,
+        jrn,
+        len: len as usize,
+        used: used as usize,
+        profile,
+    };
+    play(rt, stage, steps, shown == 1)?;
     Ok(())
 }
 
 fn main(rt: HostRuntime) -> io::Result<()> {
-    let mut buffer = input();
-    let mut file = room();
-    let mut jrn = room();
-    let n = read_full(&mut rt.stdin(), &mut buffer)?;
-    if 1048575 < n {
-        text(&rt, b"too long\n")?;
-        return Ok(());
-    }
-    scenarios(&rt, &buffer[..n], &mut file, &mut jrn)
+    run::<1048576, _>(&rt, |packed| scenario(&rt, packed))
 }

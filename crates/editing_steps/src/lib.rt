@@ -6,170 +6,165 @@
 // tests/make_editing_samples.py writes them.
 #![tactic(auto)]
 
-ghost use Rattle.std.specs.Prelude.{◌+◌, ◌≤◌, length};
-
-use editor::{Answer, Outcome};
-use sampling::{checksum, field, labelled, refused, text};
+use editor::Answer;
+use sampling::{Packed, Stop, checksum, refused};
 use std::io;
 
-pub fn lengths(rt: &impl Print, len: usize, used: usize) -> io::Result<()> {
-    labelled(rt, b" L ", len as u64)?;
-    labelled(rt, b" U ", used as u64)
-}
-
-fn told(rt: &impl Print, a: Answer) -> io::Result<()> {
-    let outcome = a.outcome;
-    match outcome {
-        Outcome::Done => text(rt, b"done")?,
-        Outcome::Refused { number, place } => refused(rt, number, place)?,
-    }
-    lengths(rt, a.len, a.used)
-}
-
-fn sums(rt: &impl Print, file: &[u8], jrn: &[u8]) -> io::Result<()> {
-    labelled(rt, b" sums ", checksum(file))?;
-    labelled(rt, b" ", checksum(jrn))?;
-    text(rt, b"\n")
-}
-
-// L and U for the next call, from the step at `at`.
-fn given(rt: &impl Print, s: &[u8], at: usize) -> io::Result<Answer>
-    requires { at + 17 ≤ length s.now }
-{
-    text(rt, b" given ")?;
-    Ok(Answer {
-        outcome: Outcome::Done,
-        len: field(s, at + 1) * 4294967296 + field(s, at + 5),
-        used: field(s, at + 9) * 4294967296 + field(s, at + 13),
-    })
-}
-
-fn four(s: &[u8], at: usize) -> [u8; 4]
-    requires { at + 4 ≤ length s.now }
-{
-    [s[at], s[at + 1], s[at + 2], s[at + 3]]
-}
-
-fn undo(
-    rt: &impl Print,
-    file: &mut [u8],
-    jrn: &[u8],
-    len: usize,
-    used: usize,
-    profile: u32,
-) -> io::Result<Answer> {
-    text(rt, b" undo ")?;
-    Ok(editor::undo(file, len, jrn, used, profile))
-}
-
-fn blank(rt: &impl Print, file: &mut [u8]) -> io::Result<Answer> {
-    text(rt, b" blank ")?;
-    Ok(editor::blank(file))
-}
-
-// The edit of the step at `at`, with the data d.
-fn edit(
-    rt: &impl Print,
-    s: &[u8],
-    at: usize,
-    d: &[u8],
-    file: &mut [u8],
-    jrn: &mut [u8],
-    len: usize,
-    used: usize,
-    profile: u32,
-) -> io::Result<Answer>
-    requires { at + 17 ≤ length s.now }
-{
-    let usage = four(s, at + 1);
-    let number = field(s, at + 5) as u32;
-    let kind = four(s, at + 9);
-    match s[at] {
-        1 => {
-            text(rt, b" add ")?;
-            Ok(editor::add(file, len, jrn, used, profile, usage, number, kind, d))
-        }
-        2 => {
-            text(rt, b" replace ")?;
-            Ok(editor::replace(file, len, jrn, used, profile, usage, number, kind, d))
-        }
-        3 => {
-            text(rt, b" remove ")?;
-            Ok(editor::remove(file, len, jrn, used, profile, usage, number))
-        }
-        _ => {
-            text(rt, b" link ")?;
-            let chosen = field(s, at + 13) as u32;
-            Ok(editor::link(file, len, jrn, used, profile, usage, number, kind, chosen))
-        }
-    }
-}
-
-// The call of the step at `at`, with the data d.
-fn call(
-    rt: &impl Print,
-    s: &[u8],
-    at: usize,
-    d: &[u8],
-    file: &mut [u8],
-    jrn: &mut [u8],
-    len: usize,
-    used: usize,
-    profile: u32,
-) -> io::Result<Answer>
-    requires { at + 17 ≤ length s.now }
-{
-    match s[at] {
-        0 => blank(rt, file),
-        1..=3 | 6 => edit(rt, s, at, d, file, jrn, len, used, profile),
-        5 => given(rt, s, at),
-        _ => undo(rt, file, jrn, len, used, profile),
-    }
-}
-
-// How many bytes of data a step has: a link and the one that gives L and U have none.
-fn size(kind: u8, n: usize) -> usize
-    ensures { result ≤ n }
-{
-    if (kind == 5) | (kind == 6) { 0 } else { n }
-}
-
-// Where the next step stands, or 0 where the packing is bad, and the L and U that it is given.
 #[derive(Clone, Copy)]
-pub struct Next {
-    pub at: usize,
+enum Step<'a> {
+    Blank,
+    Add {
+        usage: [u8; 4],
+        number: u32,
+        kind: [u8; 4],
+        data: &'a [u8],
+    },
+    Replace {
+        usage: [u8; 4],
+        number: u32,
+        kind: [u8; 4],
+        data: &'a [u8],
+    },
+    Remove {
+        usage: [u8; 4],
+        number: u32,
+    },
+    Undo,
+    Given {
+        len: usize,
+        used: usize,
+    },
+    Link {
+        usage: [u8; 4],
+        number: u32,
+        new_usage: [u8; 4],
+        new_number: u32,
+    },
+}
+
+impl<'a> Step<'a> {
+    fn unpack(packed: &mut Packed<'a>) -> Result<Step<'a>, Stop> {
+        let [which] = packed.bytes::<1>()?;
+        if which == 5 {
+            let len = packed.wide()? as usize;
+            let used = packed.wide()? as usize;
+            return Ok(Step::Given { len, used });
+        }
+        let usage = packed.bytes()?;
+        let number = packed.number()?;
+        let kind = packed.bytes()?;
+        let last = packed.number()?;
+        if which == 6 {
+            return Ok(Step::Link {
+                usage,
+                number,
+                new_usage: kind,
+                new_number: last,
+            });
+        }
+        let data = packed.take(last as usize)?;
+        Ok(match which {
+            0 => Step::Blank,
+            1 => Step::Add {
+                usage,
+                number,
+                kind,
+                data,
+            },
+            2 => Step::Replace {
+                usage,
+                number,
+                kind,
+                data,
+            },
+            3 => Step::Remove { usage, number },
+            _ => Step::Undo,
+        })
+    }
+
+    fn name(&self) -> &'static str {
+        match self {
+            Step::Blank => "blank",
+            Step::Add { .. } => "add",
+            Step::Replace { .. } => "replace",
+            Step::Remove { .. } => "remove",
+            Step::Undo => "undo",
+            Step::Given { .. } => "given",
+            Step::Link { .. } => "link",
+        }
+    }
+}
+
+// Both buffers, and what else the next call is given.
+#[derive(Drop)]
+pub struct Stage<'a> {
+    pub file: &'a mut [u8],
+    pub jrn: &'a mut [u8],
     pub len: usize,
     pub used: usize,
+    pub profile: u32,
 }
 
-// The step at `at`: says what it answers, and the sums of both buffers after it.
-pub fn step(
-    rt: &impl Print,
-    s: &[u8],
-    at: usize,
-    file: &mut [u8],
-    jrn: &mut [u8],
-    len: usize,
-    used: usize,
-    profile: u32,
-) -> io::Result<Next> {
-    if s.len() < 17 {
-        return Ok(Next { at: 0, len, used });
+impl Stage<'_> {
+    fn call(&mut self, step: Step) -> Answer {
+        let len = self.len;
+        let used = self.used;
+        let profile = self.profile;
+        match step {
+            Step::Blank => editor::blank(self.file),
+            Step::Add {
+                usage,
+                number,
+                kind,
+                data,
+            } => editor::add(
+                self.file, len, self.jrn, used, profile, usage, number, kind, data,
+            ),
+            Step::Replace {
+                usage,
+                number,
+                kind,
+                data,
+            } => editor::replace(
+                self.file, len, self.jrn, used, profile, usage, number, kind, data,
+            ),
+            Step::Remove { usage, number } => {
+                editor::remove(self.file, len, self.jrn, used, profile, usage, number)
+            }
+            Step::Undo => editor::undo(self.file, len, self.jrn, used, profile),
+            Step::Given { len, used } => Answer {
+                outcome: Ok(()),
+                len,
+                used,
+            },
+            Step::Link {
+                usage,
+                number,
+                new_usage,
+                new_number,
+            } => editor::link(
+                self.file, len, self.jrn, used, profile, usage, number, new_usage, new_number,
+            ),
+        }
     }
-    if s.len() - 17 < at {
-        return Ok(Next { at: 0, len, used });
+
+    pub fn say_lengths(&self, rt: &impl Print) -> io::Result<()> {
+        print!(rt; " L {} U {}", self.len, self.used)
     }
-    let from = at + 17;
-    let end = from + size(s[at], field(s, at + 13));
-    if s.len() < end {
-        return Ok(Next { at: 0, len, used });
+
+    // The next step: says what it answers, and the sums of both buffers after it.
+    pub fn step(&mut self, rt: &impl Print, packed: &mut Packed) -> Result<(), Stop> {
+        let step = Step::unpack(packed)?;
+        print!(rt; " {} ", step.name())?;
+        let answer = self.call(step);
+        match answer.outcome {
+            Ok(()) => print!(rt; "done")?,
+            Err(r) => refused(rt, r)?,
+        }
+        self.len = answer.len;
+        self.used = answer.used;
+        self.say_lengths(rt)?;
+        println!(rt; " sums {} {}", checksum(self.file), checksum(self.jrn))?;
+        Ok(())
     }
-    let a = call(rt, s, at, &s[from..end], file, jrn, len, used, profile)?;
-    told(rt, a)?;
-    sums(rt, file, jrn)?;
-    Ok(Next {
-        at: end,
-        len: a.len,
-        used: a.used,
-    })
 }

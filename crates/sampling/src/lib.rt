@@ -6,60 +6,67 @@ mod packed;
 ghost use Rattle.std.specs.Prelude.{◌≡◌, ◌+◌, ◌*◌, ◌%◌, ◌<◌, ◌^◌};
 ghost use Rattle.sampling.specs.Samples.{checksum_of, loaded};
 
-pub use packed::Packed;
-
 use blorb::Refusal;
 use intake::read_full;
+pub use packed::{Packed, pair};
 use std::io;
 
 // Why no more samples are run.
 #[derive(Drop)]
 pub enum Stop {
     BadPacking,
-    Io(io::Error),
+    Output(io::Error),
 }
 
 impl From<io::Error> for Stop {
     fn from(e: io::Error) -> Stop {
-        Stop::Io(e)
+        Stop::Output(e)
     }
 }
 
-fn all<F: Fn(&mut Packed) -> Result<(), Stop>>(mut packed: Packed, one: F) -> Result<(), Stop>
+// Runs `one` on each of the samples that stand packed; bad packing ends it.
+pub fn each<F: FnMut(&mut Packed) -> Result<(), Stop>>(
+    rt: &impl Print,
+    mut packed: Packed,
+    mut one: F,
+) -> io::Result<()>
     requires { F.IsAlwaysCallable one }
 {
-    while !packed.is_empty() {
+    while !packed.0.is_empty() {
         let left = packed.0.len();
-        one(&mut packed)?;
-        if left <= packed.0.len() {
-            return Err(Stop::BadPacking);
+        match one(&mut packed) {
+            Ok(()) if packed.0.len() < left => {}
+            Err(Stop::Output(e)) => return Err(e),
+            Ok(()) | Err(Stop::BadPacking) => return println!(rt; "bad packing"),
         }
     }
     Ok(())
 }
 
-// Runs `one` for each of the samples that stand packed on standard input, which has fewer than ROOM bytes.
-pub fn run<const ROOM: usize, F: Fn(&mut Packed) -> Result<(), Stop>>(rt: &(impl Input + Print), one: F) -> io::Result<()>
+// Runs `one` on each of the samples on standard input, which has fewer than ROOM bytes.
+pub fn run<const ROOM: usize, F: FnMut(&mut Packed) -> Result<(), Stop>>(
+    rt: &(impl Input + Print),
+    one: F,
+) -> io::Result<()>
     requires fits { ROOM < 2 ^ 63 }
     requires callable { F.IsAlwaysCallable one }
 {
     let mut buffer = [0; ROOM];
-    let mut reader = rt.reader();
-    let n = read_full(&mut reader, &mut buffer)?;
+    let n = read_full(&mut rt.reader(), &mut buffer)?;
     if n == ROOM {
-        return print!(rt; "too long\n");
+        return println!(rt; "too long");
     }
-    match all(Packed(&buffer[..n]), one) {
-        Ok(()) => Ok(()),
-        Err(Stop::BadPacking) => print!(rt; "bad packing\n"),
-        Err(Stop::Io(e)) => Err(e),
-    }
+    each(rt, Packed(&buffer[..n]), one)
+}
+
+// What is said of a sample begins with its name.
+pub fn begin(rt: &impl Print, name: &[u8]) -> io::Result<()> {
+    rt.write_all(name)?;
+    print!(rt; ": ")
 }
 
 pub fn refused(rt: &impl Print, r: Refusal) -> io::Result<()> {
-    let number = r.number();
-    let place = r.place;
-    print!(rt; "refused {number} at {place}")
+    print!(rt; "refused {} at {}", r.number(), r.place)
 }
 
 // The bytes in hexadecimal, and the line's end.
@@ -67,7 +74,7 @@ pub fn hex(rt: &impl Print, s: &[u8]) -> io::Result<()> {
     for x in s {
         print!(rt; "{x:02x}")?;
     }
-    print!(rt; "\n")
+    println!(rt; "")
 }
 
 // The sum with one number more; the remainder of M keeps it small.

@@ -1,4 +1,6 @@
-// The input of a program that runs samples: numbers of four bytes, the higher ones first, and bytes whose lengths they give.
+// The packed input of a program that runs samples: numbers of four bytes, the highest first, and bytes whose lengths they give.
+ghost use Rattle.std.specs.Prelude.{◌<◌};
+
 use crate::Stop;
 
 // What is left of the input.
@@ -6,10 +8,6 @@ use crate::Stop;
 pub struct Packed<'a>(pub &'a [u8]);
 
 impl<'a> Packed<'a> {
-    pub fn is_empty(&self) -> bool {
-        self.0.is_empty()
-    }
-
     pub fn take(&mut self, n: usize) -> Result<&'a [u8], Stop> {
         let (front, rest) = self.0.split_at_checked(n).ok_or(Stop::BadPacking)?;
         self.0 = rest;
@@ -27,9 +25,32 @@ impl<'a> Packed<'a> {
         Ok(u32::from_be_bytes(self.bytes()?))
     }
 
-    // The same as a length.
-    pub fn length(&mut self) -> Result<usize, Stop>
-    {
-        Ok(self.number()? as usize)
+    // The next N numbers.
+    pub fn numbers<const N: usize>(&mut self) -> Result<[u32; N], Stop> {
+        let mut numbers = [0; N];
+        for n in &mut numbers {
+            *n = self.number()?;
+        }
+        Ok(numbers)
     }
+
+    // A number of 64 bits.
+    pub fn wide(&mut self) -> Result<u64, Stop> {
+        Ok(u64::from_be_bytes(self.bytes()?))
+    }
+
+    // So many rows of N bytes.
+    pub fn rows<const N: usize>(&mut self, count: u32) -> Result<&'a [[u8; N]], Stop>
+        requires { 0 < N }
+    {
+        let size = N.checked_mul(count as usize).ok_or(Stop::BadPacking)?;
+        let (rows, _) = self.take(size)?.as_chunks();
+        Ok(rows)
+    }
+}
+
+// A row's usage and number.
+pub fn pair(row: &[u8; 8]) -> ([u8; 4], u32) {
+    let [a, b, c, d, e, f, g, h] = *row;
+    ([a, b, c, d], u32::from_be_bytes([e, f, g, h]))
 }

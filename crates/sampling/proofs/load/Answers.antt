@@ -1,5 +1,5 @@
 -- Each turn is one step of the definition.
-use Rattle.std.proofs.Common.{rules, arith, refl, add-one}
+use Rattle.std.proofs.Common.{rules, refl, add-one}
 use Rattle.sampling.specs.Samples.{loaded_to, loaded}
 use Rattle.sampling.proofs.load.Goals as goal
 
