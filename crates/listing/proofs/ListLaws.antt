@@ -10,14 +10,14 @@ use lib.Seq.{take-suc, take_all}
 use borrow.Author.Tests.{le-leb, lt-leb, lt-ltb, le-ltb}
 use Rattle.blorb.specs.Format.{Entry}
 use Rattle.index.specs.Entries.{place}
-use Rattle.reader.specs.Reading.{index_of, read_of, no_entry, lookup_of}
-use Rattle.reader.specs.declared.Reading.{Reading}
-use Rattle.reader.specs.declared.Reading.TheVariants.{Accepted, Refused}
+use Rattle.std.specs.Prelude.{Result, Option, Some, None}
+use Rattle.blorb.specs.Refusals.{Refused}
+use Rattle.blorb.specs.declared.refusal.Refusal.{Refusal}
+use Rattle.reader.specs.Reading.{accepted_with, index_of, read_of, no_entry, lookup_of}
+use Rattle.reader.specs.declared.Accepted.{Accepted}
 use Rattle.reader.proofs.Promises.{accepted_is, counted, entry_at}
 use Rattle.listing.specs.Listing.{line_by, lines_of, listing_by, listing_of, input_reading, input_listing, room_by, room_for, input_room, listed_in, out_by}
 use Rattle.listing.specs.InPlace.{Wrote, line_at}
-use Rattle.listing.specs.declared.Listed.{Listed}
-use Rattle.listing.specs.declared.Listed.TheVariants.{Written, NoRoom}
 use Rattle.listing.proofs.WriteLaws.{more, from_start}
 use Rattle.listing.proofs.LineLaws.{line_is}
 
@@ -27,7 +27,7 @@ lines_snoc f [] e = append-nil (line_by e (lookup_of 0 f e.usage e.number))
 lines_snoc f (x ∷ es) e = ap (λ (l : List ℕ). line_by x (lookup_of 0 f x.usage x.number) ++ l) (lines_snoc f es e)
     ∙ sym (append_assoc (line_by x (lookup_of 0 f x.usage x.number)) (lines_of f es) (line_by e (lookup_of 0 f e.usage e.number)))
 
-module _ (f : List ℕ) (l count : ℕ) (e : read_of 0 f ≡ Accepted l count) where
+module _ (f : List ℕ) (l count : ℕ) (e : read_of 0 f ≡ accepted_with l count) where
   -- the line of entry i, read in place
   line_of : (i : ℕ) → i < count → line_by (get_or (index_of f) i no_entry) (lookup_of 0 f (get_or (index_of f) i no_entry).usage (get_or (index_of f) i no_entry).number)
       ≡ line_at f (place i)
@@ -52,24 +52,24 @@ pub lines_none : (f out : List ℕ) (at : ℕ) → Wrote out at (lines_of f (tak
 unfolding lines_of
 lines_none f out at = (omega arith, refl)
 
-pub size_known : (f : List ℕ) (l n : ℕ) → read_of 0 f ≡ Accepted l n → read_of 0 f ≡ Accepted (length f) n
-size_known f l n e = e ∙ ap (λ (k : ℕ). Accepted k n) (accepted_is 0 f l n e).0
+pub size_known : (f : List ℕ) (l n : ℕ) → read_of 0 f ≡ accepted_with l n → read_of 0 f ≡ accepted_with (length f) n
+size_known f l n e = e ∙ ap (λ (k : ℕ). accepted_with k n) (accepted_is 0 f l n e).0
 
 -- the answers
 module _ (out : List ℕ) (room : ℕ) (t : List ℕ) where
-  pub no_room : length out < room → (NoRoom ≡ listed_in (length out) room t) × (out ≡ out_by NoRoom t out)
+  pub no_room : length out < room → (None ≡ listed_in (length out) room t) × (out ≡ out_by None t out)
   unfolding listed_in
   no_room h = (rw (lt-leb room (length out) h), refl)
 
-  pub written : (to : ℕ) (after : List ℕ) → room ≤ length out → to ≤ room → Wrote out 0 t to after → (Written to ≡ listed_in (length out) room t)
-      × (after ≡ out_by (Written to) t out)
+  pub written : (to : ℕ) (after : List ℕ) → room ≤ length out → to ≤ room → Wrote out 0 t to after → (Some to ≡ listed_in (length out) room t)
+      × (after ≡ out_by (Some to) t out)
   unfolding listed_in
   written to after h l w =
       let s = from_start out t to after (omega (arith, w.0)) w in
-      (rw (le-leb room (length out) h) (ap Written s.0), s.1 ∙ ap (λ (k : ℕ). t ++ drop k out) (sym s.0))
+      (rw (le-leb room (length out) h) (ap Some s.0), s.1 ∙ ap (λ (k : ℕ). t ++ drop k out) (sym s.0))
 
 -- by the reader's answer
-module _ (f out after : List ℕ) (r : Listed) (v : Reading) where
+module _ (f out after : List ℕ) (r : Option ℕ) (v : Result Accepted Refusal) where
   abbrev pub Lists : Type 0
   Lists = (r ≡ listed_in (length out) (room_by v) (listing_by f v)) × (after ≡ out_by r (listing_by f v) out)
 
@@ -77,7 +77,7 @@ module _ (f out after : List ℕ) (r : Listed) (v : Reading) where
   unfolding room_for listing_of
   list_by e h = rw e h
 
-module _ (f out after : List ℕ) (r : Listed) where
+module _ (f out after : List ℕ) (r : Option ℕ) where
   pub input-long : (longer : Bool) → longer ≡ true → Lists f out after r (Refused 1 0)
       → (r ≡ listed_in (length out) (input_room f longer) (input_listing f longer)) × (after ≡ out_by r (input_listing f longer) out)
   unfolding input_room input_listing input_reading

@@ -45,8 +45,7 @@ use Rattle.blorb.specs.Verdict.{
   last_place,
 }
 use Rattle.blorb.specs.Rules.{plain_allows_of, allows, adrift_allows_of, optional, profile_verdict, one_of, picture, type_in, single, chunk_rule, chunk_rules}
-use Rattle.reader.specs.Reading.{read_of, index_of, lookup_of}
-use Rattle.reader.specs.declared.Reading.TheVariants.{Accepted}
+use Rattle.reader.specs.Reading.{accepted_with, read_of, index_of, lookup_of}
 use Rattle.index.specs.Hits.{hit_in}
 use Rattle.listing.specs.Text.{text, decimal}
 use Rattle.listing.specs.Listing.{head_line, refused_line, entry_line, lines_of, listing_of}
@@ -106,6 +105,6 @@ gif = record { type = GIF; body = text "eel" }
 G : List ℕ
 G = file_bytes (index_chunk (record { usage = Pict; number = 7; start = 36 } ∷ []) ∷ (gif ∷ []))
 
-lists_adrift : (listing_of G ≡ text "refused 14 at 24\n") × (read_of 1 G ≡ Accepted 48 1)
+lists_adrift : (listing_of G ≡ text "refused 14 at 24\n") × (read_of 1 G ≡ accepted_with 48 1)
 unfolding computed G gif
 lists_adrift = (refl, refl)

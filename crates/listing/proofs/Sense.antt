@@ -2,7 +2,7 @@
 use mathlib.Core.Path.{◌≡◌, refl, ap, ◌∙◌}
 use Prim.Native.Nat.{ℕ, zero, suc, ◌+◌, ◌*◌, ◌-◌, ◌/◌, ◌%◌, ◌^◌, ◌≤◌, ◌<◌}
 use mathlib.Core.List.{List, [], ◌∷◌, ◌++◌}
-use mathlib.Core.Bool.{Bool, true, false, ◌||◌}
+use mathlib.Core.Bool.{Bool, true, false, cond, ◌||◌}
 use native.Mathlib.Omega.{arith}
 use native.Mathlib.Numerals.{add-one}
 use lib.ListN.{length, get_or, take, drop, length-append}
@@ -16,9 +16,11 @@ use Rattle.blorb.proofs.AllLaws.{all_drop}
 use Rattle.blorb.proofs.ByteLaws.{length-be32}
 use Rattle.blorb.proofs.Accept.{rd32_small}
 use Rattle.index.specs.Entries.{start_at, place}
-use Rattle.reader.specs.Reading.{index_of, read_of}
-use Rattle.reader.specs.declared.Reading.{Reading}
-use Rattle.reader.specs.declared.Reading.TheVariants.{Accepted, Refused}
+use Rattle.std.specs.Prelude.{Result, Ok}
+use Rattle.blorb.specs.Refusals.{Refused}
+use Rattle.blorb.specs.declared.refusal.Refusal.{Refusal}
+use Rattle.reader.specs.Reading.{accepted_with, index_of, read_of}
+use Rattle.reader.specs.declared.Accepted.{Accepted}
 use Rattle.reader.proofs.Promises.{accepted_is, counted}
 use Rattle.listing.specs.Text.{text, digit, last_digit, digits_of, decimal}
 use Rattle.listing.specs.Listing.{
@@ -27,7 +29,6 @@ use Rattle.listing.specs.Listing.{
   lines_of,
   listing_by,
   listing_of,
-  pick_reading,
   input_reading,
   input_listing,
   room_by,
@@ -118,7 +119,7 @@ module _ (f : List ℕ) (bytes : All Byte f) where
       (omega
       (arith, digits (p + 4), digits (p + 8), decimal-size (rd32 (drop (start_at f p + 4) f)) (left_out_of (rd32 (drop (start_at f p) f))) (small (start_at f p + 4))))
 
-  lines_room : (l count : ℕ) → read_of 0 f ≡ Accepted l count → (i : ℕ) → i ≤ count → length (lines_of f (take i (index_of f))) ≤ 48 * i
+  lines_room : (l count : ℕ) → read_of 0 f ≡ accepted_with l count → (i : ℕ) → i ≤ count → length (lines_of f (take i (index_of f))) ≤ 48 * i
   unfolding lines_of
   lines_room l count e zero h = omega arith
   lines_room l count e (suc i) h =
@@ -126,8 +127,10 @@ module _ (f : List ℕ) (bytes : All Byte f) where
       = ap length (lines_on f l count e i (omega arith)) ∙ length-append (lines_of f (take i (index_of f))) (line_at f (place i)) in
       rw (← add-one i) (omega (arith, on, line_room (place i), lines_room l count e i (omega arith)))
 
-  listing_go : (v : Reading) → read_of 0 f ≡ v → length (listing_by f v) ≤ room_by v
-  listing_go (Accepted l n) e =
+  listing_go : (v : Result Accepted Refusal) → read_of 0 f ≡ v → length (listing_by f v) ≤ room_by v
+  listing_go (Ok a) e =
+      let l = a.length in
+      let n = a.count in
       let whole : take n (index_of f) ≡ index_of f = take_all n (index_of f) (omega (arith, counted 0 f l n e)) in
       let lines : length (lines_of f (index_of f)) ≤ 48 * n = rw whole at (lines_room l n e n (omega arith)) in
       simp length-append (omega (arith, head-room l n, lines))
@@ -137,7 +140,7 @@ module _ (f : List ℕ) (bytes : All Byte f) where
   unfolding listing_of room_for
   listing_fits = listing_go (read_of 0 f) refl
 
-  picked_fits : (over : Bool) → length (listing_by f (pick_reading over (Refused 1 0) (read_of 0 f))) ≤ room_by (pick_reading over (Refused 1 0) (read_of 0 f))
+  picked_fits : (over : Bool) → length (listing_by f (cond over (Refused 1 0) (read_of 0 f))) ≤ room_by (cond over (Refused 1 0) (read_of 0 f))
   picked_fits true = refused-room 1 0
   picked_fits false = listing_go (read_of 0 f) refl
 
@@ -146,11 +149,11 @@ module _ (f : List ℕ) (bytes : All Byte f) where
   input-fits longer = picked_fits (longer || ltb 65536 (length f))
 
 -- the most room that an input asks for: 4,096 entries
-input_go : (f : List ℕ) (v : Reading) → read_of 0 f ≡ v → room_by v ≤ 196672
-input_go f (Accepted l n) e = omega (arith, (accepted_is 0 f l n e).4)
+input_go : (f : List ℕ) (v : Result Accepted Refusal) → read_of 0 f ≡ v → room_by v ≤ 196672
+input_go f (Ok a) e = omega (arith, (accepted_is 0 f a.length a.count e).4)
 input_go f (Refused k p) e = omega arith
 
-picked-room : (f : List ℕ) (over : Bool) → room_by (pick_reading over (Refused 1 0) (read_of 0 f)) ≤ 196672
+picked-room : (f : List ℕ) (over : Bool) → room_by (cond over (Refused 1 0) (read_of 0 f)) ≤ 196672
 picked-room f true = omega arith
 picked-room f false = input_go f (read_of 0 f) refl
 

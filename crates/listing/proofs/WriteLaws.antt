@@ -1,12 +1,12 @@
 -- Text written piece by piece.
 use mathlib.Core.Path.{◌≡◌, refl, sym, ap, ◌∙◌}
-use Prim.Native.Nat.{ℕ, suc, ◌+◌, ◌/◌, ◌%◌, ◌^◌, ◌≤◌, ◌<◌}
+use Prim.Native.Nat.{ℕ, suc, ◌+◌, ◌-◌, ◌/◌, ◌%◌, ◌^◌, ◌≤◌, ◌<◌}
 use mathlib.Core.List.{List, [], ◌∷◌, ◌++◌, append_assoc}
 use native.Mathlib.Omega.{arith}
-use native.Mathlib.Numerals.{add-one}
 use native.Mathlib.Nat.{add-zero, zero-add}
-use lib.ListN.{length, get_or, take, drop, set, length-append}
-use lib.Seq.{sets, sets-eq, take-suc, take_all, length-take-le}
+use lib.ListN.{length, take, drop, set, length-append}
+use lib.Seq.{sets, sets-eq, drop-drop}
+use borrow.Rule.Slice.PartMut.{put_mid}
 use Rattle.listing.specs.Text.{digit, decimal}
 use Rattle.listing.specs.InPlace.{Wrote}
 use Rattle.listing.proofs.TextLaws.{decimal-one, decimal_on}
@@ -30,16 +30,14 @@ pub more_two : (out : List ℕ) (at : ℕ) (p : List ℕ) (to : ℕ) (mid : List
     → Wrote mid to (q ++ r) end after → Wrote out at (p ++ q ++ r) end after
 more_two out at p to mid w q r end after v = rw (append_assoc p q r) (more out at p to mid w (q ++ r) end after v)
 
--- a text, byte by byte
-pub text-turn : (out : List ℕ) (at : ℕ) (t : List ℕ) (i : ℕ) → i < length t → set (sets out at (take i t)) (at + i) (get_or t i 0) ≡ sets out at (take (i + 1) t)
-text-turn out at t i h =
-    let e : length (take i t) ≡ i = length-take-le i t (omega arith) in
-    rw (add-one i, take-suc t i 0 h) (sym (sets_append (take i t) out (get_or t i 0 ∷ []) at
-    ∙ ap (λ (k : ℕ). set (sets out at (take i t)) (at + k) (get_or t i 0)) e))
-
-pub text_whole : (out : List ℕ) (at : ℕ) (t : List ℕ) (i : ℕ) (after : List ℕ) → length t ≤ i → i ≤ length t → after ≡ sets out at (take i t)
-    → Wrote out at t (at + i) after
-text_whole out at t i after h g e = (omega arith, e ∙ ap (sets out at) (take_all i t h))
+-- a text copied in, as the part s
+pub text_in : (out t : List ℕ) (at to : ℕ) (s : List ℕ) → to ≡ at + length t → to ≤ length out → s ≡ t → Wrote out at t to (put_mid at (to - at) out s)
+text_in out t at to s e h same =
+    let k : to - at ≡ length t = omega arith in (
+      e,
+      rw (same, k, sets-eq t out at (omega arith), append_assoc (take at out) t (drop (at + length t) out))
+          (ap (λ (r : List ℕ). take at out ++ (t ++ r)) (drop-drop (length t) at out)),
+    )
 
 -- a number, its last digit last
 pub one-digit : (out : List ℕ) (at n : ℕ) → n < 10 → Wrote out at (decimal n) (at + 1) (set out at (48 + n))

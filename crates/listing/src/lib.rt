@@ -1,35 +1,30 @@
 // The listing of a Blorb file: what the lister prints, written into a lent buffer.
 #![tactic(auto)]
 
-ghost use Rattle.std.specs.Prelude.{◌≡◌, ◌+◌, ◌*◌, ◌≤◌, ◌++◌, length, drop};
+ghost use Rattle.std.specs.Prelude.{◌≡◌, ◌+◌, ◌*◌, ◌≤◌, ◌++◌, length, drop, Ok};
 ghost use Rattle.blorb.specs.Bytes.{be32, rd32};
-ghost use Rattle.reader.specs.Reading.{index_of, read_of};
+ghost use Rattle.reader.specs.Reading.{accepted_with, index_of, read_of};
 ghost use Rattle.index.specs.Entries.{start_at};
-ghost use Rattle.reader.specs.declared.Reading.TheVariants.{Accepted};
 ghost use Rattle.listing.specs.Text.{decimal};
 ghost use Rattle.listing.specs.Listing.{head_line, refused_line, lines_of, listing_by, listing_of, input_listing, room_by, room_for, input_room, listed_in, out_by};
 ghost use Rattle.listing.specs.InPlace.{Wrote, fields_at, chunk_text, line_at};
 
-use reader::Reading;
+use blorb::{Fault, Refusal};
+use reader::Accepted;
 
-// How many bytes the listing takes up in the buffer. One with less than the listing's room stays as it is.
-#[derive(Clone, Copy)]
-pub enum Listed {
-    Written(usize),
-    NoRoom,
-}
+const TOO_LONG: Refusal = Refusal {
+    fault: Fault::TooLong,
+    place: 0,
+};
 
 // Each `put_` function writes a piece of text into `out` from `at` on and gives back where it ends.
 fn put_text(out: &mut [u8], at: usize, text: &[u8]) -> usize
     requires { at + length text.now ≤ length out.old }
     ensures { Wrote out.old at text.now result out.new }
 {
-    let mut i: usize = 0;
-    while i < text.len() {
-        out[at + i] = text[i];
-        i += 1;
-    }
-    at + i
+    let to = at + text.len();
+    out[at..to].copy_from_slice(text);
+    to
 }
 
 // The number's digits, the last of them last.
@@ -101,14 +96,12 @@ fn put_entry(out: &mut [u8], at: usize, file: &[u8], p: usize) -> usize
 
 // The lines of an accepted file's entries, in index order.
 fn put_entries(out: &mut [u8], at: usize, file: &[u8], count: usize) -> usize
-    requires { (read_of 0 file.now ≡ Accepted (length file.now) count) × (at + 48 * count ≤ length out.old) }
+    requires { (read_of 0 file.now ≡ accepted_with (length file.now) count) × (at + 48 * count ≤ length out.old) }
     ensures { Wrote out.old at (lines_of file.now (index_of file.now)) result out.new × (result ≤ at + 48 * count) }
 {
     let mut to = at;
-    let mut i: usize = 0;
-    while i < count {
+    for i in 0..count {
         to = put_entry(out, to, file, 24 + 12 * i);
-        i += 1;
     }
     to
 }
@@ -124,52 +117,52 @@ fn put_head(out: &mut [u8], size: usize, count: usize) -> usize
 }
 
 // The first line takes at most 64 bytes and an entry's line at most 48.
-fn list_accepted(file: &[u8], size: usize, count: usize, out: &mut [u8]) -> Listed
-    requires { read_of 0 file.now ≡ Accepted size count }
-    ensures { (result ≡ listed_in (length out.old) (room_by (Accepted size count)) (listing_by file.now (Accepted size count)))
-        × (out.new ≡ out_by result (listing_by file.now (Accepted size count)) out.old) }
+fn list_accepted(file: &[u8], accepted: Accepted, out: &mut [u8]) -> Option<usize>
+    requires { read_of 0 file.now ≡ Ok accepted }
+    ensures { (result ≡ listed_in (length out.old) (room_by (Ok accepted)) (listing_by file.now (Ok accepted)))
+        × (out.new ≡ out_by result (listing_by file.now (Ok accepted)) out.old) }
 {
-    if out.len() < 64 + 48 * count {
-        return Listed::NoRoom;
+    if out.len() < 64 + 48 * accepted.count {
+        return None;
     }
-    let to = put_head(out, size, count);
-    Listed::Written(put_entries(out, to, file, count))
+    let to = put_head(out, accepted.length, accepted.count);
+    Some(put_entries(out, to, file, accepted.count))
 }
 
 // The one line `refused 7 at 47`.
-fn list_refused(number: u64, place: usize, out: &mut [u8]) -> Listed
-    ensures { (result ≡ listed_in (length out.old) 64 (refused_line number place)) × (out.new ≡ out_by result (refused_line number place)
-        out.old) }
+fn list_refused(r: Refusal, out: &mut [u8]) -> Option<usize>
+    ensures { (result ≡ listed_in (length out.old) 64 (refused_line r.0 r.1)) × (out.new ≡ out_by result (refused_line r.0 r.1) out.old) }
 {
     if out.len() < 64 {
-        return Listed::NoRoom;
+        return None;
     }
-    let to1 = put_number(out, 0, b"refused ", number);
-    let to2 = put_number(out, to1, b" at ", place as u64);
-    Listed::Written(put_text(out, to2, b"\n"))
+    let to1 = put_number(out, 0, b"refused ", r.number());
+    let to2 = put_number(out, to1, b" at ", r.place as u64);
+    Some(put_text(out, to2, b"\n"))
 }
 
-// The listing of a file. It is validated once; entries and chunk headers are then read where they stand.
-pub fn list(file: &[u8], out: &mut [u8]) -> Listed
+// The listing of a file: how many bytes it takes up in the buffer. One with less than the listing's room stays as it is.
+// The file is validated once; entries and chunk headers are then read where they stand.
+pub fn list(file: &[u8], out: &mut [u8]) -> Option<usize>
     ensures { (result ≡ listed_in (length out.old) (room_for file.now) (listing_of file.now))
         × (out.new ≡ out_by result (listing_of file.now) out.old) }
 {
     match reader::read(file, 0) {
-        Reading::Accepted { length, count } => list_accepted(file, length, count, out),
-        Reading::Refused { number, place } => list_refused(number, place, out),
+        Ok(accepted) => list_accepted(file, accepted, out),
+        Err(r) => list_refused(r, out),
     }
 }
 
 // The listing of the lister's input: of the bytes that were read, or its refusal, if more follow or these are over 65,536.
-pub fn list_input(file: &[u8], longer: bool, out: &mut [u8]) -> Listed
+pub fn list_input(file: &[u8], longer: bool, out: &mut [u8]) -> Option<usize>
     ensures { (result ≡ listed_in (length out.old) (input_room file.now longer) (input_listing file.now longer))
         × (out.new ≡ out_by result (input_listing file.now longer) out.old) }
 {
     if longer {
-        return list_refused(1, 0, out);
+        return list_refused(TOO_LONG, out);
     }
     if 65536 < file.len() {
-        return list_refused(1, 0, out);
+        return list_refused(TOO_LONG, out);
     }
     list(file, out)
 }

@@ -5,20 +5,16 @@ ghost use Rattle.std.specs.Prelude.{◌≡◌, ◌≤◌, ◌++◌, length, drop
 ghost use Rattle.listing.specs.Listing.{input_listing};
 
 use intake::read_full;
-use listing::Listed;
 use std::io;
 use std::io::Read;
 
-// The whole listing: 196,672 bytes are room for one of 4,096 entries, so that the other branch is never taken.
+// The whole listing: 196,672 bytes are room for one of 4,096 entries.
 fn list_whole(file: &[u8], longer: bool, out: &mut [u8]) -> usize
     requires { 196672 ≤ length out.old }
     ensures { (result ≡ length (input_listing file.now longer)) × (out.new ≡ input_listing file.now longer ++ drop result
         out.old) × (result ≤ length out.new) }
 {
-    let Listed::Written(n) = listing::list_input(file, longer, out) else {
-        return 0;
-    };
-    n
+    listing::list_input(file, longer, out).unwrap()
 }
 
 // Whether the input has more, once n bytes were read into 65,536.

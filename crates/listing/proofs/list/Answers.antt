@@ -4,14 +4,14 @@ use Rattle.listing.proofs.ListLaws.{list_by}
 use Rattle.listing.proofs.list.Goals as goal
 
 pub list_accepted-requires : goal.list_accepted-requires
-list_accepted-requires c = sym c.read.ensures ∙ c.in-Accepted.is
+list_accepted-requires c = sym c.read.ensures ∙ c.in-Ok.is
 
-pub returns-in-Accepted : goal.returns-in-Accepted
-returns-in-Accepted c = let a = c.args in list_by a.file.now a.out.now _ _ _
-    (sym c.read.ensures ∙ c.in-Accepted.is)
+pub returns-in-Ok : goal.returns-in-Ok
+returns-in-Ok c = let a = c.args in list_by a.file.now a.out.now _ _ _
+    (sym c.read.ensures ∙ c.in-Ok.is)
     c.list_accepted.ensures
 
-pub returns-in-Refused : goal.returns-in-Refused
-returns-in-Refused c = let a = c.args in list_by a.file.now a.out.now _ _ _
-    (sym c.read.ensures ∙ c.in-Refused.is)
+pub returns-in-Err : goal.returns-in-Err
+returns-in-Err c = let a = c.args in list_by a.file.now a.out.now _ _ _
+    (sym c.read.ensures ∙ c.in-Err.is)
     c.list_refused.ensures

@@ -1,3 +1,4 @@
+-- Each turn writes one line more, the definition of the entry at its place.
 use native.Mathlib.Omega.{arith}
 use mathlib.Core.Path.{refl}
 use Rattle.reader.proofs.Promises.{accepted_is, entry_at}
@@ -5,7 +6,7 @@ use Rattle.listing.proofs.ListLaws.{lines_none, lines_turn, lines_whole}
 use Rattle.listing.proofs.put_entries.Goals as goal
 
 pub loop-i-init : goal.loop-i-init
-loop-i-init c = let a = c.args in (omega arith, refl, omega arith, lines_none a.file.now a.out.now a.at)
+loop-i-init c = let a = c.args in (omega arith, lines_none a.file.now a.out.now a.at)
 
 pub overflow_mul-i : goal.overflow_mul-i
 overflow_mul-i c = omega (
@@ -30,18 +31,16 @@ pub loop-i-preserved : goal.loop-i-preserved
 loop-i-preserved c = let f = c.args.file.now in
     let l = c.loop-i in
     let e = c.requires.0 in (
-      omega arith,
-      omega arith,
       omega (arith, c.put_entry-to.ensures.1),
       lines_turn f _ _ e c.args.out.now _ _
           c.args.at l.i _ _ c.loop-i-test.true
-          l.invariant.3 c.put_entry-to.ensures.0,
+          l.invariant.1 c.put_entry-to.ensures.0,
     )
 
 pub returns : goal.returns
 returns c = let f = c.args.file.now in
     let l = c.loop-i in (
       lines_whole f _ _ c.requires.0 c.args.out.now _
-          c.args.at l.i _ c.loop-i-test.false l.invariant.3,
-      omega (arith, l.invariant.2, l.invariant.0),
+          c.args.at l.i _ c.loop-i-test.false l.invariant.1,
+      omega (arith, l.invariant.0, l.invariant.0),
     )

@@ -1,15 +1,10 @@
 -- After i turns the lines of the first i entries stand in the buffer, and take at most 48 bytes each.
-use Prim.Native.Nat.{◌+◌, ◌*◌, ◌-◌, ◌≤◌}
-use mathlib.Core.Path.{◌≡◌}
-use lib.ListN.{length, take}
+use Prim.Native.Nat.{◌+◌, ◌*◌, ◌≤◌}
+use lib.ListN.{take}
 use Rattle.reader.specs.Reading.{index_of}
 use Rattle.listing.specs.Listing.{lines_of}
 use Rattle.listing.specs.InPlace.{Wrote}
 use Rattle.listing.proofs.put_entries.Given as goal
 
 abbrev pub invariant-loop-i : goal.invariant-loop-i
-invariant-loop-i l = (l.i ≤ l.count) × (length l.out ≡ length l.initial.out) × (l.to ≤ l.at + 48 * l.i) × Wrote l.initial.out l.at
-    (lines_of l.file (take l.i (index_of l.file))) l.to l.out
-
-abbrev pub decreases-loop-i : goal.decreases-loop-i
-decreases-loop-i l = l.count - l.i
+invariant-loop-i l = (l.to ≤ l.at + 48 * l.i) × Wrote l.initial.out l.at (lines_of l.file (take l.i (index_of l.file))) l.to l.out
