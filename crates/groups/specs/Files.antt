@@ -1,13 +1,12 @@
 -- A group file's verdict, its list of FORMs, and the two calls' answers (02, P9).
-use Rattle.std.specs.Prelude.{ℕ, ◌+◌, ◌*◌, List, [], ◌∷◌, ◌++◌, Bool, true, false, length, get_or, take, drop, eqb, leb, ltb}
+use Rattle.std.specs.Prelude.{ℕ, ◌+◌, ◌*◌, List, [], ◌∷◌, ◌++◌, Bool, true, false, length, get_or, take, drop, eqb, leb, ltb, Result, Ok}
 use Rattle.blorb.specs.Verdict.{Verdict, accept, refuse, ◌then◌, check}
+use Rattle.blorb.specs.declared.refusal.Refusal.{Refusal}
+use Rattle.blorb.specs.Refusals.{Refused}
 use Rattle.members.specs.Faults.{next_at}
 use Rattle.groups.specs.Events.{Event, form, fault, chunk}
 use Rattle.members.specs.declared.Place.TheVariants.{Top}
-use Rattle.groups.specs.declared.Listing.{Listing}
-use Rattle.groups.specs.declared.Listing.TheVariants.{Listed, Refused}
-use Rattle.groups.specs.declared.Picking.{Picking}
-use Rattle.groups.specs.declared.Picking.TheVariants.{Picked, Refused as Missing}
+use Rattle.groups.specs.declared.part.Picked.{Picked}
 
 -- "four 32-bit numbers a row: form type, start, length field, depth"
 pub record Row : Type 0 where
@@ -49,21 +48,21 @@ unfoldable pub rows_numbers : List Row → List ℕ
 rows_numbers [] = []
 rows_numbers (r ∷ rs) = row_numbers r ++ rows_numbers rs
 
-abbrev pub pick_listing : Bool → Listing → Listing → Listing
+abbrev pub pick_listing : Bool → Result ℕ Refusal → Result ℕ Refusal → Result ℕ Refusal
 pick_listing true a b = a
 pick_listing false a b = b
 
 -- "Last 45, list buffer too small"
-abbrev pub listed_by : Verdict → ℕ → ℕ → Listing
+abbrev pub listed_by : Verdict → ℕ → ℕ → Result ℕ Refusal
 listed_by (refuse k p) n room = Refused k p
-listed_by accept n room = pick_listing (leb (4 * n) room) (Listed n) (Refused 45 0)
+listed_by accept n room = pick_listing (leb (4 * n) room) (Ok n) (Refused 45 0)
 
-unfoldable pub list_of : List ℕ → ℕ → Listing
+unfoldable pub list_of : List ℕ → ℕ → Result ℕ Refusal
 list_of f room = listed_by (file_fault f) (length (forms_of f)) room
 
 -- the buffer afterwards: "the buffer behind the last row stays"
-abbrev pub rows_by : Listing → List ℕ → List ℕ → List ℕ
-rows_by (Listed n) numbers rows = numbers ++ drop (4 * n) rows
+abbrev pub rows_by : Result ℕ Refusal → List ℕ → List ℕ → List ℕ
+rows_by (Ok n) numbers rows = numbers ++ drop (4 * n) rows
 rows_by (Refused k p) numbers rows = rows
 
 unfoldable pub listed : List ℕ → List ℕ → List ℕ
@@ -72,28 +71,32 @@ listed f rows = rows_by (list_of f (length rows)) (rows_numbers (forms_of f)) ro
 abbrev pub no_row : Row
 no_row = record { type = 0; start = 0; size = 0; depth = 0 }
 
-abbrev pub pick_picking : Bool → Picking → Picking → Picking
+abbrev pub pick_picking : Bool → Result Picked Refusal → Result Picked Refusal → Result Picked Refusal
 pick_picking true a b = a
 pick_picking false a b = b
 
--- "Picking one from the file by row number gives its bytes, header in and padding out, or 22"
-abbrev pub picked_by : Verdict → List Row → ℕ → Picking
-picked_by (refuse k p) rs i = Missing k p
-picked_by accept rs i = pick_picking (ltb i (length rs)) (Picked (get_or rs i no_row).start (8 + (get_or rs i no_row).size)) (Missing 22 0)
+-- a FORM's bytes, header in and padding out
+abbrev pub part : Row → Picked
+part r = record { start = r.start; length = 8 + r.size }
 
-unfoldable pub pick_of : List ℕ → ℕ → Picking
+-- "Picking one from the file by row number gives its bytes, header in and padding out, or 22"
+abbrev pub picked_by : Verdict → List Row → ℕ → Result Picked Refusal
+picked_by (refuse k p) rs i = Refused k p
+picked_by accept rs i = pick_picking (ltb i (length rs)) (Ok (part (get_or rs i no_row))) (Refused 22 0)
+
+unfoldable pub pick_of : List ℕ → ℕ → Result Picked Refusal
 pick_of f i = picked_by (file_fault f) (forms_of f) i
 
 -- the part that the answer names, empty where it refuses
-abbrev pub part_of : Picking → List ℕ → List ℕ
-part_of (Picked a n) f = take n (drop a f)
-part_of (Missing k p) f = []
+abbrev pub part_of : Result Picked Refusal → List ℕ → List ℕ
+part_of (Ok a) f = take a.length (drop a.start f)
+part_of (Refused k p) f = []
 
 -- where that part begins in the caller's slice; the empty part of a refused call at its first byte
-abbrev pub part_start : Picking → ℕ
-part_start (Picked a n) = a
-part_start (Missing k p) = 0
+abbrev pub part_start : Result Picked Refusal → ℕ
+part_start (Ok a) = a.start
+part_start (Refused k p) = 0
 
 -- where it lies in memory, for a slice that lies at p: a block and an offset in it
-abbrev pub part_at : Picking → ℕ × ℕ → ℕ × ℕ
+abbrev pub part_at : Result Picked Refusal → ℕ × ℕ → ℕ × ℕ
 part_at k p = (p.0, part_start k + p.1)

@@ -1,6 +1,8 @@
 -- The walk of the code, which counts FORMs and stores those rows that a slice has room for. It stands between the code and the definitions.
-use Rattle.std.specs.Prelude.{ℕ, ◌+◌, ◌*◌, ◌-◌, List, [], ◌∷◌, ◌++◌, Bool, true, false, ◌&&◌, length, take, drop, eqb, leb}
+use Rattle.std.specs.Prelude.{ℕ, ◌+◌, ◌*◌, ◌-◌, List, [], ◌∷◌, ◌++◌, Bool, true, false, ◌&&◌, length, take, drop, eqb, leb, Result, Ok}
 use Rattle.blorb.specs.Verdict.{Verdict, accept, refuse}
+use Rattle.blorb.specs.declared.refusal.Refusal.{Refusal}
+use Rattle.blorb.specs.Refusals.{Refused, answer_by}
 use Rattle.members.specs.Kinds.{behind}
 use Rattle.blorb.specs.Bytes.{rd32}
 use Rattle.members.specs.Faults.{kind_at, size_at, end_at, next_at, member_fault_of}
@@ -11,9 +13,7 @@ use Rattle.members.specs.declared.Kind.TheVariants.{Form, List as Lst, Cat, Prop
 use Rattle.members.specs.declared.Place.{Place}
 use Rattle.members.specs.declared.Place.TheVariants.{InForm, ListHead, InGroup, InProp}
 use Rattle.groups.specs.declared.readers.Member.{Member}
-use Rattle.groups.specs.declared.readers.Member.TheVariants.{Refused as Stopped, Form as OfForm, Group as OfGroup, Passed}
-use Rattle.groups.specs.declared.Scan.{Scan}
-use Rattle.groups.specs.declared.Scan.TheVariants.{Fine, Refused as Broken}
+use Rattle.groups.specs.declared.readers.Member.TheVariants.{Form as OfForm, Group as OfGroup, Passed}
 
 abbrev pub pick_rows_of : Bool → List ℕ → List ℕ → List ℕ
 pick_rows_of true a b = a
@@ -31,9 +31,9 @@ pub data Outcome : Type 0 where
   good : ℕ → List ℕ → Outcome
   bad : ℕ → ℕ → List ℕ → Outcome
 
-abbrev pub outcome : Scan → List ℕ → Outcome
-outcome (Fine n) rows = good n rows
-outcome (Broken k p) rows = bad k p rows
+abbrev pub outcome : Result ℕ Refusal → List ℕ → Outcome
+outcome (Ok n) rows = good n rows
+outcome (Refused k p) rows = bad k p rows
 
 unfoldable pub scan : ℕ → ℕ → List ℕ → List Event → Outcome
 scan base n rows [] = good n rows
@@ -49,19 +49,15 @@ and_scan (good n rows) k = k n rows
 and_scan (bad k p rows) c = bad k p rows
 
 -- one member, as the code takes it apart
-abbrev pub passed_by : Verdict → ℕ → Place → Member
-passed_by accept next after = Passed next after
-passed_by (refuse k p) next after = Stopped k p
+abbrev pub member_by : Verdict → Kind → ℕ → ℕ → Place → Verdict → Result Member Refusal
+member_by (refuse k p) kind close next after inside = Refused k p
+member_by accept Form close next after inside = Ok (OfForm close next after)
+member_by accept Lst close next after inside = Ok (OfGroup ListHead close next after)
+member_by accept Cat close next after inside = Ok (OfGroup InGroup close next after)
+member_by accept Prop close next after inside = answer_by inside (Passed next after)
+member_by accept Plain close next after inside = Ok (Passed next after)
 
-abbrev pub member_by : Verdict → Kind → ℕ → ℕ → Place → Verdict → Member
-member_by (refuse k p) kind close next after inside = Stopped k p
-member_by accept Form close next after inside = OfForm close next after
-member_by accept Lst close next after inside = OfGroup ListHead close next after
-member_by accept Cat close next after inside = OfGroup InGroup close next after
-member_by accept Prop close next after inside = passed_by inside next after
-member_by accept Plain close next after inside = Passed next after
-
-unfoldable pub member_at_of : List ℕ → Place → ℕ → ℕ → ℕ → Member
+unfoldable pub member_at_of : List ℕ → Place → ℕ → ℕ → ℕ → Result Member Refusal
 member_at_of f p depth end at =
     member_by (member_fault_of f p depth end at) (kind_at f at) (end_at f at) (next_at f at) (behind p (kind_at f at))
     (first_fault (members f InProp (depth + 1) (end_at f at) (at + 12)))

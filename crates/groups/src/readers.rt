@@ -1,25 +1,35 @@
 // The readers of FORMs and of groups, which call each other, and of PROPs.
-ghost use Rattle.std.specs.Prelude.{◌≡◌, ◌+◌, ◌-◌, ◌≤◌, length, drop};
+ghost use Rattle.std.specs.Prelude.{◌≡◌, ◌+◌, ◌-◌, ◌≤◌, length, drop, Ok, IfSome};
 ghost use Rattle.blorb.specs.Bytes.{rd32};
-ghost use Rattle.chunks.specs.Walk.{verdict_of};
+ghost use Rattle.blorb.specs.Refusals.{verdict_of};
 ghost use Rattle.members.specs.declared.Place.TheVariants.{InProp};
 ghost use Rattle.members.specs.Faults.{size_at};
 ghost use Rattle.groups.specs.Events.{members};
 ghost use Rattle.groups.specs.Files.{first_fault, events_of};
-ghost use Rattle.groups.specs.Scan.{store, outcome, scan, form_shows, scan_file_of, passed_by, member_at_of};
+ghost use Rattle.groups.specs.Scan.{store, outcome, scan, form_shows, scan_file_of, member_at_of};
 
-use crate::Scan;
-use chunks::Check;
-use members::{Kind, Place, Quick, faults, kinds};
+use blorb::{Fault, Refusal};
+use members::{Kind, Place, faults};
 
-// A member, judged: a FORM by the end of its data, a group by what its members stand in and the end of its data, or a chunk with no FORM in it; and
-// where the next member begins and what it stands in.
+// A member without a fault: a FORM by the end of its data, a group by what its members stand in and the end of its data, or a chunk with no FORM in it;
+// and where the next member begins and what it stands in.
 #[derive(Clone, Copy)]
 pub enum Member {
-    Refused { number: u64, place: usize },
-    Form(usize, usize, Place),
-    Group(Place, usize, usize, Place),
-    Passed(usize, Place),
+    Form {
+        close: usize,
+        next: usize,
+        after: Place,
+    },
+    Group {
+        inside: Place,
+        close: usize,
+        next: usize,
+        after: Place,
+    },
+    Passed {
+        next: usize,
+        after: Place,
+    },
 }
 
 // Row n of the file, as row n - base of the slice, if the slice has it.
@@ -53,72 +63,93 @@ fn put_form(s: &[u8], rows: &mut [u32], base: usize, n: usize, at: usize, depth:
 }
 
 // The members of a PROP, plain chunks only.
-fn prop_in(s: &[u8], end: usize, at: usize, depth: usize) -> Check
+fn prop_in(s: &[u8], end: usize, at: usize, depth: usize) -> Result<(), Refusal>
     requires { (end ≤ length s.now) × (length s.now ≤ 16777216) }
     ensures { verdict_of result ≡ first_fault (members s.now InProp depth end at) }
 {
     let mut i = at;
     while i < end {
-        if let Check::Refused { number, place } = faults::member_fault(
-            s,
-            Place::InProp,
-            depth,
-            end,
-            i,
-        ) {
-            return Check::Refused { number, place };
-        }
+        faults::member_fault(s, Place::InProp, depth, end, i)?;
         i = faults::next_at(s, i);
     }
-    Check::Good
-}
-
-fn passed(c: Check, next: usize, after: Place) -> Member
-    ensures { result ≡ passed_by (verdict_of c) next after }
-{
-    match c {
-        Check::Good => Member::Passed(next, after),
-        Check::Refused { number, place } => Member::Refused { number, place },
-    }
+    Ok(())
 }
 
 // One member, with all that a PROP holds.
-fn member_at(s: &[u8], place: Place, depth: usize, end: usize, at: usize) -> Member
+fn member_at(s: &[u8], place: Place, depth: usize, end: usize, at: usize) -> Result<Member, Refusal>
     requires { (end ≤ length s.now) × (length s.now ≤ 16777216) × (depth ≤ 17) }
     ensures { result ≡ member_at_of s.now place depth end at }
 {
-    if let Check::Refused { number, place } = faults::member_fault(s, place, depth, end, at) {
-        return Member::Refused { number, place };
-    }
+    faults::member_fault(s, place, depth, end, at)?;
     let close = faults::end_at(s, at);
     let next = faults::next_at(s, at);
     let kind = faults::kind_at(s, at);
-    let after = kinds::behind_group(place, kind);
+    let after = place.behind(kind);
     match kind {
-        Kind::Form => Member::Form(close, next, after),
-        Kind::List => Member::Group(Place::ListHead, close, next, after),
-        Kind::Cat => Member::Group(Place::InGroup, close, next, after),
-        Kind::Prop => passed(prop_in(s, close, at + 12, depth + 1), next, after),
-        Kind::Plain => Member::Passed(next, after),
+        Kind::Form => Ok(Member::Form { close, next, after }),
+        Kind::List => Ok(Member::Group {
+            inside: Place::ListHead,
+            close,
+            next,
+            after,
+        }),
+        Kind::Cat => Ok(Member::Group {
+            inside: Place::InGroup,
+            close,
+            next,
+            after,
+        }),
+        Kind::Prop => {
+            prop_in(s, close, at + 12, depth + 1)?;
+            Ok(Member::Passed { next, after })
+        }
+        Kind::Plain => Ok(Member::Passed { next, after }),
+    }
+}
+
+// Most members are FORMs and, in a FORM, plain chunks: those without a fault are found with one look at the header. None: it tells too little.
+fn quick_look(s: &[u8], place: Place, depth: usize, end: usize, at: usize) -> Option<Member>
+    requires { (at ≤ end) × (end ≤ length s.now) }
+    ensures { IfSome result (λ m. member_at_of s.now place depth end at ≡ Ok m) }
+{
+    if end - at < 8 {
+        return None;
+    }
+    let m = faults::size_at(s, at);
+    let close = at + 8 + m;
+    if end < close {
+        return None;
+    }
+    if !faults::pad_ok(s, end, at) {
+        return None;
+    }
+    let kind = faults::kind_at(s, at);
+    if !place.may_hold(kind) {
+        return None;
+    }
+    let next = close + m % 2;
+    let after = place.behind(kind);
+    match kind {
+        Kind::Plain => Some(Member::Passed { next, after }),
+        Kind::Form if (4 <= m) & (depth <= 16) => Some(Member::Form { close, next, after }),
+        _ => None,
     }
 }
 
 // The member at `at`, by a quick look where that tells enough.
-fn next_member(s: &[u8], place: Place, depth: usize, end: usize, at: usize) -> Member
+fn next_member(
+    s: &[u8],
+    place: Place,
+    depth: usize,
+    end: usize,
+    at: usize,
+) -> Result<Member, Refusal>
     requires { (at ≤ end) × (end ≤ length s.now) × (length s.now ≤ 16777216) × (depth ≤ 17) }
     ensures { result ≡ member_at_of s.now place depth end at }
 {
-    match faults::quick_look(s, place, depth, end, at) {
-        Quick::Plain(next) => Member::Passed(next, kinds::behind_group(place, Kind::Plain)),
-        Quick::Form(close, next) => {
-            Member::Form(close, next, kinds::behind_group(place, Kind::Form))
-        }
-        Quick::Unsure => match member_at(s, place, depth, end, at) {
-            Member::Refused { number, place } => Member::Refused { number, place },
-            Member::Form(close, next, after) => Member::Form(close, next, after),
-            Member::Group(inside, close, next, after) => Member::Group(inside, close, next, after),
-            Member::Passed(next, after) => Member::Passed(next, after),
-        },
+    match quick_look(s, place, depth, end, at) {
+        Some(member) => Ok(member),
+        None => member_at(s, place, depth, end, at),
     }
 }
 
@@ -132,7 +163,7 @@ fn form_in(
     end: usize,
     at: usize,
     left: usize,
-) -> Scan
+) -> Result<usize, Refusal>
     requires { (at + 12 ≤ end) × (end ≤ length s.now) × (length s.now ≤ 16777216) × (n ≤ at) × (left ≤ 16) × (1 ≤ left) }
     ensures { outcome result rows.new ≡ scan base n rows.old (form_shows s.now (17 - left) (18 - left) end at) }
 {
@@ -151,7 +182,7 @@ fn members_in(
     end: usize,
     at: usize,
     left: usize,
-) -> Scan
+) -> Result<usize, Refusal>
     requires { (end ≤ length s.now) × (length s.now ≤ 16777216) × (n ≤ at) × (left ≤ 16) × (1 ≤ left) }
     ensures { outcome result rows.new ≡ scan base n rows.old (members s.now place (18 - left) end at) }
 {
@@ -160,71 +191,62 @@ fn members_in(
     let mut p = place;
     let depth = 18 - left;
     while i < end {
-        match next_member(s, p, depth, end, i) {
-            Member::Refused { number, place } => {
-                return Scan::Refused { number, place };
-            }
-            Member::Passed(next, after) => {
+        match next_member(s, p, depth, end, i)? {
+            Member::Passed { next, after } => {
                 i = next;
                 p = after;
             }
-            Member::Form(close, next, after) => {
-                let inner = form_in(s, rows, base, k, close, i, left - 1);
-                let Scan::Fine(forms) = inner else {
-                    return inner;
-                };
-                k = forms;
+            Member::Form { close, next, after } => {
+                k = form_in(s, rows, base, k, close, i, left - 1)?;
                 i = next;
                 p = after;
             }
-            Member::Group(inside, close, next, after) => {
-                let inner = members_in(s, rows, base, k, inside, close, i + 12, left - 1);
-                let Scan::Fine(forms) = inner else {
-                    return inner;
-                };
-                k = forms;
+            Member::Group {
+                inside,
+                close,
+                next,
+                after,
+            } => {
+                k = members_in(s, rows, base, k, inside, close, i + 12, left - 1)?;
                 i = next;
                 p = after;
             }
         }
     }
-    Scan::Fine(k)
+    Ok(k)
 }
 
 // The one FORM or group of a file.
-fn top_in(s: &[u8], rows: &mut [u32], base: usize) -> Scan
+fn top_in(s: &[u8], rows: &mut [u32], base: usize) -> Result<usize, Refusal>
     requires { length s.now ≤ 16777216 }
     ensures { outcome result rows.new ≡ scan base 0 rows.old (events_of s.now) }
 {
-    match member_at(s, Place::Top, 1, s.len(), 0) {
-        Member::Refused { number, place } => Scan::Refused { number, place },
-        Member::Passed(_, _) => Scan::Fine(0),
-        Member::Form(close, _, _) => form_in(s, rows, base, 0, close, 0, 16),
-        Member::Group(place, close, _, _) => members_in(s, rows, base, 0, place, close, 12, 16),
+    match member_at(s, Place::Top, 1, s.len(), 0)? {
+        Member::Passed { .. } => Ok(0),
+        Member::Form { close, .. } => form_in(s, rows, base, 0, close, 0, 16),
+        Member::Group { inside, close, .. } => {
+            members_in(s, rows, base, 0, inside, close, 12, 16)
+        }
     }
 }
 
 // The whole file: its FORMs counted, those from row base on stored as far as the slice goes.
-pub fn scan_file(s: &[u8], rows: &mut [u32], base: usize) -> Scan
+pub fn scan_file(s: &[u8], rows: &mut [u32], base: usize) -> Result<usize, Refusal>
     ensures { outcome result rows.new ≡ scan_file_of base rows.old s.now }
 {
     if 16777216 < s.len() {
-        return Scan::Refused {
-            number: 1,
+        return Err(Refusal {
+            fault: Fault::TooLong,
             place: 0,
-        };
+        });
     }
-    match top_in(s, rows, base) {
-        Scan::Fine(n) => {
-            let next = faults::next_at(s, 0);
-            if next != s.len() {
-                return Scan::Refused {
-                    number: 43,
-                    place: next,
-                };
-            }
-            Scan::Fine(n)
-        }
-        Scan::Refused { number, place } => Scan::Refused { number, place },
+    let count = top_in(s, rows, base)?;
+    let next = faults::next_at(s, 0);
+    if next != s.len() {
+        return Err(Refusal {
+            fault: Fault::GroupMember,
+            place: next,
+        });
     }
+    Ok(count)
 }

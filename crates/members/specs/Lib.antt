@@ -1,3 +1,2 @@
 pub mod Kinds
 pub mod Faults
-pub mod Quick

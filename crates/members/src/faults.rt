@@ -1,18 +1,16 @@
 // The header of a member, and its refusals: 41 to 44.
 ghost use Rattle.std.specs.Prelude.{◌≡◌, ◌+◌, ◌≤◌, ◌<◌, ◌^◌, length};
-ghost use Rattle.chunks.specs.declared.Check.TheVariants.{Refused};
-ghost use Rattle.chunks.specs.Walk.{verdict_of};
+ghost use Rattle.blorb.specs.Refusals.{verdict_of};
 ghost use Rattle.members.specs.Faults.{kind_at, size_at, end_at, next_at, fits, padded, member_fault_of};
-ghost use Rattle.members.specs.Quick.{QuickTells};
 
-use crate::{Kind, Place, Quick, kinds};
-use chunks::Check;
+use crate::{Kind, Place};
+use blorb::{Fault, Refusal};
 
 pub fn kind_at(s: &[u8], at: usize) -> Kind
     requires { at + 8 ≤ length s.now }
     ensures { result ≡ kind_at s.now at }
 {
-    kinds::kind_of(blorb::be32_at(s, at))
+    Kind::from(blorb::be32_at(s, at))
 }
 
 pub fn size_at(s: &[u8], at: usize) -> usize
@@ -37,12 +35,6 @@ pub fn next_at(s: &[u8], at: usize) -> usize
     at + 8 + m + m % 2
 }
 
-pub fn refused(number: u64, place: usize) -> Check
-    ensures { result ≡ Refused number place }
-{
-    Check::Refused { number, place }
-}
-
 // 41 for the header and the sizes.
 pub fn sizes(s: &[u8], end: usize, at: usize) -> bool
     requires { end ≤ length s.now }
@@ -58,7 +50,7 @@ pub fn sizes(s: &[u8], end: usize, at: usize) -> bool
     if end < at + 8 + m {
         return false;
     }
-    if kinds::is_plain(kind_at(s, at)) {
+    if kind_at(s, at).is_plain() {
         return true;
     }
     4 <= m
@@ -81,61 +73,40 @@ pub fn pad_ok(s: &[u8], end: usize, at: usize) -> bool
 }
 
 // The refusals of one chunk.
-pub fn member_fault(s: &[u8], place: Place, depth: usize, end: usize, at: usize) -> Check
+pub fn member_fault(
+    s: &[u8],
+    place: Place,
+    depth: usize,
+    end: usize,
+    at: usize,
+) -> Result<(), Refusal>
     requires { end ≤ length s.now }
     ensures { verdict_of result ≡ member_fault_of s.now place depth end at }
 {
     if !sizes(s, end, at) {
-        return refused(41, at);
+        return Err(Refusal {
+            fault: Fault::GroupSize,
+            place: at,
+        });
     }
     let kind = kind_at(s, at);
-    if kinds::is_nest(kind) & (16 < depth) {
-        return refused(42, at);
+    if kind.is_nest() & (16 < depth) {
+        return Err(Refusal {
+            fault: Fault::GroupDepth,
+            place: at,
+        });
     }
-    if !kinds::may_hold(place, kind) {
-        return refused(43, at);
-    }
-    if !pad_ok(s, end, at) {
-        return refused(44, at);
-    }
-    Check::Good
-}
-
-// Most members are FORMs and, in a FORM, plain chunks: those without a fault are found with one look at the header.
-pub fn quick_look(s: &[u8], place: Place, depth: usize, end: usize, at: usize) -> Quick
-    requires { (at ≤ end) × (end ≤ length s.now) }
-    ensures { QuickTells s.now place depth end at result }
-{
-    if end - at < 8 {
-        return Quick::Unsure;
-    }
-    let m = size_at(s, at);
-    let close = at + 8 + m;
-    if end < close {
-        return Quick::Unsure;
+    if !place.may_hold(kind) {
+        return Err(Refusal {
+            fault: Fault::GroupMember,
+            place: at,
+        });
     }
     if !pad_ok(s, end, at) {
-        return Quick::Unsure;
+        return Err(Refusal {
+            fault: Fault::GroupPadding,
+            place: at,
+        });
     }
-    let next = close + m % 2;
-    match kind_at(s, at) {
-        Kind::Plain => {
-            if !kinds::may_hold(place, Kind::Plain) {
-                return Quick::Unsure;
-            }
-            Quick::Plain(next)
-        }
-        Kind::Form => {
-            if (m < 4) | (16 < depth) {
-                return Quick::Unsure;
-            }
-            if !kinds::may_hold(place, Kind::Form) {
-                return Quick::Unsure;
-            }
-            Quick::Form(close, next)
-        }
-        Kind::List => Quick::Unsure,
-        Kind::Cat => Quick::Unsure,
-        Kind::Prop => Quick::Unsure,
-    }
+    Ok(())
 }

@@ -10,87 +10,60 @@ const CAT: u64 = 0x43415420;
 
 const PROP: u64 = 0x50524f50;
 
-pub fn kind_of(t: u64) -> Kind
-    ensures { result ≡ kind_of t }
-{
-    if t == blorb::FORM {
-        return Kind::Form;
-    }
-    if t == LIST {
-        return Kind::List;
-    }
-    if t == CAT {
-        return Kind::Cat;
-    }
-    if t == PROP {
-        return Kind::Prop;
-    }
-    Kind::Plain
-}
+impl From<u64> for Kind {
+    ghost from_gives = { λ t k. k ≡ kind_of t };
 
-// A FORM or a group.
-pub fn is_nest(kind: Kind) -> bool
-    ensures { result ≡ nests kind }
-{
-    match kind {
-        Kind::Form => true,
-        Kind::List => true,
-        Kind::Cat => true,
-        Kind::Prop => false,
-        Kind::Plain => false,
-    }
-}
-
-pub fn is_plain(kind: Kind) -> bool
-    ensures { result ≡ is_plain kind }
-{
-    match kind {
-        Kind::Form => false,
-        Kind::List => false,
-        Kind::Cat => false,
-        Kind::Prop => false,
-        Kind::Plain => true,
-    }
-}
-
-pub fn is_prop(kind: Kind) -> bool
-    ensures { result ≡ is_prop kind }
-{
-    match kind {
-        Kind::Form => false,
-        Kind::List => false,
-        Kind::Cat => false,
-        Kind::Prop => true,
-        Kind::Plain => false,
-    }
-}
-
-pub fn may_hold(place: Place, kind: Kind) -> bool
-    ensures { result ≡ may_hold_of place kind }
-{
-    match place {
-        Place::Top => is_nest(kind),
-        Place::InForm => is_nest(kind) | is_plain(kind),
-        Place::ListHead => is_nest(kind) | is_prop(kind),
-        Place::InGroup => is_nest(kind),
-        Place::InProp => is_plain(kind),
-    }
-}
-
-// Where the next member of a group stands.
-pub fn behind_group(place: Place, kind: Kind) -> Place
-    ensures { result ≡ behind place kind }
-{
-    match place {
-        Place::Top => Place::Top,
-        Place::InForm => Place::InForm,
-        Place::ListHead => {
-            if is_prop(kind) {
-                return Place::ListHead;
-            }
-            Place::InGroup
+    fn from(t: u64) -> Kind {
+        match t {
+            blorb::FORM => Kind::Form,
+            LIST => Kind::List,
+            CAT => Kind::Cat,
+            PROP => Kind::Prop,
+            _ => Kind::Plain,
         }
-        Place::InGroup => Place::InGroup,
-        Place::InProp => Place::InProp,
+    }
+}
+
+impl Kind {
+    // A FORM or a group.
+    pub fn is_nest(self) -> bool
+        ensures { result ≡ nests self }
+    {
+        matches!(self, Kind::Form | Kind::List | Kind::Cat)
+    }
+
+    pub fn is_plain(self) -> bool
+        ensures { result ≡ is_plain self }
+    {
+        self == Kind::Plain
+    }
+
+    pub fn is_prop(self) -> bool
+        ensures { result ≡ is_prop self }
+    {
+        self == Kind::Prop
+    }
+}
+
+impl Place {
+    pub fn may_hold(self, kind: Kind) -> bool
+        ensures { result ≡ may_hold_of self kind }
+    {
+        match self {
+            Place::Top | Place::InGroup => kind.is_nest(),
+            Place::InForm => kind.is_nest() | kind.is_plain(),
+            Place::ListHead => kind.is_nest() | kind.is_prop(),
+            Place::InProp => kind.is_plain(),
+        }
+    }
+
+    // Where the next member stands, behind one of this kind.
+    pub fn behind(self, kind: Kind) -> Place
+        ensures { result ≡ behind self kind }
+    {
+        match self {
+            Place::ListHead if !kind.is_prop() => Place::InGroup,
+            place => place,
+        }
     }
 }

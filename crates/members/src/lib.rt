@@ -2,10 +2,10 @@
 #![tactic(auto)]
 
 pub mod faults;
-pub mod kinds;
+mod kinds;
 
 // A chunk by its type.
-#[derive(Clone, Copy)]
+#[derive(Clone, Copy, PartialEq, Eq, Debug)]
 pub enum Kind {
     Form,
     List,
@@ -15,19 +15,11 @@ pub enum Kind {
 }
 
 // What a chunk stands in; ListHead: a LIST, with nothing but PROPs before.
-#[derive(Clone, Copy)]
+#[derive(Clone, Copy, PartialEq, Eq, Debug)]
 pub enum Place {
     Top,
     InForm,
     ListHead,
     InGroup,
     InProp,
-}
-
-// What a quick look at a member tells: a plain chunk or a FORM without a fault, by where its data ends and where the next member begins, or nothing.
-#[derive(Clone, Copy)]
-pub enum Quick {
-    Plain(usize),
-    Form(usize, usize),
-    Unsure,
 }

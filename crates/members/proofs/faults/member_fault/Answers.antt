@@ -5,12 +5,11 @@ use mathlib.Core.Bool.{◌&&◌}
 use lib.Dec.{ltb}
 use Rattle.members.specs.Kinds.{nests, may_hold_of}
 use Rattle.members.specs.Faults.{kind_at}
-use Rattle.chunks.specs.Walk.{verdict_of}
 use Rattle.members.proofs.FaultLaws.{fits-facts, fault_41, fault_42, fault_43, fault_44, fault-none}
 use Rattle.members.proofs.faults.member_fault.Goals as goal
 
 pub returns-then-not-sizes : goal.returns-then-not-sizes
-returns-then-not-sizes c = ap verdict_of c.refused.ensures ∙ fault_41 _ _ _ _ _ (sym c.sizes.ensures ∙ c.if-not-sizes.true)
+returns-then-not-sizes c = fault_41 _ _ _ _ _ (sym c.sizes.ensures ∙ c.if-not-sizes.true)
 
 pub kind_at-kind-requires : goal.kind_at-kind-requires
 kind_at-kind-requires c = omega (arith, (fits-facts _ _ _ (sym c.sizes.ensures ∙ c.if-not-sizes.false)).0)
@@ -21,7 +20,7 @@ returns-then-is_nest-depth c =
     let fit = sym c.sizes.ensures ∙ c.if-not-sizes.false in
     let k = c.kind_at-kind.ensures in
     let nested : nests (kind_at a.s.now a.at) ≡ c.is_nest.result = ap nests (sym k) ∙ sym c.is_nest.ensures in
-    ap verdict_of c.refused-then-is_nest-depth.ensures ∙ fault_42 _ _ _ _ _ fit (ap (λ b. b && ltb 16 a.depth) nested ∙ c.if-is_nest-depth.true)
+    fault_42 _ _ _ _ _ fit (ap (λ b. b && ltb 16 a.depth) nested ∙ c.if-is_nest-depth.true)
 
 pub returns-then-not-may_hold : goal.returns-then-not-may_hold
 returns-then-not-may_hold c =
@@ -31,7 +30,7 @@ returns-then-not-may_hold c =
     let nested : nests (kind_at a.s.now a.at) ≡ c.is_nest.result = ap nests (sym k) ∙ sym c.is_nest.ensures in
     let shallow = ap (λ b. b && ltb 16 a.depth) nested ∙ c.if-is_nest-depth.false in
     let not_held = ap (may_hold_of a.place) (sym k) ∙ sym c.may_hold.ensures ∙ c.if-not-may_hold.true in
-    ap verdict_of c.refused-then-not-may_hold.ensures ∙ fault_43 _ _ _ _ _ fit shallow not_held
+    fault_43 _ _ _ _ _ fit shallow not_held
 
 pub pad_ok-requires : goal.pad_ok-requires
 pad_ok-requires c =
@@ -46,7 +45,7 @@ returns-then-not-pad_ok c =
     let shallow = ap (λ b. b && ltb 16 a.depth) nested ∙ c.if-is_nest-depth.false in
     let held = ap (may_hold_of a.place) (sym k) ∙ sym c.may_hold.ensures ∙ c.if-not-may_hold.false in
     let not-padded = sym c.pad_ok.ensures ∙ c.if-not-pad_ok.true in
-    ap verdict_of c.refused-then-not-pad_ok.ensures ∙ fault_44 _ _ _ _ _ fit shallow held not-padded
+    fault_44 _ _ _ _ _ fit shallow held not-padded
 
 pub returns : goal.returns
 returns c =
