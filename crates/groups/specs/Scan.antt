@@ -8,23 +8,14 @@ use Rattle.blorb.specs.Bytes.{rd32}
 use Rattle.members.specs.Faults.{kind_at, size_at, end_at, next_at, member_fault_of}
 use Rattle.groups.specs.Events.{Event, form, fault, members}
 use Rattle.groups.specs.Files.{first_fault, events_of}
+use Rattle.groups.specs.Store.{store}
+use Rattle.groups.specs.declared.store.Rows.{Rows}
 use Rattle.members.specs.declared.Kind.{Kind}
 use Rattle.members.specs.declared.Kind.TheVariants.{Form, List as Lst, Cat, Prop, Plain}
 use Rattle.members.specs.declared.Place.{Place}
 use Rattle.members.specs.declared.Place.TheVariants.{InForm, ListHead, InGroup, InProp}
 use Rattle.groups.specs.declared.readers.Member.{Member}
 use Rattle.groups.specs.declared.readers.Member.TheVariants.{Form as OfForm, Group as OfGroup, Passed}
-
-abbrev pub pick_rows_of : Bool → List ℕ → List ℕ → List ℕ
-pick_rows_of true a b = a
-pick_rows_of false a b = b
-
--- row n of the file is row n - base of the slice, if the slice has it
-unfoldable pub store : ℕ → ℕ → List ℕ → ℕ → ℕ → ℕ → ℕ → List ℕ
-store base n rows t a m d =
-    pick_rows_of (leb base n && leb (4 * (n - base) + 4) (length rows))
-    (take (4 * (n - base)) rows ++ (t ∷ a ∷ m ∷ d ∷ []) ++ drop (4 * (n - base) + 4) rows)
-    rows
 
 -- the number of rows so far and the slice, or the fault and the slice
 pub data Outcome : Type 0 where
@@ -35,14 +26,19 @@ abbrev pub outcome : Result ℕ Refusal → List ℕ → Outcome
 outcome (Ok n) rows = good n rows
 outcome (Refused k p) rows = bad k p rows
 
+-- the same, where the rows count
+abbrev pub left : {A : Type 0} → Result A Refusal → ℕ → List ℕ → Outcome
+left (Ok x) n rows = good n rows
+left (Refused k p) n rows = bad k p rows
+
 unfoldable pub scan : ℕ → ℕ → List ℕ → List Event → Outcome
 scan base n rows [] = good n rows
 scan base n rows (form t a m d ∷ es) = scan base (n + 1) (store base n rows t a m d) es
 scan base n rows (fault k p ∷ es) = bad k p rows
 
--- the FORM at at and all that it holds, at these depths
-abbrev pub form_shows : List ℕ → ℕ → ℕ → ℕ → ℕ → List Event
-form_shows f own inner end at = form (rd32 (drop (at + 8) f)) at (size_at f at) own ∷ members f InForm inner end (at + 12)
+-- the FORM at at and all that it holds, at this depth
+abbrev pub form_shows : List ℕ → ℕ → ℕ → ℕ → List Event
+form_shows f depth end at = form (rd32 (drop (at + 8) f)) at (size_at f at) depth ∷ members f InForm (depth + 1) end (at + 12)
 
 abbrev pub and_scan : Outcome → (ℕ → List ℕ → Outcome) → Outcome
 and_scan (good n rows) k = k n rows

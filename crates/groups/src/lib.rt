@@ -3,6 +3,7 @@
 
 mod part;
 mod readers;
+mod store;
 
 ghost use Rattle.std.specs.Prelude.{◌≡◌, length};
 ghost use Rattle.groups.specs.Files.{list_of, listed, pick_of, part_of, part_at};

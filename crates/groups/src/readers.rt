@@ -1,15 +1,14 @@
 // The readers of FORMs and of groups, which call each other, and of PROPs.
-ghost use Rattle.std.specs.Prelude.{◌≡◌, ◌+◌, ◌-◌, ◌≤◌, length, drop, Ok, IfSome};
-ghost use Rattle.blorb.specs.Bytes.{rd32};
+ghost use Rattle.std.specs.Prelude.{◌≡◌, ◌+◌, ◌≤◌, length, Ok, IfSome};
 ghost use Rattle.blorb.specs.Refusals.{verdict_of};
 ghost use Rattle.members.specs.declared.Place.TheVariants.{InProp};
-ghost use Rattle.members.specs.Faults.{size_at};
-ghost use Rattle.groups.specs.Events.{members};
-ghost use Rattle.groups.specs.Files.{first_fault, events_of};
-ghost use Rattle.groups.specs.Scan.{store, outcome, scan, form_shows, scan_file_of, member_at_of};
+ghost use Rattle.groups.specs.Events.{members, chunk};
+ghost use Rattle.groups.specs.Files.{first_fault};
+ghost use Rattle.groups.specs.Scan.{outcome, left, scan, form_shows, scan_file_of, member_at_of};
 
+use crate::store::Rows;
 use blorb::{Fault, Refusal};
-use members::{Kind, Place, faults};
+use members::{Kind, Place, Spot};
 
 // A member without a fault: a FORM by the end of its data, a group by what its members stand in and the end of its data, or a chunk with no FORM in it;
 // and where the next member begins and what it stands in.
@@ -32,59 +31,31 @@ pub enum Member {
     },
 }
 
-// Row n of the file, as row n - base of the slice, if the slice has it.
-fn put_row(rows: &mut [u32], base: usize, n: usize, t: u32, start: u32, size: u32, depth: u32)
-    ensures { rows.new ≡ store base n rows.old t start size depth }
-{
-    if n < base {
-        return;
-    }
-    let i = n - base;
-    if rows.len() < 4 {
-        return;
-    }
-    if (rows.len() - 4) / 4 < i {
-        return;
-    }
-    rows[4 * i] = t;
-    rows[4 * i + 1] = start;
-    rows[4 * i + 2] = size;
-    rows[4 * i + 3] = depth;
-}
-
-// The row of the FORM at `at`.
-fn put_form(s: &[u8], rows: &mut [u32], base: usize, n: usize, at: usize, depth: usize)
-    requires { (at + 12 ≤ length s.now) × (length s.now ≤ 16777216) × (depth ≤ 17) }
-    ensures { rows.new ≡ store base n rows.old (rd32 (drop (at + 8) s.now)) at (size_at s.now at) depth }
-{
-    let t = blorb::be32_at(s, at + 8);
-    let m = faults::size_at(s, at);
-    put_row(rows, base, n, t as u32, at as u32, m as u32, depth as u32);
-}
-
 // The members of a PROP, plain chunks only.
-fn prop_in(s: &[u8], end: usize, at: usize, depth: usize) -> Result<(), Refusal>
-    requires { (end ≤ length s.now) × (length s.now ≤ 16777216) }
-    ensures { verdict_of result ≡ first_fault (members s.now InProp depth end at) }
+fn prop_in(first: Spot) -> Result<(), Refusal>
+    requires { first.place ≡ InProp }
+    ensures { verdict_of result
+        ≡ first_fault (members first.entry.file.now InProp first.entry.depth first.entry.end first.entry.at) }
 {
-    let mut i = at;
-    while i < end {
-        faults::member_fault(s, Place::InProp, depth, end, i)?;
-        i = faults::next_at(s, i);
+    let mut spot = first;
+    while spot.at < spot.end {
+        spot.fault()?;
+        spot.at = spot.next();
     }
     Ok(())
 }
 
 // One member, with all that a PROP holds.
-fn member_at(s: &[u8], place: Place, depth: usize, end: usize, at: usize) -> Result<Member, Refusal>
-    requires { (end ≤ length s.now) × (length s.now ≤ 16777216) × (depth ≤ 17) }
-    ensures { result ≡ member_at_of s.now place depth end at }
+fn member_at(spot: Spot) -> Result<Member, Refusal>
+    requires { spot.depth ≤ 17 }
+    ensures { result
+        ≡ member_at_of spot.entry.file.now spot.entry.place spot.entry.depth spot.entry.end spot.entry.at }
 {
-    faults::member_fault(s, place, depth, end, at)?;
-    let close = faults::end_at(s, at);
-    let next = faults::next_at(s, at);
-    let kind = faults::kind_at(s, at);
-    let after = place.behind(kind);
+    spot.fault()?;
+    let close = spot.close();
+    let next = spot.next();
+    let kind = spot.kind();
+    let after = spot.place.behind(kind);
     match kind {
         Kind::Form => Ok(Member::Form { close, next, after }),
         Kind::List => Ok(Member::Group {
@@ -100,7 +71,7 @@ fn member_at(s: &[u8], place: Place, depth: usize, end: usize, at: usize) -> Res
             after,
         }),
         Kind::Prop => {
-            prop_in(s, close, at + 12, depth + 1)?;
+            prop_in(spot.within(Place::InProp, close))?;
             Ok(Member::Passed { next, after })
         }
         Kind::Plain => Ok(Member::Passed { next, after }),
@@ -108,98 +79,89 @@ fn member_at(s: &[u8], place: Place, depth: usize, end: usize, at: usize) -> Res
 }
 
 // Most members are FORMs and, in a FORM, plain chunks: those without a fault are found with one look at the header. None: it tells too little.
-fn quick_look(s: &[u8], place: Place, depth: usize, end: usize, at: usize) -> Option<Member>
-    requires { (at ≤ end) × (end ≤ length s.now) }
-    ensures { IfSome result (λ m. member_at_of s.now place depth end at ≡ Ok m) }
+fn quick_look(spot: Spot) -> Option<Member>
+    requires { spot.at ≤ spot.end }
+    ensures { IfSome result
+        (λ m. member_at_of spot.entry.file.now spot.entry.place spot.entry.depth spot.entry.end spot.entry.at ≡ Ok m) }
 {
-    if end - at < 8 {
+    if spot.end - spot.at < 8 {
         return None;
     }
-    let m = faults::size_at(s, at);
-    let close = at + 8 + m;
-    if end < close {
+    let m = spot.size();
+    let close = spot.at + 8 + m;
+    if spot.end < close {
         return None;
     }
-    if !faults::pad_ok(s, end, at) {
+    if !spot.is_padded() {
         return None;
     }
-    let kind = faults::kind_at(s, at);
-    if !place.may_hold(kind) {
+    let kind = spot.kind();
+    if !spot.place.may_hold(kind) {
         return None;
     }
     let next = close + m % 2;
-    let after = place.behind(kind);
+    let after = spot.place.behind(kind);
     match kind {
         Kind::Plain => Some(Member::Passed { next, after }),
-        Kind::Form if (4 <= m) & (depth <= 16) => Some(Member::Form { close, next, after }),
+        Kind::Form if 4 <= m && spot.depth <= 16 => Some(Member::Form { close, next, after }),
         _ => None,
     }
 }
 
-// The member at `at`, by a quick look where that tells enough.
-fn next_member(
-    s: &[u8],
-    place: Place,
-    depth: usize,
-    end: usize,
-    at: usize,
-) -> Result<Member, Refusal>
-    requires { (at ≤ end) × (end ≤ length s.now) × (length s.now ≤ 16777216) × (depth ≤ 17) }
-    ensures { result ≡ member_at_of s.now place depth end at }
+// The member at a spot, by a quick look where that tells enough.
+fn next_member(spot: Spot) -> Result<Member, Refusal>
+    requires { (spot.at ≤ spot.end) × (spot.depth ≤ 17) }
+    ensures { result
+        ≡ member_at_of spot.entry.file.now spot.entry.place spot.entry.depth spot.entry.end spot.entry.at }
 {
-    match quick_look(s, place, depth, end, at) {
+    match quick_look(spot) {
         Some(member) => Ok(member),
-        None => member_at(s, place, depth, end, at),
+        None => member_at(spot),
     }
 }
 
-// The FORM reader: the row of the FORM at `at`, whose data ends at `end`, then its members. left: how many of the 16 levels are left, its own among them.
+// The FORM reader: the row of a FORM, whose data ends at `close`, then its members.
 #[cycle(form_in_members_in)]
-fn form_in(
-    s: &[u8],
-    rows: &mut [u32],
-    base: usize,
-    n: usize,
-    end: usize,
-    at: usize,
-    left: usize,
-) -> Result<usize, Refusal>
-    requires { (at + 12 ≤ end) × (end ≤ length s.now) × (length s.now ≤ 16777216) × (n ≤ at) × (left ≤ 16) × (1 ≤ left) }
-    ensures { outcome result rows.new ≡ scan base n rows.old (form_shows s.now (17 - left) (18 - left) end at) }
+fn form_in(form: Spot, close: usize, rows: &mut Rows) -> Result<(), Refusal>
+    requires { (form.at + 12 ≤ close) × (close ≤ length form.file.now) × (length form.file.now ≤ 16777216)
+        × (form.depth ≤ 16) × (rows.old.count ≤ form.at) }
+    ensures same_slice { rows.new.slice.ghost_name ≡ rows.old.slice.ghost_name }
+    ensures same_base { rows.new.base ≡ rows.old.base }
+    ensures shown { left result rows.new.count rows.new.slice.now
+        ≡ scan rows.old.base rows.old.count rows.old.slice.now
+        (form_shows form.entry.file.now form.entry.depth close form.entry.at) }
 {
-    put_form(s, rows, base, n, at, 17 - left);
-    members_in(s, rows, base, n + 1, Place::InForm, end, at + 12, left)
+    let kind = blorb::be32_at(form.file, form.at + 8);
+    rows.put(
+        kind as u32,
+        form.at as u32,
+        form.size() as u32,
+        form.depth as u32,
+    );
+    members_in(form.within(Place::InForm, close), rows)
 }
 
-// The group reader: the members of a FORM, LIST or CAT from `at` to `end`. left: how many of the 16 levels are left, the holder's own among them.
+// The group reader: the members of a FORM, LIST or CAT from `first` on.
 #[cycle(form_in_members_in)]
-fn members_in(
-    s: &[u8],
-    rows: &mut [u32],
-    base: usize,
-    n: usize,
-    place: Place,
-    end: usize,
-    at: usize,
-    left: usize,
-) -> Result<usize, Refusal>
-    requires { (end ≤ length s.now) × (length s.now ≤ 16777216) × (n ≤ at) × (left ≤ 16) × (1 ≤ left) }
-    ensures { outcome result rows.new ≡ scan base n rows.old (members s.now place (18 - left) end at) }
+fn members_in(first: Spot, rows: &mut Rows) -> Result<(), Refusal>
+    requires { (length first.file.now ≤ 16777216) × (first.depth ≤ 17) × (rows.old.count ≤ first.at) }
+    ensures same_slice { rows.new.slice.ghost_name ≡ rows.old.slice.ghost_name }
+    ensures same_base { rows.new.base ≡ rows.old.base }
+    ensures shown { left result rows.new.count rows.new.slice.now
+        ≡ scan rows.old.base rows.old.count rows.old.slice.now
+        (members first.entry.file.now first.entry.place first.entry.depth first.entry.end first.entry.at) }
 {
-    let mut i = at;
-    let mut k = n;
-    let mut p = place;
-    let depth = 18 - left;
-    while i < end {
-        match next_member(s, p, depth, end, i)? {
+    let mut spot = first;
+    while spot.at < spot.end {
+        match next_member(spot)? {
             Member::Passed { next, after } => {
-                i = next;
-                p = after;
+                spot.at = next;
+                spot.place = after;
             }
             Member::Form { close, next, after } => {
-                k = form_in(s, rows, base, k, close, i, left - 1)?;
-                i = next;
-                p = after;
+                form_in(spot, close, rows)?;
+                spot.at = next;
+                spot.place = after;
             }
             Member::Group {
                 inside,
@@ -207,46 +169,60 @@ fn members_in(
                 next,
                 after,
             } => {
-                k = members_in(s, rows, base, k, inside, close, i + 12, left - 1)?;
-                i = next;
-                p = after;
+                members_in(spot.within(inside, close), rows)?;
+                spot.at = next;
+                spot.place = after;
             }
         }
     }
-    Ok(k)
+    Ok(())
 }
 
 // The one FORM or group of a file.
-fn top_in(s: &[u8], rows: &mut [u32], base: usize) -> Result<usize, Refusal>
-    requires { length s.now ≤ 16777216 }
-    ensures { outcome result rows.new ≡ scan base 0 rows.old (events_of s.now) }
+fn top_in(top: Spot, rows: &mut Rows) -> Result<(), Refusal>
+    requires { (length top.file.now ≤ 16777216) × (top.depth ≤ 16) × (rows.old.count ≤ top.at) }
+    ensures same_slice { rows.new.slice.ghost_name ≡ rows.old.slice.ghost_name }
+    ensures same_base { rows.new.base ≡ rows.old.base }
+    ensures shown { left result rows.new.count rows.new.slice.now
+        ≡ scan rows.old.base rows.old.count rows.old.slice.now
+        (chunk top.entry.file.now top.entry.place top.entry.depth top.entry.end top.entry.at) }
 {
-    match member_at(s, Place::Top, 1, s.len(), 0)? {
-        Member::Passed { .. } => Ok(0),
-        Member::Form { close, .. } => form_in(s, rows, base, 0, close, 0, 16),
-        Member::Group { inside, close, .. } => {
-            members_in(s, rows, base, 0, inside, close, 12, 16)
-        }
+    match member_at(top)? {
+        Member::Passed { .. } => Ok(()),
+        Member::Form { close, .. } => form_in(top, close, rows),
+        Member::Group { inside, close, .. } => members_in(top.within(inside, close), rows),
     }
 }
 
 // The whole file: its FORMs counted, those from row base on stored as far as the slice goes.
-pub fn scan_file(s: &[u8], rows: &mut [u32], base: usize) -> Result<usize, Refusal>
-    ensures { outcome result rows.new ≡ scan_file_of base rows.old s.now }
+pub fn scan_file(file: &[u8], slice: &mut [u32], base: usize) -> Result<usize, Refusal>
+    ensures { outcome result slice.new ≡ scan_file_of base slice.old file.now }
 {
-    if 16777216 < s.len() {
+    if 16777216 < file.len() {
         return Err(Refusal {
             fault: Fault::TooLong,
             place: 0,
         });
     }
-    let count = top_in(s, rows, base)?;
-    let next = faults::next_at(s, 0);
-    if next != s.len() {
+    let top = Spot {
+        file,
+        place: Place::Top,
+        depth: 1,
+        end: file.len(),
+        at: 0,
+    };
+    let mut rows = Rows {
+        slice,
+        base,
+        count: 0,
+    };
+    top_in(top, &mut rows)?;
+    let next = top.next();
+    if next != file.len() {
         return Err(Refusal {
             fault: Fault::GroupMember,
             place: next,
         });
     }
-    Ok(count)
+    Ok(rows.count)
 }

@@ -1,8 +1,10 @@
 // A chunk of an EA IFF 85 file as a member of a FORM or a group: its kind, what it may stand in, and its faults (41 to 44).
 #![tactic(auto)]
 
-pub mod faults;
 mod kinds;
+mod spot;
+
+pub use spot::Spot;
 
 // A chunk by its type.
 #[derive(Clone, Copy, PartialEq, Eq, Debug)]
