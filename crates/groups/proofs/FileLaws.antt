@@ -10,10 +10,10 @@ use lib.Dec.{eqb, leb, ltb}
 use borrow.Author.Tests.{le-leb, lt-leb, eq-eqb, ne_eqb, lt-ltb, le-ltb, ltb-true}
 use Rattle.blorb.specs.Verdict.{Verdict, accept, refuse, ◌then◌, check}
 use Rattle.blorb.proofs.Checks.{then_accept, check_accept}
-use Rattle.groups.specs.declared.Scan.{Scan}
-use Rattle.groups.specs.declared.Scan.TheVariants.{Fine, Refused as Broken}
-use Rattle.groups.specs.declared.Listing.TheVariants.{Listed, Refused}
-use Rattle.groups.specs.declared.Picking.TheVariants.{Picked, Refused as Missing}
+use Rattle.std.specs.Prelude.{Result, Ok}
+use Rattle.blorb.specs.declared.refusal.Refusal.{Refusal}
+use Rattle.blorb.specs.Refusals.{Refused}
+use Rattle.groups.specs.declared.part.Picked.{Picked}
 use Rattle.members.specs.declared.Kind.{Kind}
 use Rattle.members.specs.declared.Kind.TheVariants.{Form, List as Lst, Cat, Prop, Plain}
 use Rattle.members.specs.declared.Place.{Place}
@@ -22,8 +22,9 @@ use Rattle.members.specs.Kinds.{behind}
 use Rattle.members.specs.Faults.{next_at, end_at, kind_at, member_fault_of}
 use Rattle.groups.specs.Events.{Event, form, fault, chunk_by, unless_end, members_go, members, chunk}
 use Rattle.members.proofs.FaultLaws.{good-facts}
-use Rattle.groups.specs.Files.{no_row, first_fault, forms, events_of, forms_of, file_fault, row_numbers, rows_numbers, list_of, listed, pick_of, picked_by}
-use Rattle.groups.specs.Scan.{store, Outcome, good, bad, outcome, scan, and_scan, scan_file_of, pick_outcome}
+use Rattle.groups.specs.Files.{no_row, first_fault, forms, events_of, forms_of, file_fault, row_numbers, rows_numbers, list_of, listed, part, pick_of, picked_by}
+use Rattle.groups.specs.Scan.{Outcome, good, bad, outcome, scan, and_scan, scan_file_of, pick_outcome}
+use Rattle.groups.specs.Store.{store}
 use Rattle.groups.proofs.StoreLaws.{stores, stores-all, stores-pick}
 
 -- the whole file, by the top chunk's events
@@ -110,12 +111,12 @@ module _ (f : List ℕ) (base : ℕ) (rows : List ℕ) where
   pub file_count : (n : ℕ) (r : List ℕ) → good n r ≡ scan_file_of base rows f → (n ≡ length (forms_of f)) × (r ≡ stores base 0 rows (forms_of f))
   file_count n r e = let q = e ∙ file_accept (file_fine n r e) in (cc, cc)
 
-outcome-rows : (s : Scan) (l : List ℕ) (n : ℕ) (r : List ℕ) → outcome s l ≡ good n r → l ≡ r
-outcome-rows (Fine k) l n r e = cc
-outcome-rows (Broken k p) l n r e = let z : ◌≡◌ {A = ℕ} 0 1 = cc in absurd (omega arith)
+outcome-rows : (s : Result ℕ Refusal) (l : List ℕ) (n : ℕ) (r : List ℕ) → outcome s l ≡ good n r → l ≡ r
+outcome-rows (Ok k) l n r e = cc
+outcome-rows (Refused k p) l n r e = let z : ◌≡◌ {A = ℕ} 0 1 = cc in absurd (omega arith)
 
 -- a walk that stores from the first row on leaves all rows
-pub rows_from_first : (f : List ℕ) (base : ℕ) (rows : List ℕ) (s : Scan) (l : List ℕ) → outcome s l ≡ scan_file_of base rows f → file_fault f ≡ accept → base ≡ 0
+pub rows_from_first : (f : List ℕ) (base : ℕ) (rows : List ℕ) (s : Result ℕ Refusal) (l : List ℕ) → outcome s l ≡ scan_file_of base rows f → file_fault f ≡ accept → base ≡ 0
     → l ≡ stores 0 0 rows (forms_of f)
 rows_from_first f base rows s l e fine z =
     let same : scan_file_of base rows f ≡ good (length (forms_of f)) (stores 0 0 rows (forms_of f)) = rw z (file_accept f 0 rows fine) in
@@ -142,7 +143,7 @@ module _ (f rows : List ℕ) where
         (rw (e, lt-leb (4 * length (forms_of f)) (length rows) l), rw (e, lt-leb (4 * length (forms_of f)) (length rows) l))
 
     pub listed_fine : length (forms_of f) ≤ length rows / 4
-        → (Listed (length (forms_of f)) ≡ list_of f (length rows)) × (stores 0 0 rows (forms_of f) ≡ listed f rows)
+        → (Ok (length (forms_of f)) ≡ list_of f (length rows)) × (stores 0 0 rows (forms_of f) ≡ listed f rows)
     unfolding list_of listed
     listed_fine h =
         let l : 4 * length (forms_of f) ≤ length rows = omega arith in
@@ -150,17 +151,17 @@ module _ (f rows : List ℕ) where
 
 -- a pick's ways out
 module _ (f : List ℕ) (i : ℕ) where
-  pub pick-refused : (k p : ℕ) → file_fault f ≡ refuse k p → Missing k p ≡ pick_of f i
+  pub pick-refused : (k p : ℕ) → file_fault f ≡ refuse k p → Refused k p ≡ pick_of f i
   unfolding pick_of
   pick-refused k p e = rw e
 
   module _ (e : file_fault f ≡ accept) where
-    pub pick-none : length (forms_of f) ≤ i → Missing 22 0 ≡ pick_of f i
+    pub pick-none : length (forms_of f) ≤ i → Refused 22 0 ≡ pick_of f i
     unfolding pick_of
     pick-none h = rw (e, le-ltb i (length (forms_of f)) h)
 
     pub pick-one : (rows : List ℕ) → length rows ≡ 4 → i < length (forms_of f)
-        → Picked (get_or (stores i 0 rows (forms_of f)) 1 0) (8 + get_or (stores i 0 rows (forms_of f)) 2 0) ≡ pick_of f i
+        → Ok (record { start = get_or (stores i 0 rows (forms_of f)) 1 0; length = 8 + get_or (stores i 0 rows (forms_of f)) 2 0 }) ≡ pick_of f i
     unfolding pick_of
     pick-one rows l h =
         let q : 0 + i ≡ i = omega arith in
@@ -224,21 +225,20 @@ row_inside l zero (form t a m d ∷ es) i h = i.0
 row_inside l (suc j) (form t a m d ∷ es) i h = row_inside l j es i.1 (omega arith)
 row_inside l j (fault k p ∷ es) i h = row_inside l j es i h
 
-pub pick_in : (f : List ℕ) (i a n : ℕ) → pick_of f i ≡ Picked a n → a + n ≤ length f
+pub pick_in : (f : List ℕ) (i : ℕ) (k : Picked) → pick_of f i ≡ Ok k → k.start + k.length ≤ length f
 unfolding pick_of
-pick_in f i a n e = by (file_fault f) (ltb i (length (forms_of f))) refl e
+pick_in f i k e = by (file_fault f) (ltb i (length (forms_of f))) refl e
   where
     by : (v : Verdict) (b : Bool) → ltb i (length (forms_of f)) ≡ b
-        → picked_by v (forms_of f) i ≡ Picked a n → a + n ≤ length f
-    by (refuse k p) b q w = let z : ◌≡◌ {A = ℕ} 0 1 = cc in absurd (omega arith)
+        → picked_by v (forms_of f) i ≡ Ok k → k.start + k.length ≤ length f
+    by (refuse n p) b q w = let z : ◌≡◌ {A = ℕ} 0 1 = cc in absurd (omega arith)
     by accept false q w = let w2 = rw q at w in let z : ◌≡◌ {A = ℕ} 0 1 = cc in absurd (omega arith)
     by accept true q w =
         let w2 = rw q at w in
-        let x : (get_or (forms_of f) i no_row).start ≡ a = cc in
-        let y : 8 + (get_or (forms_of f) i no_row).size ≡ n = cc in
-        omega (arith, row_inside (length f) i (events_of f) (inside_file f) (ltb-true i (length (forms_of f)) q))
+        let x : part (get_or (forms_of f) i no_row) ≡ k = cc in
+        rw (← x) (row_inside (length f) i (events_of f) (inside_file f) (ltb-true i (length (forms_of f)) q))
 
 -- what the code reads from a row fits
 pub pick-fits : (f : List ℕ) (i : ℕ) (rows : List ℕ) → file_fault f ≡ accept → length rows ≡ 4 → i < length (forms_of f)
     → get_or (stores i 0 rows (forms_of f)) 1 0 + (8 + get_or (stores i 0 rows (forms_of f)) 2 0) ≤ length f
-pick-fits f i rows e l h = pick_in f i _ _ (sym (pick-one f i e rows l h))
+pick-fits f i rows e l h = pick_in f i _ (sym (pick-one f i e rows l h))

@@ -12,14 +12,16 @@ use Rattle.members.specs.declared.Kind.{Kind}
 use Rattle.members.specs.declared.Kind.TheVariants.{Form, List as Lst, Cat, Prop, Plain}
 use Rattle.members.specs.declared.Place.{Place}
 use Rattle.members.specs.declared.Place.TheVariants.{InForm, ListHead, InGroup, InProp}
-use Rattle.groups.specs.declared.readers.Member.TheVariants.{Refused as Stopped, Form as OfForm, Group as OfGroup, Passed}
-use Rattle.members.specs.declared.Quick.TheVariants.{Plain as QuickPlain, Form as QuickForm}
+use Rattle.std.specs.Prelude.{Ok}
+use Rattle.blorb.specs.Refusals.{Refused, answer_by}
+use Rattle.groups.specs.declared.readers.Member.TheVariants.{Form as OfForm, Group as OfGroup, Passed}
 use Rattle.members.specs.Kinds.{nests, is_plain, behind}
-use Rattle.members.specs.Quick.{QuickTells}
 use Rattle.members.specs.Faults.{kind_at, size_at, end_at, next_at, member_fault_of}
 use Rattle.groups.specs.Events.{Event, form, fault, chunk_by, unless_end, members_go, members, chunk}
 use Rattle.groups.specs.Files.{first_fault}
-use Rattle.groups.specs.Scan.{store, Outcome, good, bad, scan, and_scan, passed_by, member_by, member_at_of}
+use Rattle.groups.specs.Scan.{Outcome, good, bad, scan, and_scan, member_by, member_at_of}
+use Rattle.groups.specs.Store.{store}
+use Rattle.blorb.proofs.RefusalLaws.{same_refusal}
 use Rattle.members.proofs.FaultLaws.{good-facts}
 use Rattle.groups.proofs.EventLaws.{members_end, members_on, chunk-length}
 
@@ -102,20 +104,20 @@ prop_go (suc k) f d end at base n rows = go (leb end at) refl (prop_go k f d end
 -- the code's ways through one member
 module _ (f : List ℕ) (d at base n close next : ℕ) (rows : List ℕ) (after : Place) (I : Place → ℕ → ℕ → List Event) (w : Verdict)
     (prop : scan base n rows (I InProp (end_at f at) (at + 12)) ≡ by_verdict w n rows) where
-  by_bad : (v : Verdict) (k : Kind) (j q : ℕ) → member_by v k close next after w ≡ Stopped j q → bad j q rows ≡ scan base n rows (chunk_by v k f d at I)
+  by_bad : (v : Verdict) (k : Kind) (j q : ℕ) → member_by v k close next after w ≡ Refused j q → bad j q rows ≡ scan base n rows (chunk_by v k f d at I)
   unfolding scan
-  by_bad (refuse m r) k j q e = cc
+  by_bad (refuse m r) k j q e = let s = same_refusal e in rw (s.0, s.1)
   by_bad accept Form j q e = let z : ◌≡◌ {A = ℕ} 0 1 = cc in absurd (omega arith)
   by_bad accept Lst j q e = let z : ◌≡◌ {A = ℕ} 0 1 = cc in absurd (omega arith)
   by_bad accept Cat j q e = let z : ◌≡◌ {A = ℕ} 0 1 = cc in absurd (omega arith)
   by_bad accept Plain j q e = let z : ◌≡◌ {A = ℕ} 0 1 = cc in absurd (omega arith)
   by_bad accept Prop j q e = sym (prop ∙ go w e)
     where
-      go : (x : Verdict) → passed_by x next after ≡ Stopped j q → by_verdict x n rows ≡ bad j q rows
+      go : (x : Verdict) → answer_by x (Passed next after) ≡ Refused j q → by_verdict x n rows ≡ bad j q rows
       go accept y = let z : ◌≡◌ {A = ℕ} 0 1 = cc in absurd (omega arith)
-      go (refuse m r) y = cc
+      go (refuse m r) y = let s = same_refusal y in rw (s.0, s.1)
 
-  by_passed : (v : Verdict) (k : Kind) (x : ℕ) (y : Place) → member_by v k close next after w ≡ Passed x y
+  by_passed : (v : Verdict) (k : Kind) (x : ℕ) (y : Place) → member_by v k close next after w ≡ Ok (Passed x y)
       → (good n rows ≡ scan base n rows (chunk_by v k f d at I)) × (x ≡ next) × (y ≡ after)
   unfolding scan
   by_passed (refuse m r) k x y e = let z : ◌≡◌ {A = ℕ} 0 1 = cc in absurd (omega arith)
@@ -125,11 +127,11 @@ module _ (f : List ℕ) (d at base n close next : ℕ) (rows : List ℕ) (after 
   by_passed accept Plain x y e = (refl, cc, cc)
   by_passed accept Prop x y e = let g = go w e in (sym (prop ∙ g.0), g.1, g.2)
     where
-      go : (u : Verdict) → passed_by u next after ≡ Passed x y → (by_verdict u n rows ≡ good n rows) × (x ≡ next) × (y ≡ after)
+      go : (u : Verdict) → answer_by u (Passed next after) ≡ Ok (Passed x y) → (by_verdict u n rows ≡ good n rows) × (x ≡ next) × (y ≡ after)
       go accept q = (refl, cc, cc)
       go (refuse m r) q = let z : ◌≡◌ {A = ℕ} 0 1 = cc in absurd (omega arith)
 
-  by_form : (v : Verdict) (k : Kind) (c x : ℕ) (y : Place) → member_by v k close next after w ≡ OfForm c x y
+  by_form : (v : Verdict) (k : Kind) (c x : ℕ) (y : Place) → member_by v k close next after w ≡ Ok (OfForm c x y)
       → (scan base (n + 1) (store base n rows (rd32 (drop (at + 8) f)) at (size_at f at) d) (I InForm (end_at f at) (at + 12))
       ≡ scan base n rows (chunk_by v k f d at I))
       × (v ≡ accept) × (nests k ≡ true) × (is_plain k ≡ false) × (c ≡ close) × (x ≡ next) × (y ≡ after)
@@ -141,11 +143,11 @@ module _ (f : List ℕ) (d at base n close next : ℕ) (rows : List ℕ) (after 
   by_form accept Plain c x y e = let z : ◌≡◌ {A = ℕ} 0 1 = cc in absurd (omega arith)
   by_form accept Prop c x y e = go w e
     where
-      go : {X : Type 0} (u : Verdict) → passed_by u next after ≡ OfForm c x y → X
+      go : {X : Type 0} (u : Verdict) → answer_by u (Passed next after) ≡ Ok (OfForm c x y) → X
       go accept q = let z : ◌≡◌ {A = ℕ} 0 1 = cc in absurd (omega arith)
       go (refuse m r) q = let z : ◌≡◌ {A = ℕ} 0 1 = cc in absurd (omega arith)
 
-  by_group : (v : Verdict) (k : Kind) (p : Place) (c x : ℕ) (y : Place) → member_by v k close next after w ≡ OfGroup p c x y
+  by_group : (v : Verdict) (k : Kind) (p : Place) (c x : ℕ) (y : Place) → member_by v k close next after w ≡ Ok (OfGroup p c x y)
       → (scan base n rows (I p (end_at f at) (at + 12)) ≡ scan base n rows (chunk_by v k f d at I))
       × (v ≡ accept) × (nests k ≡ true) × (is_plain k ≡ false) × (c ≡ close) × (x ≡ next) × (y ≡ after)
   by_group (refuse m r) k p c x y e = let z : ◌≡◌ {A = ℕ} 0 1 = cc in absurd (omega arith)
@@ -155,7 +157,7 @@ module _ (f : List ℕ) (d at base n close next : ℕ) (rows : List ℕ) (after 
   by_group accept Plain p c x y e = let z : ◌≡◌ {A = ℕ} 0 1 = cc in absurd (omega arith)
   by_group accept Prop p c x y e = go w e
     where
-      go : {X : Type 0} (u : Verdict) → passed_by u next after ≡ OfGroup p c x y → X
+      go : {X : Type 0} (u : Verdict) → answer_by u (Passed next after) ≡ Ok (OfGroup p c x y) → X
       go accept q = let z : ◌≡◌ {A = ℕ} 0 1 = cc in absurd (omega arith)
       go (refuse m r) q = let z : ◌≡◌ {A = ℕ} 0 1 = cc in absurd (omega arith)
 
@@ -174,11 +176,11 @@ module _ (f : List ℕ) (p : Place) (d end at base n : ℕ) (rows : List ℕ) wh
   unfolding members
   propped = prop_go (length f) f (d + 1) (end_at f at) (at + 12) base n rows
 
-  pub member_bad : (j q : ℕ) → member_at_of f p d end at ≡ Stopped j q → bad j q rows ≡ scan base n rows (chunk f p d end at)
+  pub member_bad : (j q : ℕ) → member_at_of f p d end at ≡ Refused j q → bad j q rows ≡ scan base n rows (chunk f p d end at)
   unfolding member_at_of chunk
   member_bad j q e = by_bad f d at base n _ _ rows _ (λ q e a. members f q (d + 1) e a) _ propped (member_fault_of f p d end at) (kind_at f at) j q e
 
-  pub member_passed : (x : ℕ) (y : Place) → member_at_of f p d end at ≡ Passed x y
+  pub member_passed : (x : ℕ) (y : Place) → member_at_of f p d end at ≡ Ok (Passed x y)
       → (good n rows ≡ scan base n rows (chunk f p d end at)) × (x ≡ next_at f at) × (y ≡ behind p (kind_at f at))
   unfolding member_at_of chunk
   member_passed x y e = by_passed f d at base n _ _ rows _ (λ q e a. members f q (d + 1) e a) _ propped (member_fault_of f p d end at) (kind_at f at) x y e
@@ -191,7 +193,7 @@ module _ (f : List ℕ) (p : Place) (d end at base n : ℕ) (rows : List ℕ) wh
       let four = g.four i in
       record { closes = a; nexts = b; afters = q; low = omega arith; high = omega (arith, g.body); shallow = g.shallow k; room = omega (arith, g.body) }
 
-  pub member_form : (c x : ℕ) (y : Place) → member_at_of f p d end at ≡ OfForm c x y
+  pub member_form : (c x : ℕ) (y : Place) → member_at_of f p d end at ≡ Ok (OfForm c x y)
       → (scan base (n + 1) (store base n rows (rd32 (drop (at + 8) f)) at (size_at f at) d) (members f InForm (d + 1) (end_at f at) (at + 12))
       ≡ scan base n rows (chunk f p d end at))
       × Opens f p d end at c x y
@@ -200,22 +202,22 @@ module _ (f : List ℕ) (p : Place) (d end at base n : ℕ) (rows : List ℕ) wh
       let g = by_form f d at base n _ _ rows _ (λ q e a. members f q (d + 1) e a) _ propped (member_fault_of f p d end at) (kind_at f at) c x y e in
       (g.0, opens c x y g.1 g.2 g.3 g.4 g.5 g.6)
 
-  pub member_group : (q : Place) (c x : ℕ) (y : Place) → member_at_of f p d end at ≡ OfGroup q c x y
+  pub member_group : (q : Place) (c x : ℕ) (y : Place) → member_at_of f p d end at ≡ Ok (OfGroup q c x y)
       → (scan base n rows (members f q (d + 1) (end_at f at) (at + 12)) ≡ scan base n rows (chunk f p d end at)) × Opens f p d end at c x y
   unfolding member_at_of chunk
   member_group q c x y e =
       let g = by_group f d at base n _ _ rows _ (λ q e a. members f q (d + 1) e a) _ propped (member_fault_of f p d end at) (kind_at f at) q c x y e in
       (g.0, opens c x y g.1 g.2 g.3 g.4 g.5 g.6)
 
--- what a quick look tells is the member
-module _ (f : List ℕ) (p : Place) (d end at : ℕ) where
-  pub quick-passed : (next : ℕ) → QuickTells f p d end at (QuickPlain next) → Passed next (behind p Plain) ≡ member_at_of f p d end at
+-- what a quick look finds without a fault is the member
+module _ (f : List ℕ) (p : Place) (d end at next : ℕ) (fine : member_fault_of f p d end at ≡ accept) (n : next ≡ next_at f at) where
+  pub quick-passed : kind_at f at ≡ Plain → member_at_of f p d end at ≡ Ok (Passed next (behind p Plain))
   unfolding member_at_of
-  quick-passed next told = rw (told.0, told.1, told.2)
+  quick-passed k = rw (fine, k, n)
 
-  pub quick_form : (close next : ℕ) → QuickTells f p d end at (QuickForm close next) → OfForm close next (behind p Form) ≡ member_at_of f p d end at
+  pub quick_form : (close : ℕ) → kind_at f at ≡ Form → close ≡ end_at f at → member_at_of f p d end at ≡ Ok (OfForm close next (behind p Form))
   unfolding member_at_of
-  quick_form close next told = rw (told.0, told.1, told.2, told.3)
+  quick_form close k e = rw (fine, k, n, e)
 
 module _ (f : List ℕ) (d end at : ℕ) where
   pub prop_end : end ≤ at → accept ≡ first_fault (members f InProp d end at)

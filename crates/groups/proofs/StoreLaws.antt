@@ -4,11 +4,12 @@ use Prim.Native.Nat.{ℕ, zero, suc, ◌+◌, ◌-◌, ◌*◌, ◌≤◌, ◌<�
 use mathlib.Core.Path.{◌≡◌, refl, ap, sym, subst, ◌∙◌}
 use mathlib.Core.List.{List, [], ◌∷◌, ◌++◌, append_assoc, append-nil}
 use native.Mathlib.Omega.{arith}
-use lib.ListN.{length, get_or, take, drop, set, length-append, length-drop, take-append-drop}
-use lib.Seq.{sets-eq, length-take-le, take_at, drop_at, drop-drop}
+use lib.ListN.{length, get_or, take, drop, length-append, length-drop, take-append-drop}
+use borrow.Rule.Slice.PartMut.{put_mid}
+use lib.Seq.{length-take-le, take_at, drop_at, drop-drop}
 use borrow.Author.Tests.{le-leb, lt-leb}
 use Rattle.groups.specs.Files.{Row, no_row, row_numbers, rows_numbers}
-use Rattle.groups.specs.Scan.{store}
+use Rattle.groups.specs.Store.{store}
 
 -- a row of the slice
 module _ (base n : ℕ) (rows : List ℕ) (t a m d : ℕ) where
@@ -21,15 +22,11 @@ module _ (base n : ℕ) (rows : List ℕ) (t a m d : ℕ) where
     unfolding store
     store-past l = rw (le-leb base n h, lt-leb (4 * (n - base) + 4) (length rows) l)
 
-    pub store_put : 4 * (n - base) + 4 ≤ length rows
-        → set (set (set (set rows (4 * (n - base)) t) (4 * (n - base) + 1) a) (4 * (n - base) + 2) m) (4 * (n - base) + 3) d ≡ store base n rows t a m d
+    pub store_put : (k : ℕ) (ys : List ℕ) → k ≡ 4 → ys ≡ t ∷ a ∷ m ∷ d ∷ [] → 4 * (n - base) + 4 ≤ length rows
+        → put_mid (4 * (n - base)) k rows ys ≡ store base n rows t a m d
     unfolding store
-    store_put l =
-        let i : ℕ = 4 * (n - base) in
-        let p1 : i + 1 ≡ suc i = omega arith in
-        let p2 : i + 2 ≡ suc (suc i) = omega arith in
-        let p3 : i + 3 ≡ suc (suc (suc i)) = omega arith in
-        rw (le-leb base n h, le-leb (4 * (n - base) + 4) (length rows) l, p1, p2, p3) (sets-eq (t ∷ a ∷ m ∷ d ∷ []) rows i l)
+    store_put k ys e q l = rw (le-leb base n h, le-leb (4 * (n - base) + 4) (length rows) l, e, q, drop-drop 4 (4 * (n - base)) rows)
+        (sym (append_assoc (take (4 * (n - base)) rows) (t ∷ a ∷ m ∷ d ∷ []) (drop (4 * (n - base) + 4) rows)))
 
 -- rows stored one after another
 unfoldable pub stores : ℕ → ℕ → List ℕ → List Row → List ℕ

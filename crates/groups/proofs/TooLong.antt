@@ -8,8 +8,7 @@ use borrow.Author.Tests.{lt-leb}
 use Rattle.blorb.specs.Verdict.{refuse}
 use Rattle.blorb.proofs.Checks.{stop}
 use Rattle.groups.specs.Files.{file_fault, forms_of, rows_numbers, listed_by, list_of, rows_by, listed, picked_by, pick_of}
-use Rattle.groups.specs.declared.Listing.TheVariants.{Refused}
-use Rattle.groups.specs.declared.Picking.TheVariants.{Refused as Missing}
+use Rattle.blorb.specs.Refusals.{Refused}
 
 module _ (f : List ℕ) (h : 16777216 < length f) where
   too_long : file_fault f ≡ refuse 1 0
@@ -24,6 +23,6 @@ module _ (f : List ℕ) (h : 16777216 < length f) where
   unfolding listed
   rows_too_long rows = ap (λ r. rows_by r (rows_numbers (forms_of f)) rows) (list_too_long (length rows))
 
-  pub pick_too_long : (i : ℕ) → pick_of f i ≡ Missing 1 0
+  pub pick_too_long : (i : ℕ) → pick_of f i ≡ Refused 1 0
   unfolding pick_of
   pick_too_long i = ap (λ v. picked_by v (forms_of f) i) too_long

@@ -40,7 +40,7 @@ fn prop_in(first: Spot) -> Result<(), Refusal>
     let mut spot = first;
     while spot.at < spot.end {
         spot.fault()?;
-        spot.at = spot.next();
+        spot = spot.moved_to(spot.next(), Place::InProp);
     }
     Ok(())
 }
@@ -155,13 +155,11 @@ fn members_in(first: Spot, rows: &mut Rows) -> Result<(), Refusal>
     while spot.at < spot.end {
         match next_member(spot)? {
             Member::Passed { next, after } => {
-                spot.at = next;
-                spot.place = after;
+                spot = spot.moved_to(next, after);
             }
             Member::Form { close, next, after } => {
                 form_in(spot, close, rows)?;
-                spot.at = next;
-                spot.place = after;
+                spot = spot.moved_to(next, after);
             }
             Member::Group {
                 inside,
@@ -170,8 +168,7 @@ fn members_in(first: Spot, rows: &mut Rows) -> Result<(), Refusal>
                 after,
             } => {
                 members_in(spot.within(inside, close), rows)?;
-                spot.at = next;
-                spot.place = after;
+                spot = spot.moved_to(next, after);
             }
         }
     }

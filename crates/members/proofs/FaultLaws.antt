@@ -103,12 +103,10 @@ module _ (f : List ℕ) (p : Place) (depth end at : ℕ) (s : Looked f end at) w
       let fit = sym (fits_plain f end at (size_at f at) refl s.head s.room (rw k)) in
       sym (fault-none f p depth end at fit (rw k) (rw k g) s.pad)
 
-  pub form_fine : kind_at f at ≡ Form → ltb (size_at f at) 4 || ltb 16 depth ≡ false → may_hold_of p Form ≡ true → member_fault_of f p depth end at ≡ accept
-  form_fine k q g =
-      let both = neither (ltb (size_at f at) 4) (ltb 16 depth) q in
-      let four = le-leb 4 (size_at f at) (ltb-false (size_at f at) 4 both.0) in
-      let fit = sym (fits-four f end at (size_at f at) refl s.head s.room (rw k)) ∙ four in
-      sym (fault-none f p depth end at fit (rw (k, both.1)) (rw k g) s.pad)
+  pub form_fine : kind_at f at ≡ Form → 4 ≤ size_at f at → depth ≤ 16 → may_hold_of p Form ≡ true → member_fault_of f p depth end at ≡ accept
+  form_fine k four shallow g =
+      let fit = sym (fits-four f end at (size_at f at) refl s.head s.room (rw k)) ∙ le-leb 4 (size_at f at) four in
+      sym (fault-none f p depth end at fit (rw (k, le-ltb 16 depth shallow)) (rw k g) s.pad)
 
 -- a chunk without fault
 pub record Good (f : List ℕ) (p : Place) (depth end at : ℕ) : Type 0 where

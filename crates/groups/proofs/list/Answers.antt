@@ -1,7 +1,7 @@
 -- The first walk has no room for a row, so it judges and counts; the second stores all rows, for which there is room.
 use native.Mathlib.Omega.{arith}
 use mathlib.Core.Path.{◌≡◌, ap, sym, ◌∙◌}
-use Rattle.groups.specs.declared.Scan.{Scan}
+
 use Rattle.groups.specs.Scan.{outcome, scan_file_of, good, bad}
 use Rattle.groups.proofs.FileLaws.{file_fine, file_count, file-refused, rows_from_first, listed-refused, listed_small, listed_fine}
 use mathlib.Core.List.{[], ◌∷◌}

@@ -5,7 +5,7 @@ use native.Mathlib.Omega.{arith}
 use mathlib.Core.Path.{◌≡◌, refl, ap, sym, ◌∙◌}
 use mathlib.Core.List.{List, [], ◌∷◌}
 use lib.ListN.{length, get_or}
-use Rattle.groups.specs.declared.Scan.{Scan}
+
 use Rattle.groups.specs.Scan.{outcome, scan_file_of, good, bad}
 use Rattle.groups.proofs.FileLaws.{file_fine, file_count, file-refused, pick-refused, pick-none, pick-one}
 use Rattle.groups.proofs.pick.Goals as goal
