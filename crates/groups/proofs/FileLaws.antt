@@ -111,16 +111,14 @@ module _ (f : List ℕ) (base : ℕ) (rows : List ℕ) where
   pub file_count : (n : ℕ) (r : List ℕ) → good n r ≡ scan_file_of base rows f → (n ≡ length (forms_of f)) × (r ≡ stores base 0 rows (forms_of f))
   file_count n r e = let q = e ∙ file_accept (file_fine n r e) in (cc, cc)
 
-outcome-rows : (s : Result ℕ Refusal) (l : List ℕ) (n : ℕ) (r : List ℕ) → outcome s l ≡ good n r → l ≡ r
-outcome-rows (Ok k) l n r e = cc
-outcome-rows (Refused k p) l n r e = let z : ◌≡◌ {A = ℕ} 0 1 = cc in absurd (omega arith)
+outcome-good : (s : Result ℕ Refusal) (l : List ℕ) (n : ℕ) (r : List ℕ) → outcome s l ≡ good n r → (s ≡ Ok n) × (l ≡ r)
+outcome-good (Ok k) l n r e = let z : k ≡ n = cc in (rw z, cc)
+outcome-good (Refused k p) l n r e = let z : ◌≡◌ {A = ℕ} 0 1 = cc in absurd (omega arith)
 
 -- a walk that stores from the first row on leaves all rows
-pub rows_from_first : (f : List ℕ) (base : ℕ) (rows : List ℕ) (s : Result ℕ Refusal) (l : List ℕ) → outcome s l ≡ scan_file_of base rows f → file_fault f ≡ accept → base ≡ 0
-    → l ≡ stores 0 0 rows (forms_of f)
-rows_from_first f base rows s l e fine z =
-    let same : scan_file_of base rows f ≡ good (length (forms_of f)) (stores 0 0 rows (forms_of f)) = rw z (file_accept f 0 rows fine) in
-    outcome-rows s l _ _ (e ∙ same)
+pub rows_from_first : (f rows : List ℕ) (s : Result ℕ Refusal) (l : List ℕ) → outcome s l ≡ scan_file_of 0 rows f → file_fault f ≡ accept
+    → (s ≡ Ok (length (forms_of f))) × (l ≡ stores 0 0 rows (forms_of f))
+rows_from_first f rows s l e fine = outcome-good s l _ _ (e ∙ file_accept f 0 rows fine)
 
 -- all rows stored
 pub all_stored : (f rows : List ℕ) → 4 * length (forms_of f) ≤ length rows

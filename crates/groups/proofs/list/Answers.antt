@@ -1,39 +1,32 @@
 -- The first walk has no room for a row, so it judges and counts; the second stores all rows, for which there is room.
 use native.Mathlib.Omega.{arith}
-use mathlib.Core.Path.{◌≡◌, ap, sym, ◌∙◌}
-
-use Rattle.groups.specs.Scan.{outcome, scan_file_of, good, bad}
+use Prim.Native.Nat.{◌/◌, ◌≤◌, ◌<◌}
+use mathlib.Core.Path.{◌≡◌, ◌∙◌}
+use lib.ListN.{length}
+use Rattle.std.proofs.lemmas.Result.{err_from_is_err_and}
+use Rattle.groups.specs.Files.{forms_of}
 use Rattle.groups.proofs.FileLaws.{file_fine, file_count, file-refused, rows_from_first, listed-refused, listed_small, listed_fine}
-use mathlib.Core.List.{[], ◌∷◌}
 use Rattle.groups.proofs.list.Goals as goal
+
+pub returns-in_err-n : goal.returns-in_err-n
+returns-in_err-n c =
+    let a = c.args in
+    let p = err_from_is_err_and c.from_residual.result c.from_residual.ensures.1 in
+    rw (p.1, p.2) (listed-refused a.file.now a.rows.now _ _ (file-refused a.file.now 0 _ _ _ _ c.in_err-n.ensures))
 
 pub returns-then-rows-n : goal.returns-then-rows-n
 returns-then-rows-n c =
     let a = c.args in
-    let m = c.scan_file in
-    let e : good c.in-Fine.n m.new.rows ≡ scan_file_of 0 (0 ∷ []) a.file.now
-    = sym (ap (λ (x : Scan). outcome x m.new.rows) c.in-Fine.is) ∙ m.ensures in
-    let k = file_count a.file.now 0 (0 ∷ []) _ _ e in
-    let h = c.if-rows-n.true in
-    listed_small a.file.now a.rows.now (file_fine a.file.now 0 (0 ∷ []) _ _ e) (rw k.0 at h)
+    let e = c.in_ok-n.ensures in
+    let few : length a.rows.now / 4 < length (forms_of a.file.now) = omega (arith, (file_count a.file.now 0 _ _ _ e).0, c.if-rows-n.true) in
+    listed_small a.file.now a.rows.now (file_fine a.file.now 0 _ _ _ e) few
 
-pub returns-else-rows-n : goal.returns-else-rows-n
-returns-else-rows-n c =
+pub returns : goal.returns
+returns c =
     let a = c.args in
-    let m = c.scan_file in
-    let w = c.scan_file-in-Fine in
-    let e : good c.in-Fine.n m.new.rows ≡ scan_file_of 0 (0 ∷ []) a.file.now
-    = sym (ap (λ (x : Scan). outcome x m.new.rows) c.in-Fine.is) ∙ m.ensures in
-    let k = file_count a.file.now 0 (0 ∷ []) _ _ e in
-    let f = file_fine a.file.now 0 (0 ∷ []) _ _ e in
-    let h = c.if-rows-n.false in
-    let l = listed_fine a.file.now a.rows.now f (rw k.0 at h) in
-    (rw k.0 l.0, rows_from_first a.file.now _ a.rows.now w.result w.new.rows w.ensures f (omega arith) ∙ l.1)
-
-pub returns-in-Refused : goal.returns-in-Refused
-returns-in-Refused c =
-    let a = c.args in
-    let m = c.scan_file in
-    let e : bad c.in-Refused.number c.in-Refused.place m.new.rows ≡ scan_file_of 0 (0 ∷ []) a.file.now
-    = sym (ap (λ (x : Scan). outcome x m.new.rows) c.in-Refused.is) ∙ m.ensures in
-    listed-refused a.file.now a.rows.now _ _ (file-refused a.file.now 0 (0 ∷ []) _ _ _ e)
+    let e = c.in_ok-n.ensures in
+    let fine = file_fine a.file.now 0 _ _ _ e in
+    let fits : length (forms_of a.file.now) ≤ length a.rows.now / 4 = omega (arith, (file_count a.file.now 0 _ _ _ e).0, c.if-rows-n.false) in
+    let l = listed_fine a.file.now a.rows.now fine fits in
+    let r = rows_from_first a.file.now a.rows.now _ _ c.scan_file-2.ensures fine in
+    (r.0 ∙ l.0, r.1 ∙ l.1)

@@ -12,7 +12,7 @@ use Rattle.groups.proofs.readers.+form_in_members_in.Goals as goal
 use Rattle.groups.proofs.readers.+form_in_members_in.Goals.{members_in-After-next_member}
 
 -- the loop's turn
-turn : (t : ℕ) → members_in-After-next_member t → Turn
+abbrev turn : (t : ℕ) → members_in-After-next_member t → Turn
 turn t c =
     record {
       f = c.loop-spot.spot.file.now;
