@@ -7,7 +7,6 @@ use lib.ListN.{length, drop}
 use Rattle.std.specs.Prelude.{Result, Ok, Err}
 use Rattle.blorb.specs.Bytes.{rd32}
 use Rattle.blorb.specs.declared.refusal.Refusal.{Refusal}
-use Rattle.blorb.specs.Refusals.{Refused}
 use Rattle.members.specs.declared.Place.{Place}
 use Rattle.members.specs.declared.Place.TheVariants.{InForm}
 use Rattle.members.specs.Kinds.{behind}

@@ -1,5 +1,5 @@
 -- The walk of the code, which counts FORMs and stores those rows that a slice has room for. It stands between the code and the definitions.
-use Rattle.std.specs.Prelude.{ℕ, ◌+◌, ◌*◌, ◌-◌, List, [], ◌∷◌, ◌++◌, Bool, true, false, ◌&&◌, length, take, drop, eqb, leb, Result, Ok}
+use Rattle.std.specs.Prelude.{ℕ, ◌+◌, List, [], ◌∷◌, Bool, true, false, length, drop, eqb, leb, Result, Ok}
 use Rattle.blorb.specs.Verdict.{Verdict, accept, refuse}
 use Rattle.blorb.specs.declared.refusal.Refusal.{Refusal}
 use Rattle.blorb.specs.Refusals.{Refused, answer_by}
@@ -9,7 +9,6 @@ use Rattle.members.specs.Faults.{kind_at, size_at, end_at, next_at, member_fault
 use Rattle.groups.specs.Events.{Event, form, fault, members}
 use Rattle.groups.specs.Files.{first_fault, events_of}
 use Rattle.groups.specs.Store.{store}
-use Rattle.groups.specs.declared.store.Rows.{Rows}
 use Rattle.members.specs.declared.Kind.{Kind}
 use Rattle.members.specs.declared.Kind.TheVariants.{Form, List as Lst, Cat, Prop, Plain}
 use Rattle.members.specs.declared.Place.{Place}

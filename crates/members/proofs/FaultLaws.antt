@@ -8,7 +8,7 @@ use lib.ListN.{get_or}
 use lib.Dec.{eqb, leb, ltb}
 use borrow.Author.Tests.{le-leb, lt-leb, leb-true, eq-eqb, ne_eqb, eqb-true, lt-ltb, le-ltb, ltb-true, ltb-false, not-true, not-false}
 use Rattle.blorb.specs.Verdict.{accept, refuse}
-use Rattle.blorb.proofs.Checks.{then_accept, check_accept, pass, stop, holds_last, fails_last, and_both, neither}
+use Rattle.blorb.proofs.Checks.{then_accept, check_accept, pass, stop, holds_last, fails_last, and_both}
 use Rattle.members.specs.declared.Kind.TheVariants.{Form, Plain}
 use Rattle.members.specs.declared.Place.{Place}
 use Rattle.members.specs.Kinds.{nests, is_plain, may_hold_of}

@@ -1,7 +1,7 @@
 -- The first walk has no room for a row, so it judges and counts; the second stores all rows, for which there is room.
 use native.Mathlib.Omega.{arith}
 use Prim.Native.Nat.{◌/◌, ◌≤◌, ◌<◌}
-use mathlib.Core.Path.{◌≡◌, ◌∙◌}
+use mathlib.Core.Path.{◌∙◌}
 use lib.ListN.{length}
 use Rattle.std.proofs.lemmas.Result.{err_from_is_err_and}
 use Rattle.groups.specs.Files.{forms_of}

@@ -2,7 +2,7 @@
 use native.Mathlib.Omega.{arith}
 use mathlib.Core.Path.{◌≡◌, refl, sym, ◌∙◌}
 use Rattle.std.proofs.lemmas.Result.{err_from_is_err_and}
-use Rattle.blorb.specs.Verdict.{accept, refuse}
+use Rattle.blorb.specs.Verdict.{accept}
 use Rattle.members.specs.declared.Place.TheVariants.{InProp}
 use Rattle.members.specs.Faults.{member_fault_of}
 use Rattle.members.proofs.FaultLaws.{good-facts}
