@@ -6,7 +6,7 @@ use mathlib.Core.Bool.{Bool, true, false, ◌&&◌, ◌||◌, not}
 use native.Mathlib.Omega.{arith}
 use lib.ListN.{get_or}
 use lib.Dec.{eqb, leb, ltb}
-use borrow.Author.Tests.{le-leb, lt-leb, leb-true, eq-eqb, ne_eqb, eqb-true, lt-ltb, le-ltb, ltb-true, ltb-false, not-true, not-false}
+use borrow.Author.Tests.{le-leb, lt-leb, leb-true, eq-eqb, ne_eqb, eqb-true, lt-ltb, le-ltb, ltb-true, ltb-false, not-true}
 use Rattle.blorb.specs.Verdict.{accept, refuse}
 use Rattle.blorb.proofs.Checks.{then_accept, check_accept, pass, stop, holds_last, fails_last, and_both}
 use Rattle.members.specs.declared.Kind.TheVariants.{Form, Plain}
@@ -94,8 +94,8 @@ pub record Looked (f : List ℕ) (end at : ℕ) : Type 0 where
   pub room : end_at f at ≤ end
   pub pad : padded f end at ≡ true
 
-pub looked : (f : List ℕ) (end at m : ℕ) (b : Bool) → m ≡ size_at f at → 8 ≤ end - at → at + 8 + m ≤ end → b ≡ padded f end at → not b ≡ false → Looked f end at
-looked f end at m b e h l q t = record { head = omega arith; room = rw (← e) l; pad = sym q ∙ not-false b t }
+pub looked : (f : List ℕ) (end at m : ℕ) → m ≡ size_at f at → 8 ≤ end - at → at + 8 + m ≤ end → padded f end at ≡ true → Looked f end at
+looked f end at m e h l p = record { head = omega arith; room = rw (← e) l; pad = p }
 
 module _ (f : List ℕ) (p : Place) (depth end at : ℕ) (s : Looked f end at) where
   pub plain_fine : kind_at f at ≡ Plain → may_hold_of p Plain ≡ true → member_fault_of f p depth end at ≡ accept

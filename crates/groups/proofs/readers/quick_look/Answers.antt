@@ -12,7 +12,8 @@ pub returns-in-Plain : goal.returns-in-Plain
 returns-in-Plain c =
     let a = c.args.spot in
     let size = c.size-m.ensures.0 in
-    let look = looked a.file.now a.end a.at _ _ size c.if-spot-lt8.false c.if-spot-close.false c.is_padded.ensures c.if-not-is_padded.false-raw in
+    let pad = sym c.is_padded.ensures ∙ c.if-not-is_padded.false in
+    let look = looked a.file.now a.end a.at _ size c.if-spot-lt8.false c.if-spot-close.false pad in
     let kind : kind_at a.file.now a.at ≡ Plain = sym c.kind-kind.ensures ∙ c.in-Plain.is in
     let held : may_hold_of a.place Plain ≡ true = ap (may_hold_of a.place) (sym c.in-Plain.is) ∙ sym c.may_hold.ensures ∙ c.if-not-may_hold.false in
     let fine = plain_fine a.file.now a.place a.depth a.end a.at look kind held in
@@ -22,7 +23,8 @@ pub returns-in-Form : goal.returns-in-Form
 returns-in-Form c =
     let a = c.args.spot in
     let size = c.size-m.ensures.0 in
-    let look = looked a.file.now a.end a.at _ _ size c.if-spot-lt8.false c.if-spot-close.false c.is_padded.ensures c.if-not-is_padded.false-raw in
+    let pad = sym c.is_padded.ensures ∙ c.if-not-is_padded.false in
+    let look = looked a.file.now a.end a.at _ size c.if-spot-lt8.false c.if-spot-close.false pad in
     let kind : kind_at a.file.now a.at ≡ Form = sym c.kind-kind.ensures ∙ c.in-Form.is in
     let held : may_hold_of a.place Form ≡ true = ap (may_hold_of a.place) (sym c.in-Form.is) ∙ sym c.may_hold.ensures ∙ c.if-not-may_hold.false in
     let fine = form_fine a.file.now a.place a.depth a.end a.at look kind (rw size at c.if-m-ge4.true) c.if-spot-le16.true held in

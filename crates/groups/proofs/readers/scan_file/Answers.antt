@@ -13,7 +13,9 @@ pub returns-then-file-gt16777216 : goal.returns-then-file-gt16777216
 returns-then-file-gt16777216 c = file-long _ _ _ c.if-file-gt16777216.true
 
 pub returns-in_err-top_in : goal.returns-in_err-top_in
-returns-in_err-top_in c = search (rules, file_bad)
+returns-in_err-top_in c =
+    let told = file_bad c.args.file.now c.args.base c.args.slice.now c.if-file-gt16777216.false _ _ _ c.in_err-top_in.ensures.shown in
+    search (rules, told)
 
 pub next-next-requires : goal.next-next-requires
 next-next-requires c =
