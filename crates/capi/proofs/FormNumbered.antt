@@ -1,4 +1,9 @@
 -- `refusal` is 0 exactly where a call on a group file was carried out: 1, 22 and 41 to 45 are none of them 0.
+use Rattle.std.specs.Prelude.{Result, Ok}
+use Rattle.blorb.specs.declared.refusal.Refusal.{Refusal}
+use Rattle.blorb.specs.Refusals.{Refused}
+use Rattle.groups.specs.declared.Picked.{Picked}
+use Rattle.capi.specs.TableNumbers.{build_numbers_of}
 use mathlib.Core.Path.{◌≡◌, refl}
 use Prim.Native.Nat.{ℕ, zero, suc, ◌+◌, ◌*◌, ◌<◌}
 use mathlib.Core.List.{List, [], ◌∷◌, ◌++◌}
@@ -15,10 +20,8 @@ use Rattle.members.specs.Kinds.{behind}
 use Rattle.members.specs.Faults.{kind_at, end_at, next_at, member_fault_of}
 use Rattle.groups.specs.Events.{Event, form, fault, chunk_by, unless_end, members_go, members, chunk}
 use Rattle.groups.specs.Files.{first_fault, events_of, forms_of, file_fault, pick_listing, listed_by, list_of, pick_picking, picked_by, pick_of}
-use Rattle.groups.specs.declared.Listing.TheVariants.{Listed, Refused}
-use Rattle.groups.specs.declared.Picking.TheVariants.{Picked, Refused as Missing}
 use Rattle.capi.specs.Numbered.{Numbered}
-use Rattle.capi.specs.FormNumbers.{list_numbers_of, pick_numbers_of}
+use Rattle.capi.specs.FormNumbers.{pick_numbers_of}
 use Rattle.capi.proofs.Numbered.{positive, one, both, more}
 
 -- events whose faults have a number from 1 on
@@ -80,30 +83,33 @@ file f =
     (one _ _ _ (omega arith)))
 
 -- a list whose `refusal` is 0 has written the rows
-pub zero-listed : (f : List ℕ) (room : ℕ) → (list_numbers_of (list_of f room)).refusal ≡ 0 → (n : ℕ) × (list_of f room ≡ Listed n)
+pub zero-listed : (f : List ℕ) (room : ℕ) → (build_numbers_of (list_of f room)).refusal ≡ 0 → (n : ℕ) × (list_of f room ≡ Ok n)
 unfolding list_of
 zero-listed f room e = go (file_fault f) (file f) e
   where
-    room_for : (b : Bool) (n : ℕ) → (list_numbers_of (pick_listing b (Listed n) (Refused 45 0))).refusal ≡ 0
-        → (m : ℕ) × (pick_listing b (Listed n) (Refused 45 0) ≡ Listed m)
+    room_for : (b : Bool) (n : ℕ) → (build_numbers_of (pick_listing b (Ok n) (Refused 45 0))).refusal ≡ 0
+        → (m : ℕ) × (pick_listing b (Ok n) (Refused 45 0) ≡ Ok m)
     room_for true n e = (n, refl)
     room_for false n e = absurd (omega (arith, e))
 
-    go : (v : Verdict) → Numbered v → (list_numbers_of (listed_by v (length (forms_of f)) room)).refusal ≡ 0
-        → (n : ℕ) × (listed_by v (length (forms_of f)) room ≡ Listed n)
+    go : (v : Verdict) → Numbered v → (build_numbers_of (listed_by v (length (forms_of f)) room)).refusal ≡ 0
+        → (n : ℕ) × (listed_by v (length (forms_of f)) room ≡ Ok n)
     go (refuse k p) h e = absurd (omega (arith, positive k p h, e))
     go accept h e = room_for (leb (4 * length (forms_of f)) room) (length (forms_of f)) e
 
+abbrev picked : ℕ → ℕ → Result Picked Refusal
+picked a n = Ok (record { start = a; length = n })
+
 -- a pick whose `refusal` is 0 has found the FORM
-pub zero-picked : (f : List ℕ) (i : ℕ) → (pick_numbers_of (pick_of f i)).refusal ≡ 0 → (a n : ℕ) × (pick_of f i ≡ Picked a n)
+pub zero-picked : (f : List ℕ) (i : ℕ) → (pick_numbers_of (pick_of f i)).refusal ≡ 0 → (a n : ℕ) × (pick_of f i ≡ picked a n)
 unfolding pick_of
 zero-picked f i e = go (file_fault f) (file f) e
   where
-    there : (b : Bool) (a n : ℕ) → (pick_numbers_of (pick_picking b (Picked a n) (Missing 22 0))).refusal ≡ 0
-        → (x y : ℕ) × (pick_picking b (Picked a n) (Missing 22 0) ≡ Picked x y)
+    there : (b : Bool) (a n : ℕ) → (pick_numbers_of (pick_picking b (picked a n) (Refused 22 0))).refusal ≡ 0
+        → (x y : ℕ) × (pick_picking b (picked a n) (Refused 22 0) ≡ picked x y)
     there true a n e = (a, n, refl)
     there false a n e = absurd (omega (arith, e))
 
-    go : (v : Verdict) → Numbered v → (pick_numbers_of (picked_by v (forms_of f) i)).refusal ≡ 0 → (a n : ℕ) × (picked_by v (forms_of f) i ≡ Picked a n)
+    go : (v : Verdict) → Numbered v → (pick_numbers_of (picked_by v (forms_of f) i)).refusal ≡ 0 → (a n : ℕ) × (picked_by v (forms_of f) i ≡ picked a n)
     go (refuse k p) h e = absurd (omega (arith, positive k p h, e))
     go accept h e = there (ltb i (length (forms_of f))) _ _ e

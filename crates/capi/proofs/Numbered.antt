@@ -1,4 +1,5 @@
 -- `refusal` is 0 exactly where a call was carried out: no refusal of the papers has the number 0.
+use Rattle.std.specs.Prelude.{Option, Some, None}
 use mathlib.Core.Path.{◌≡◌, refl}
 use Prim.Native.Nat.{ℕ, zero, suc, ◌+◌, ◌≤◌, ◌<◌}
 use mathlib.Core.List.{List, [], ◌∷◌, ◌++◌}
@@ -35,8 +36,6 @@ use Rattle.edits.specs.Run.{State, Call, edit, undo, hundred, whole_fault, targe
 use Rattle.blorb.specs.Model.{Model}
 use Rattle.reader.specs.Reading.{index_of, no_entry, read_by, read_of, entry_by, asked_by, asked_of, found_by, looked_by, lookup_of}
 use Rattle.index.specs.Hits.{hit_in}
-use Rattle.index.specs.declared.entries.Hit.{Hit}
-use Rattle.index.specs.declared.entries.Hit.TheVariants.{At, Nothing}
 use Rattle.capi.specs.Numbers.{refusal_number, read_numbers, entry_numbers, lookup_numbers, edit_numbers}
 use Rattle.editor.specs.Called.{blank_answer}
 use Rattle.capi.specs.Numbered.{Numbered}
@@ -195,16 +194,16 @@ zero-entry profile f i e = go (profile_verdict profile f) (answer profile f) e
 
 -- a lookup whose `refusal` is 0 found an entry of an accepted file
 pub zero_found : (profile : ℕ) (f : List ℕ) (u n : ℕ) → (lookup_numbers (lookup_of profile f u n)).refusal ≡ 0
-    → (profile_verdict profile f ≡ accept) × ((x : ℕ) × (hit_in u n (index_of f) ≡ At x))
+    → (profile_verdict profile f ≡ accept) × ((x : ℕ) × (hit_in u n (index_of f) ≡ Some x))
 unfolding lookup_of
 zero_found profile f u n e = go (profile_verdict profile f) (answer profile f) e
   where
-    hit : (x : Hit) → hit_in u n (index_of f) ≡ x → (lookup_numbers (found_by f x)).refusal ≡ 0 → (x : ℕ) × (hit_in u n (index_of f) ≡ At x)
-    hit (At x) t e = (x, t)
-    hit Nothing t e = absurd (omega (arith, e))
+    hit : (x : Option ℕ) → hit_in u n (index_of f) ≡ x → (lookup_numbers (found_by f x)).refusal ≡ 0 → (x : ℕ) × (hit_in u n (index_of f) ≡ Some x)
+    hit (Some x) t e = (x, t)
+    hit None t e = absurd (omega (arith, e))
 
     go : (v : Verdict) → Numbered v → (lookup_numbers (looked_by v (found_by f (hit_in u n (index_of f))))).refusal ≡ 0
-        → (v ≡ accept) × ((x : ℕ) × (hit_in u n (index_of f) ≡ At x))
+        → (v ≡ accept) × ((x : ℕ) × (hit_in u n (index_of f) ≡ Some x))
     go accept h e = (refl, hit (hit_in u n (index_of f)) refl e)
     go (refuse k p) h e = absurd (omega (arith, positive k p h, e))
 

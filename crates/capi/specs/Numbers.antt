@@ -1,16 +1,15 @@
 -- The answers of reader and editor as the numbers of a C struct (include/blorb.h): `refusal` is 0 where the call was carried out, else 01's
 -- number, and what the answer doesn't tell is 0.
-use Rattle.std.specs.Prelude.{ℕ}
+use Rattle.std.specs.Prelude.{ℕ, Result, Ok}
+use Rattle.blorb.specs.declared.refusal.Refusal.{Refusal}
+use Rattle.blorb.specs.Refusals.{Refused}
+use Rattle.blorb.specs.declared.Entry.{Entry}
+use Rattle.reader.specs.declared.Accepted.{Accepted}
+use Rattle.reader.specs.declared.Resource.{Resource}
 use Rattle.blorb.specs.Usages.{code_of}
 use Rattle.blorb.specs.Verdict.{Verdict, accept, refuse}
-use Rattle.reader.specs.declared.Reading.{Reading}
-use Rattle.reader.specs.declared.Reading.TheVariants.{Accepted, Refused}
-use Rattle.reader.specs.declared.Asked.{Asked}
-use Rattle.reader.specs.declared.Asked.TheVariants.{Given, Refused as Withheld}
-use Rattle.reader.specs.declared.Looked.{Looked}
-use Rattle.reader.specs.declared.Looked.TheVariants.{Found, Refused as Missing}
 use Rattle.editor.specs.declared.Answer.{Answer}
-use Rattle.editor.specs.Called.{verdict_of}
+use Rattle.blorb.specs.Refusals.{verdict_of}
 use Rattle.capi.specs.declared.ReadAnswer.{ReadAnswer}
 use Rattle.capi.specs.declared.EntryAnswer.{EntryAnswer}
 use Rattle.capi.specs.declared.LookupAnswer.{LookupAnswer}
@@ -26,19 +25,19 @@ refusal_place accept = 0
 refusal_place (refuse k p) = p
 
 -- "the reader gives its length and entry count"
-abbrev pub read_numbers : Reading → ReadAnswer
-read_numbers (Accepted l n) = record { refusal = 0; place = 0; length = l; count = n }
+abbrev pub read_numbers : Result Accepted Refusal → ReadAnswer
+read_numbers (Ok r) = record { refusal = 0; place = 0; length = r.length; count = r.count }
 read_numbers (Refused k p) = record { refusal = k; place = p; length = 0; count = 0 }
 
 -- "Asked for entry i, it gives usage, number and start"
-abbrev pub entry_numbers : Asked → EntryAnswer
-entry_numbers (Given e) = record { refusal = 0; place = 0; usage = code_of e.usage; number = e.number; start = e.start }
-entry_numbers (Withheld k p) = record { refusal = k; place = p; usage = 0; number = 0; start = 0 }
+abbrev pub entry_numbers : Result Entry Refusal → EntryAnswer
+entry_numbers (Ok e) = record { refusal = 0; place = 0; usage = code_of e.usage; number = e.number; start = e.start }
+entry_numbers (Refused k p) = record { refusal = k; place = p; usage = 0; number = 0; start = 0 }
 
 -- a lookup's answer: "type, start and length"
-abbrev pub lookup_numbers : Looked → LookupAnswer
-lookup_numbers (Found t a m) = record { refusal = 0; place = 0; kind = t; start = a; length = m }
-lookup_numbers (Missing k p) = record { refusal = k; place = p; kind = 0; start = 0; length = 0 }
+abbrev pub lookup_numbers : Result Resource Refusal → LookupAnswer
+lookup_numbers (Ok r) = record { refusal = 0; place = 0; kind = r.kind; start = r.start; length = r.length }
+lookup_numbers (Refused k p) = record { refusal = k; place = p; kind = 0; start = 0; length = 0 }
 
 -- an edit's or undo's answer, with L and U
 abbrev pub edit_numbers : Answer → EditAnswer

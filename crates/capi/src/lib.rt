@@ -2,9 +2,10 @@
 // Sounds, group files, scaled pictures and spoken descriptions have modules of their own.
 #![tactic(auto)]
 
-use editor::{Answer, Outcome};
-use reader::{Asked, Looked, Reading};
-use table::{Built, Checked, Found, Searched};
+use blorb::{Entry, Refusal};
+use editor::Answer;
+use reader::{Accepted, Resource};
+use table::Searched;
 
 mod forms;
 mod pictures;
@@ -90,6 +91,151 @@ pub struct SearchAnswer {
     pub probes: usize,
 }
 
+impl From<Result<Accepted, Refusal>> for ReadAnswer {
+    ghost from_gives = { λ answer numbers. numbers ≡ read_numbers answer };
+
+    fn from(answer: Result<Accepted, Refusal>) -> ReadAnswer {
+        match answer {
+            Ok(file) => ReadAnswer {
+                refusal: 0,
+                place: 0,
+                length: file.length,
+                count: file.count,
+            },
+            Err(refusal) => ReadAnswer {
+                refusal: refusal.number(),
+                place: refusal.place,
+                length: 0,
+                count: 0,
+            },
+        }
+    }
+}
+
+impl From<Result<Entry, Refusal>> for EntryAnswer {
+    ghost from_gives = { λ answer numbers. numbers ≡ entry_numbers answer };
+
+    fn from(answer: Result<Entry, Refusal>) -> EntryAnswer {
+        match answer {
+            Ok(entry) => EntryAnswer {
+                refusal: 0,
+                place: 0,
+                usage: entry.usage.code() as u32,
+                number: entry.number,
+                start: entry.start as u64,
+            },
+            Err(refusal) => EntryAnswer {
+                refusal: refusal.number(),
+                place: refusal.place,
+                usage: 0,
+                number: 0,
+                start: 0,
+            },
+        }
+    }
+}
+
+impl From<Result<Resource, Refusal>> for LookupAnswer {
+    ghost from_gives = { λ answer numbers. numbers ≡ lookup_numbers answer };
+
+    fn from(answer: Result<Resource, Refusal>) -> LookupAnswer {
+        match answer {
+            Ok(found) => LookupAnswer {
+                refusal: 0,
+                place: 0,
+                kind: found.kind,
+                start: found.start,
+                length: found.length,
+            },
+            Err(missing) => LookupAnswer {
+                refusal: missing.number(),
+                place: missing.place,
+                kind: 0,
+                start: 0,
+                length: 0,
+            },
+        }
+    }
+}
+
+impl From<Answer> for EditAnswer {
+    ghost from_gives = { λ answer numbers. numbers ≡ edit_numbers answer };
+
+    fn from(answer: Answer) -> EditAnswer {
+        match answer.outcome {
+            Ok(()) => EditAnswer {
+                refusal: 0,
+                place: 0,
+                length: answer.len,
+                used: answer.used,
+            },
+            Err(refusal) => EditAnswer {
+                refusal: refusal.number(),
+                place: refusal.place,
+                length: answer.len,
+                used: answer.used,
+            },
+        }
+    }
+}
+
+impl From<Result<usize, Refusal>> for BuildAnswer {
+    ghost from_gives = { λ answer numbers. numbers ≡ build_numbers_of answer };
+
+    fn from(answer: Result<usize, Refusal>) -> BuildAnswer {
+        match answer {
+            Ok(rows) => BuildAnswer {
+                refusal: 0,
+                place: 0,
+                rows,
+            },
+            Err(refusal) => BuildAnswer {
+                refusal: refusal.number(),
+                place: refusal.place,
+                rows: 0,
+            },
+        }
+    }
+}
+
+impl From<Result<(), Refusal>> for CheckAnswer {
+    ghost from_gives = { λ answer numbers. numbers ≡ check_numbers_of answer };
+
+    fn from(answer: Result<(), Refusal>) -> CheckAnswer {
+        match answer {
+            Ok(()) => CheckAnswer {
+                refusal: 0,
+                place: 0,
+            },
+            Err(refusal) => CheckAnswer {
+                refusal: refusal.number(),
+                place: refusal.place,
+            },
+        }
+    }
+}
+
+impl From<Searched> for SearchAnswer {
+    ghost from_gives = { λ answer numbers. numbers ≡ search_numbers_of answer };
+
+    fn from(answer: Searched) -> SearchAnswer {
+        match answer.found {
+            Ok(start) => SearchAnswer {
+                refusal: 0,
+                place: 0,
+                start: start as u64,
+                probes: answer.probes,
+            },
+            Err(refusal) => SearchAnswer {
+                refusal: refusal.number(),
+                place: refusal.place,
+                start: 0,
+                probes: answer.probes,
+            },
+        }
+    }
+}
+
 // The archive's version: 2.6.0.
 #[unsafe(no_mangle)]
 pub extern "C" fn blorb_version() -> u32
@@ -103,20 +249,7 @@ pub extern "C" fn blorb_version() -> u32
 pub extern "C" fn blorb_read(file: &[u8], profile: u32) -> ReadAnswer
     ensures { result ≡ read_numbers (read_of profile file.now) }
 {
-    match reader::read(file, profile) {
-        Reading::Accepted { length, count } => ReadAnswer {
-            refusal: 0,
-            place: 0,
-            length,
-            count,
-        },
-        Reading::Refused { number, place } => ReadAnswer {
-            refusal: number,
-            place,
-            length: 0,
-            count: 0,
-        },
-    }
+    ReadAnswer::from(reader::read(file, profile))
 }
 
 // Entry i of the index; its usage as the number in its four bytes.
@@ -124,25 +257,7 @@ pub extern "C" fn blorb_read(file: &[u8], profile: u32) -> ReadAnswer
 pub extern "C" fn blorb_entry(file: &[u8], profile: u32, i: usize) -> EntryAnswer
     ensures { result ≡ entry_numbers (asked_of profile file.now i) }
 {
-    match reader::entry(file, profile, i) {
-        Asked::Given(e) => {
-            let usage = e.usage;
-            EntryAnswer {
-                refusal: 0,
-                place: 0,
-                usage: usage.code() as u32,
-                number: e.number,
-                start: e.start as u64,
-            }
-        }
-        Asked::Refused { number, place } => EntryAnswer {
-            refusal: number,
-            place,
-            usage: 0,
-            number: 0,
-            start: 0,
-        },
-    }
+    EntryAnswer::from(reader::entry(file, profile, i))
 }
 
 // The chunk of the entry (usage, number): its type, and where its data is; of a 'FORM' where the whole chunk is, without padding.
@@ -155,47 +270,7 @@ pub extern "C" fn blorb_lookup(
 ) -> LookupAnswer
     ensures { result ≡ lookup_numbers (lookup_of profile file.now (rd32 usage.now) number) }
 {
-    match reader::lookup(file, profile, *usage, number) {
-        Looked::Found {
-            kind,
-            start,
-            length,
-        } => LookupAnswer {
-            refusal: 0,
-            place: 0,
-            kind,
-            start,
-            length,
-        },
-        Looked::Refused { number: k, place } => LookupAnswer {
-            refusal: k,
-            place,
-            kind: 0,
-            start: 0,
-            length: 0,
-        },
-    }
-}
-
-// The editor's answer in numbers.
-fn numbers(a: Answer) -> EditAnswer
-    ensures { result ≡ edit_numbers a }
-{
-    let outcome = a.outcome;
-    match outcome {
-        Outcome::Done => EditAnswer {
-            refusal: 0,
-            place: 0,
-            length: a.len,
-            used: a.used,
-        },
-        Outcome::Refused { number, place } => EditAnswer {
-            refusal: number,
-            place,
-            length: a.len,
-            used: a.used,
-        },
-    }
+    LookupAnswer::from(reader::lookup(file, profile, *usage, number))
 }
 
 // The blank file in the first 24 bytes.
@@ -203,7 +278,7 @@ fn numbers(a: Answer) -> EditAnswer
 pub extern "C" fn blorb_blank(file: &mut [u8]) -> EditAnswer
     ensures { (result ≡ edit_numbers (blank_answer (leb 24 (length file.old)))) × (file.new ≡ blanked file.old) }
 {
-    numbers(editor::blank(file))
+    EditAnswer::from(editor::blank(file))
 }
 
 // Adds a resource to the first `length` bytes; its record goes to the journal at `used`. Of type 'FORM' the data is a whole file.
@@ -222,7 +297,7 @@ pub extern "C" fn blorb_add(
     ensures { Answered profile (state file.old length journal.old used)
         (edit (add (rd32 usage.now) number (rd32 kind.now) «data».now)) result file.new journal.new }
 {
-    numbers(editor::add(
+    EditAnswer::from(editor::add(
         file, length, journal, used, profile, *usage, number, *kind, data,
     ))
 }
@@ -243,7 +318,7 @@ pub extern "C" fn blorb_replace(
     ensures { Answered profile (state file.old length journal.old used)
         (edit (replace (rd32 usage.now) number (rd32 kind.now) «data».now)) result file.new journal.new }
 {
-    numbers(editor::replace(
+    EditAnswer::from(editor::replace(
         file, length, journal, used, profile, *usage, number, *kind, data,
     ))
 }
@@ -262,7 +337,7 @@ pub extern "C" fn blorb_remove(
     ensures { Answered profile (state file.old length journal.old used) (edit (remove (rd32 usage.now) number)) result
         file.new journal.new }
 {
-    numbers(editor::remove(file, length, journal, used, profile, *usage, number))
+    EditAnswer::from(editor::remove(file, length, journal, used, profile, *usage, number))
 }
 
 // Gives the resource (usage, number) a second name: a new entry (alias, chosen) on its chunk.
@@ -281,7 +356,7 @@ pub extern "C" fn blorb_link(
     ensures { Answered profile (state file.old length journal.old used)
         (edit (link (rd32 usage.now) number (rd32 alias.now) chosen)) result file.new journal.new }
 {
-    numbers(editor::link(
+    EditAnswer::from(editor::link(
         file, length, journal, used, profile, *usage, number, *alias, chosen,
     ))
 }
@@ -297,60 +372,7 @@ pub extern "C" fn blorb_undo(
 ) -> EditAnswer
     ensures { Answered profile (state file.old length journal.now used) undo result file.new journal.now }
 {
-    numbers(editor::undo(file, length, journal, used, profile))
-}
-
-// The answers of the finding table's calls as numbers.
-fn build_numbers(answer: Built) -> BuildAnswer
-    ensures { result ≡ build_numbers_of answer }
-{
-    match answer {
-        Built::Rows(rows) => BuildAnswer {
-            refusal: 0,
-            place: 0,
-            rows,
-        },
-        Built::Refused { number, place } => BuildAnswer {
-            refusal: number,
-            place,
-            rows: 0,
-        },
-    }
-}
-
-fn check_numbers(answer: Checked) -> CheckAnswer
-    ensures { result ≡ check_numbers_of answer }
-{
-    match answer {
-        Checked::Accepted => CheckAnswer {
-            refusal: 0,
-            place: 0,
-        },
-        Checked::Refused { number, place } => CheckAnswer {
-            refusal: number,
-            place,
-        },
-    }
-}
-
-fn search_numbers(answer: Searched) -> SearchAnswer
-    ensures { result ≡ search_numbers_of answer }
-{
-    let found = answer.found;
-    match found {
-        Found::At(start) => SearchAnswer {
-            refusal: 0,
-            place: 0,
-            start: start as u64,
-            probes: answer.probes,
-        },
-        Found::Refused { number, place } => SearchAnswer {
-            refusal: number,
-            place,
-            start: 0,
-            probes: answer.probes,
-        },
-    }
+    EditAnswer::from(editor::undo(file, length, journal, used, profile))
 }
 
 // The file's finding table at the front of the slice.
@@ -360,7 +382,7 @@ pub extern "C" fn blorb_table_build(file: &[u8], profile: u32, table: &mut [u32]
         × (table.new ≡ written (build_of profile file.now (length table.old)) (flat (table_of file.now))
         table.old) }
 {
-    build_numbers(table::build(file, profile, table))
+    BuildAnswer::from(table::build(file, profile, table))
 }
 
 // Whether the whole slice is just this file's table.
@@ -368,7 +390,7 @@ pub extern "C" fn blorb_table_build(file: &[u8], profile: u32, table: &mut [u32]
 pub extern "C" fn blorb_table_check(file: &[u8], profile: u32, table: &[u32]) -> CheckAnswer
     ensures { result ≡ check_numbers_of (check_of profile file.now (rows_of table.now) (length table.now)) }
 {
-    check_numbers(table::check(file, profile, table))
+    CheckAnswer::from(table::check(file, profile, table))
 }
 
 // The start in the row (usage, number), and how many rows were looked at.
@@ -376,7 +398,7 @@ pub extern "C" fn blorb_table_check(file: &[u8], profile: u32, table: &[u32]) ->
 pub extern "C" fn blorb_table_search(table: &[u32], usage: &[u8; 4], number: u32) -> SearchAnswer
     ensures { result ≡ search_numbers_of (search_of (rows_of table.now) (rd32 usage.now) number) }
 {
-    search_numbers(table::search(table, *usage, number))
+    SearchAnswer::from(table::search(table, *usage, number))
 }
 
 // The rows of a table as three columns at the front of a second slice.
@@ -386,7 +408,7 @@ pub extern "C" fn blorb_table_to_columns(table: &[u32], columns: &mut [u32]) -> 
         × (columns.new ≡ written (turn_of (rows_of table.now) (length columns.old)) (flat_columns (rows_of table.now))
         columns.old) }
 {
-    build_numbers(table::to_columns(table, columns))
+    BuildAnswer::from(table::to_columns(table, columns))
 }
 
 // The rows of a table of three columns, one after another at the front of a second slice.
@@ -396,7 +418,7 @@ pub extern "C" fn blorb_table_to_rows(columns: &[u32], table: &mut [u32]) -> Bui
         × (table.new ≡ written (turn_of (columns_of columns.now) (length table.old)) (flat (columns_of columns.now))
         table.old) }
 {
-    build_numbers(table::to_rows(columns, table))
+    BuildAnswer::from(table::to_rows(columns, table))
 }
 
 // Whether the whole slice is just this file's table in three columns.
@@ -404,7 +426,7 @@ pub extern "C" fn blorb_table_to_rows(columns: &[u32], table: &mut [u32]) -> Bui
 pub extern "C" fn blorb_columns_check(file: &[u8], profile: u32, columns: &[u32]) -> CheckAnswer
     ensures { result ≡ check_numbers_of (check_of profile file.now (columns_of columns.now) (length columns.now)) }
 {
-    check_numbers(table::columns_check(file, profile, columns))
+    CheckAnswer::from(table::columns_check(file, profile, columns))
 }
 
 // The start in the row (usage, number) of a table of three columns, and how many rows were looked at.
@@ -416,5 +438,5 @@ pub extern "C" fn blorb_columns_search(
 ) -> SearchAnswer
     ensures { result ≡ search_numbers_of (search_of (columns_of columns.now) (rd32 usage.now) number) }
 {
-    search_numbers(table::columns_search(columns, *usage, number))
+    SearchAnswer::from(table::columns_search(columns, *usage, number))
 }

@@ -3,7 +3,8 @@ ghost use Rattle.std.specs.Prelude.{◌≡◌};
 ghost use Rattle.scaling.specs.Scaled.{asking, scaled_of};
 ghost use Rattle.capi.specs.ScalingNumbers.{scaled_numbers};
 
-use scaling::Scaling;
+use blorb::Refusal;
+use scaling::Sides;
 
 #[repr(C)]
 #[derive(Clone, Copy)]
@@ -12,6 +13,27 @@ pub struct ScaledAnswer {
     pub place: usize,
     pub width: u64,
     pub height: u64,
+}
+
+impl From<Result<Sides, Refusal>> for ScaledAnswer {
+    ghost from_gives = { λ answer numbers. numbers ≡ scaled_numbers answer };
+
+    fn from(answer: Result<Sides, Refusal>) -> ScaledAnswer {
+        match answer {
+            Ok(sides) => ScaledAnswer {
+                refusal: 0,
+                place: 0,
+                width: sides.width,
+                height: sides.height,
+            },
+            Err(refusal) => ScaledAnswer {
+                refusal: refusal.number(),
+                place: refusal.place,
+                width: 0,
+                height: 0,
+            },
+        }
+    }
 }
 
 // The sides of a picture of this number and size in a window, by the file's 'Reso' chunk.
@@ -27,21 +49,5 @@ pub extern "C" fn blorb_scaled(
 ) -> ScaledAnswer
     ensures { result ≡ scaled_numbers (scaled_of profile file.now (asking across down picture width height)) }
 {
-    match scaling::scaled(file, profile, across, down, picture, width, height) {
-        Scaling::Sides {
-            width: w,
-            height: h,
-        } => ScaledAnswer {
-            refusal: 0,
-            place: 0,
-            width: w,
-            height: h,
-        },
-        Scaling::Refused { number, place } => ScaledAnswer {
-            refusal: number,
-            place,
-            width: 0,
-            height: 0,
-        },
-    }
+    ScaledAnswer::from(scaling::scaled(file, profile, across, down, picture, width, height))
 }

@@ -3,7 +3,8 @@ ghost use Rattle.std.specs.Prelude.{◌≡◌};
 ghost use Rattle.aiff.specs.Length.{length_of};
 ghost use Rattle.capi.specs.SoundNumbers.{aiff_numbers};
 
-use aiff::Measured;
+use aiff::Sound;
+use blorb::Refusal;
 
 #[repr(C)]
 #[derive(Clone, Copy)]
@@ -17,35 +18,37 @@ pub struct AiffAnswer {
     pub seconds: u32,
 }
 
+impl From<Result<Sound, Refusal>> for AiffAnswer {
+    ghost from_gives = { λ answer numbers. numbers ≡ aiff_numbers answer };
+
+    fn from(answer: Result<Sound, Refusal>) -> AiffAnswer {
+        match answer {
+            Ok(sound) => AiffAnswer {
+                refusal: 0,
+                place: 0,
+                channels: sound.channels as u32,
+                frames: sound.frames,
+                sample_size: sound.sample_size as u32,
+                rate: sound.rate,
+                seconds: sound.seconds,
+            },
+            Err(refusal) => AiffAnswer {
+                refusal: refusal.number(),
+                place: refusal.place,
+                channels: 0,
+                frames: 0,
+                sample_size: 0,
+                rate: 0,
+                seconds: 0,
+            },
+        }
+    }
+}
+
 // What an AIFF's 'COMM' chunk says, and its whole seconds. The bytes are those that a lookup gives of it: the whole 'FORM', without padding.
 #[unsafe(no_mangle)]
 pub extern "C" fn blorb_aiff_length(bytes: &[u8]) -> AiffAnswer
     ensures { result ≡ aiff_numbers (length_of bytes.now) }
 {
-    match aiff::length(bytes) {
-        Measured::Sound {
-            channels,
-            frames,
-            sample_size,
-            rate,
-            seconds,
-        } => AiffAnswer {
-            refusal: 0,
-            place: 0,
-            channels: channels as u32,
-            frames,
-            sample_size: sample_size as u32,
-            rate,
-            seconds,
-        },
-        Measured::Refused { number, place } => AiffAnswer {
-            refusal: number,
-            place,
-            channels: 0,
-            frames: 0,
-            sample_size: 0,
-            rate: 0,
-            seconds: 0,
-        },
-    }
+    AiffAnswer::from(aiff::length(bytes))
 }

@@ -2,8 +2,9 @@
 ghost use Rattle.std.specs.Prelude.{◌≡◌};
 ghost use Rattle.blorb.specs.Bytes.{rd32};
 ghost use Rattle.descriptions.specs.Texts.{described_of, told_of};
-ghost use Rattle.capi.specs.TextNumbers.{text_numbers, told_numbers};
+ghost use Rattle.capi.specs.TextNumbers.{no_text, text_numbers, told_numbers};
 
+use blorb::Refusal;
 use descriptions::{Described, Told};
 
 #[repr(C)]
@@ -17,34 +18,43 @@ pub struct TextAnswer {
     pub length: usize,
 }
 
+fn no_text(refusal: Refusal) -> TextAnswer
+    ensures { result ≡ no_text refusal.0 refusal.1 }
+{
+    TextAnswer {
+        refusal: refusal.number(),
+        place: refusal.place,
+        usage: 0,
+        number: 0,
+        start: 0,
+        length: 0,
+    }
+}
+
+impl From<Result<Described, Refusal>> for TextAnswer {
+    ghost from_gives = { λ answer numbers. numbers ≡ text_numbers answer };
+
+    fn from(answer: Result<Described, Refusal>) -> TextAnswer {
+        match answer {
+            Ok(text) => TextAnswer {
+                refusal: 0,
+                place: 0,
+                usage: text.usage,
+                number: text.number,
+                start: text.start,
+                length: text.length,
+            },
+            Err(refusal) => no_text(refusal),
+        }
+    }
+}
+
 // Entry i of the file's 'RDes' under a profile: its pair, the usage as the number in its four bytes, and where its text is.
 #[unsafe(no_mangle)]
 pub extern "C" fn blorb_text(file: &[u8], profile: u32, i: usize) -> TextAnswer
     ensures { result ≡ text_numbers (described_of profile file.now i) }
 {
-    match descriptions::describe(file, profile, i as u64) {
-        Described::Given {
-            usage,
-            number,
-            start,
-            length,
-        } => TextAnswer {
-            refusal: 0,
-            place: 0,
-            usage,
-            number,
-            start,
-            length,
-        },
-        Described::Refused { number: k, place } => TextAnswer {
-            refusal: k,
-            place,
-            usage: 0,
-            number: 0,
-            start: 0,
-            length: 0,
-        },
-    }
+    TextAnswer::from(descriptions::describe(file, profile, i as u64))
 }
 
 // The text of the pair (usage, number) under a profile, with the pair as it was asked for.
@@ -58,21 +68,14 @@ pub extern "C" fn blorb_text_of(
     ensures { result ≡ told_numbers (rd32 usage.now) number (told_of profile file.now (rd32 usage.now) number) }
 {
     match descriptions::tell(file, profile, *usage, number) {
-        Told::Text { start, length } => TextAnswer {
+        Ok(text) => TextAnswer {
             refusal: 0,
             place: 0,
-            usage: blorb::be32_at(usage, 0) as u32,
+            usage: u32::from_be_bytes(*usage),
             number,
-            start,
-            length,
+            start: text.start,
+            length: text.length,
         },
-        Told::Refused { number: k, place } => TextAnswer {
-            refusal: k,
-            place,
-            usage: 0,
-            number: 0,
-            start: 0,
-            length: 0,
-        },
+        Err(refusal) => no_text(refusal),
     }
 }

@@ -3,7 +3,7 @@ ghost use Rattle.std.specs.Prelude.{◌≡◌, length};
 ghost use Rattle.describing.specs.Writing.{writing_of, written_of};
 ghost use Rattle.capi.specs.WriteNumbers.{write_numbers};
 
-use describing::Writing;
+use blorb::Refusal;
 
 #[repr(C)]
 #[derive(Clone, Copy)]
@@ -13,22 +13,30 @@ pub struct WriteAnswer {
     pub length: usize,
 }
 
+impl From<Result<usize, Refusal>> for WriteAnswer {
+    ghost from_gives = { λ answer numbers. numbers ≡ write_numbers answer };
+
+    fn from(answer: Result<usize, Refusal>) -> WriteAnswer {
+        match answer {
+            Ok(length) => WriteAnswer {
+                refusal: 0,
+                place: 0,
+                length,
+            },
+            Err(refusal) => WriteAnswer {
+                refusal: refusal.number(),
+                place: refusal.place,
+                length: 0,
+            },
+        }
+    }
+}
+
 // The whole 'RDes' chunk of a list, four numbers to a row, over a slice of texts: the bytes written, or the refusal with the first faulty row.
 #[unsafe(no_mangle)]
 pub extern "C" fn blorb_texts_write(rows: &[u32], texts: &[u8], buffer: &mut [u8]) -> WriteAnswer
     ensures { (result ≡ write_numbers (writing_of rows.now texts.now (length buffer.old)))
         × (buffer.new ≡ written_of rows.now texts.now buffer.old) }
 {
-    match describing::write(rows, texts, buffer) {
-        Writing::Written { length } => WriteAnswer {
-            refusal: 0,
-            place: 0,
-            length,
-        },
-        Writing::Refused { number, place } => WriteAnswer {
-            refusal: number,
-            place,
-            length: 0,
-        },
-    }
+    WriteAnswer::from(describing::write(rows, texts, buffer))
 }

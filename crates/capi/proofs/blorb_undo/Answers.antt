@@ -1,5 +1,0 @@
-use Rattle.capi.proofs.CallLaws.{answered}
-use Rattle.capi.proofs.blorb_undo.Goals as goal
-
-pub returns : goal.returns
-returns c = answered _ _ _ _ _ _ _ c.numbers.ensures c.undo.ensures

@@ -1,8 +1,0 @@
--- Each case of the answer is set out as numbers.
-use Rattle.capi.proofs.check_numbers.Goals as goal
-
-pub returns-in-Accepted : goal.returns-in-Accepted
-returns-in-Accepted c = rw c.in-Accepted.is
-
-pub returns-in-Refused : goal.returns-in-Refused
-returns-in-Refused c = rw c.in-Refused.is
