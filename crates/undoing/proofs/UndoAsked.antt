@@ -8,6 +8,9 @@ use lib.ListN.{length, take, drop}
 use lib.Seq.{length-take-le}
 use lib.Dec.{eqb, leb}
 use borrow.Author.Tests.{le-leb, lt-leb, eq-eqb, ne_eqb}
+use Rattle.std.specs.Prelude.{Option, Some, None, Result, Ok, Err}
+use Rattle.blorb.specs.declared.refusal.Refusal.{Refusal}
+use Rattle.blorb.specs.Refusals.{Refused, verdict_of}
 use Rattle.blorb.specs.Verdict.{Verdict, accept, refuse, ◌then◌, check, verdict, accepted}
 use Rattle.blorb.specs.Rules.{rules_of, profile_verdict}
 use Rattle.blorb.specs.Model.{Model, base, model}
@@ -23,12 +26,10 @@ use Rattle.edits.specs.Journal.{Rec, last_rec, well_formed, fits}
 use Rattle.edits.specs.Run.{undo, state, undone_file, undo_fault, fault}
 use Rattle.edits.proofs.UndoJudged.{AcceptedFile, accepted-facts}
 use Rattle.undoing.specs.declared.journal.Record.{Record}
-use Rattle.undoing.specs.declared.journal.Last.{Last}
-use Rattle.undoing.specs.declared.journal.Last.TheVariants.{Good, Bad}
+use Rattle.undoing.specs.declared.journal.Kind.TheVariants.{Added, Replaced, Removed, Unlisted, Linked}
 use Rattle.reader.specs.declared.Facts.{Facts}
-use Rattle.reader.specs.declared.Inspection.TheVariants.{Whole, Refused}
 use Rattle.undoing.specs.declared.Undoing.{Undoing}
-use Rattle.undoing.specs.declared.Undoing.TheVariants.{Not}
+use Rattle.undoing.specs.declared.Question.{Question}
 use Rattle.undoing.specs.LastRecord.{numbers_of, last_of}
 use Rattle.reader.specs.Inspecting.{facts_of, inspection_of}
 use Rattle.undoing.specs.UndoPlan.{
@@ -39,8 +40,8 @@ use Rattle.undoing.specs.UndoPlan.{
   fitting_plan,
   roomy_by,
   roomy,
-  numbers_in,
   asked_at,
+  question_of,
   UndoReady,
   ChunkInside,
   added_plan,
@@ -51,13 +52,6 @@ use Rattle.undoing.specs.UndoPlan.{
 }
 use Rattle.undoing.proofs.LastRead.{Ends, good_ends, last_bad, kind_is, body_is}
 use Rattle.undoing.proofs.UndoFits.{fits-added, fits_replaced, fits-removed, fits_unlisted, fits-linked, begins-there}
-
--- where the reader is asked, by the record's kind
-pub asked-none : (r : Record) → (eqb r.kind 3 || eqb r.kind 4) ≡ false → 0 ≡ asked_at r
-asked-none r h = rw h
-
-pub asked-start : (r : Record) → (eqb r.kind 3 || eqb r.kind 4) ≡ true → r.start - 12 ≡ asked_at r
-asked-start r h = rw h
 
 -- a well-formed record, by its kind
 module _ (profile : ℕ) (b : List ℕ) (l : ℕ) (j : List ℕ) (u : ℕ) (r : Record) (t : Facts) (a : UndoReady profile b l j u r t) where
@@ -81,40 +75,39 @@ module _ (profile : ℕ) (b : List ℕ) (l : ℕ) (j : List ℕ) (u : ℕ) (r : 
   facts_are = a.facts_are ∙ (λ i. facts_of (model (take l b)) (numbers i).usage (numbers i).number (asked_at (numbers i)))
 
   -- kinds 3 and 4: asked about the record's start less 12
-  start-facts : (eqb r.kind 3 || eqb r.kind 4) ≡ true → t ≡ facts_of (model (take l b)) (last_rec (take u j)).usage (last_rec (take u j)).number
+  start-facts : asked_at r ≡ r.start - 12 → t ≡ facts_of (model (take l b)) (last_rec (take u j)).usage (last_rec (take u j)).number
       ((last_rec (take u j)).start - 12)
   start-facts h =
-      a.facts_are ∙ ap (λ (z : ℕ). facts_of (model (take l b)) r.usage r.number z) (sym (asked-start r h))
+      a.facts_are ∙ ap (λ (z : ℕ). facts_of (model (take l b)) r.usage r.number z) h
       ∙ (λ i. facts_of (model (take l b)) (numbers i).usage (numbers i).number ((numbers i).start - 12))
 
   pub record_room : 29 + r.length ≤ u
   record_room = ends.room
 
-  pub asked-added : (x : Undoing) → r.kind ≡ 1 → x ≡ added_plan t l r → x ≡ fitting_plan profile (take l b) (take u j)
+  pub asked-added : (x : Option Undoing) → r.kind ≡ Added → x ≡ added_plan t l r → x ≡ fitting_plan profile (take l b) (take u j)
   asked-added x h e =
-      e ∙ (λ i. added_plan (facts_are i) (file_is i) (numbers i)) ∙ fits-added profile (take l b) (take u j) file_facts a.bytes (kind_is j u r ends 1 h)
+      e ∙ (λ i. added_plan (facts_are i) (file_is i) (numbers i)) ∙ fits-added profile (take l b) (take u j) file_facts a.bytes (kind_is j u r ends Added h)
 
-  pub asked-replaced : (x : Undoing) → r.kind ≡ 2 → x ≡ replaced_plan profile t l r (take (u - 4 - (u - 4 - r.length)) (drop (u - 4 - r.length) j))
+  pub asked-replaced : (x : Option Undoing) → r.kind ≡ Replaced → x ≡ replaced_plan profile t l r (take (u - 4 - (u - 4 - r.length)) (drop (u - 4 - r.length) j))
       → x ≡ fitting_plan profile (take l b) (take u j)
   asked-replaced x h e =
       e ∙ (λ i. replaced_plan profile (facts_are i) (file_is i) (numbers i) (body_is j u r ends i)) ∙ fits_replaced profile (take l b) (take u j) file_facts
-      a.bytes (kind_is j u r ends 2 h)
+      a.bytes (kind_is j u r ends Replaced h)
 
-  pub asked-removed : (x : Undoing) → (r.kind ≡ 1 → ⊥) → (r.kind ≡ 4 → ⊥) → (r.kind ≡ 5 → ⊥) → (r.kind ≡ 2 → ⊥)
+  pub asked-removed : (x : Option Undoing) → r.kind ≡ Removed
       → x ≡ removed_plan profile t (take l b) r (take (u - 4 - (u - 4 - r.length)) (drop (u - 4 - r.length) j)) → x ≡ fitting_plan profile (take l b) (take u j)
-  asked-removed x n1 n4 n5 n2 e =
-      let h : r.kind ≡ 3 = omega (arith, ends.kind_low, ends.kind_high) in
+  asked-removed x h e =
       e ∙ (λ i. removed_plan profile (start-facts (rw h) i) (take l b) (numbers i) (body_is j u r ends i))
-      ∙ fits-removed profile (take l b) (take u j) file_facts a.bytes (kind_is j u r ends 3 h)
+      ∙ fits-removed profile (take l b) (take u j) file_facts a.bytes (kind_is j u r ends Removed h)
 
-  pub asked_unlisted : (x : Undoing) → r.kind ≡ 4 → x ≡ unlisted_plan profile t (take l b) r → x ≡ fitting_plan profile (take l b) (take u j)
+  pub asked_unlisted : (x : Option Undoing) → r.kind ≡ Unlisted → x ≡ unlisted_plan profile t (take l b) r → x ≡ fitting_plan profile (take l b) (take u j)
   asked_unlisted x h e =
       e ∙ (λ i. unlisted_plan profile (start-facts (rw h) i) (take l b) (numbers i)) ∙ fits_unlisted profile (take l b) (take u j) file_facts
-      a.bytes (kind_is j u r ends 4 h)
+      a.bytes (kind_is j u r ends Unlisted h)
 
-  pub asked-linked : (x : Undoing) → r.kind ≡ 5 → x ≡ linked_plan t l r → x ≡ fitting_plan profile (take l b) (take u j)
+  pub asked-linked : (x : Option Undoing) → r.kind ≡ Linked → x ≡ linked_plan t l r → x ≡ fitting_plan profile (take l b) (take u j)
   asked-linked x h e =
-      e ∙ (λ i. linked_plan (facts_are i) (file_is i) (numbers i)) ∙ fits-linked profile (take l b) (take u j) file_facts a.bytes (kind_is j u r ends 5 h)
+      e ∙ (λ i. linked_plan (facts_are i) (file_is i) (numbers i)) ∙ fits-linked profile (take l b) (take u j) file_facts a.bytes (kind_is j u r ends Linked h)
 
   -- the index lies in the file
   pub index_inside : (length (take l b) ≤ 16777216) × (t.count ≤ 4096) × (24 + 12 * t.count ≤ length (take l b))
@@ -127,10 +120,10 @@ module _ (profile : ℕ) (b : List ℕ) (l : ℕ) (j : List ℕ) (u : ℕ) (r : 
         omega (arith, c, length-file m, ap length file_facts.whole),
       )
 
-  pub asked-begins : r.kind ≡ 4 → (length (take l b) ≤ 16777216) × ChunkInside t.begins (take l b) (r.start - 12) × (t.count ≤ 4096)
+  pub asked-begins : r.kind ≡ Unlisted → (length (take l b) ≤ 16777216) × ChunkInside t.begins (take l b) (r.start - 12) × (t.count ≤ 4096)
       × (24 + 12 * t.count ≤ length (take l b))
   asked-begins h =
-      let k : (eqb r.kind 3 || eqb r.kind 4) ≡ true = rw h in (
+      let k : asked_at r ≡ r.start - 12 = rw h in (
         index_inside.0,
         subst (λ (z : Facts × Record). ChunkInside z.0.begins (take l b) (z.1.start - 12))
             (λ i. (sym (start-facts k) i, sym numbers i)) (begins-there profile (take l b) (take u j) file_facts a.bytes),
@@ -138,32 +131,20 @@ module _ (profile : ℕ) (b : List ℕ) (l : ℕ) (j : List ℕ) (u : ℕ) (r : 
         index_inside.2,
       )
 
--- the last record's numbers tell whether it is well formed
-good-numbers : (w : Last) (r : Record) → r ≡ numbers_in w → (r.kind ≡ 0 → ⊥) → w ≡ Good r
-good-numbers (Good s) r e h = ap Good (sym e)
-good-numbers Bad r e h = absurd (h (ap (λ (z : Record). z.kind) e))
-
-bad_numbers : (j : List ℕ) (u : ℕ) (w : Last) (r : Record) → u ≤ length j → last_of (take u j) ≡ w → r ≡ numbers_in w → r.kind ≡ 0
-    → well_formed (take u j) ≡ false
-bad_numbers j u (Good s) r hu q e h =
-    let k : s.kind ≡ 0 = ap (λ (z : Record). z.kind) (sym e) ∙ h in
-    absurd (omega (arith, (good_ends j u s hu q).kind_low))
-bad_numbers j u Bad r hu q e h = last_bad (take u j) q
-
 -- the order of the refusals: 52, 20, the reader's, 26, 21, 24
 module _ (profile : ℕ) (b : List ℕ) (l : ℕ) (j : List ℕ) (u : ℕ) where
   abbrev f : List ℕ
   f = take l b
 
-  pub unknown_profile : 1 < profile → Not 52 0 ≡ undo_plan_of profile b l j u
+  pub unknown_profile : 1 < profile → Refused 52 0 ≡ undo_plan_of profile b l j u
   unfolding undo_plan_of fault check ◌then◌
   unknown_profile h = rw (lt-leb profile 1 h)
 
-  pub short_buffer : profile ≤ 1 → length b < l → Not 20 0 ≡ undo_plan_of profile b l j u
+  pub short_buffer : profile ≤ 1 → length b < l → Refused 20 0 ≡ undo_plan_of profile b l j u
   unfolding undo_plan_of fault undo_fault check ◌then◌
   short_buffer known h = rw (le-leb profile 1 known, lt-leb l (length b) h)
 
-  pub short_journal : profile ≤ 1 → length j < u → Not 20 0 ≡ undo_plan_of profile b l j u
+  pub short_journal : profile ≤ 1 → length j < u → Refused 20 0 ≡ undo_plan_of profile b l j u
   unfolding undo_plan_of fault undo_fault check ◌then◌
   short_journal known h = rw (le-leb profile 1 known, lt-leb u (length j) h, and-false (leb l (length b)))
 
@@ -219,42 +200,53 @@ module _ (profile : ℕ) (b : List ℕ) (l : ℕ) (j : List ℕ) (u : ℕ) where
     unfolding undo_plan_of
     planned v w e q = ap (λ (o : Verdict). undoing_of o (take l b) (take u j)) (sym (opened ∙ ap (λ (o : Verdict). o then behind) e ∙ q))
 
-    pub unread : (n p : ℕ) → inspection_of (profile_verdict profile (take l b)) (model (take l b)) x y z ≡ Refused n p → Not n p ≡ undo_plan_of profile b l j u
+    pub unread : (n p : ℕ) → inspection_of (profile_verdict profile (take l b)) (model (take l b)) x y z ≡ Refused n p → Refused n p ≡ undo_plan_of profile b l j u
     unfolding ◌then◌
     unread n p e = go (profile_verdict profile f) refl e
       where
-        go : (v : Verdict) → profile_verdict profile (take l b) ≡ v → inspection_of v (model (take l b)) x y z ≡ Refused n p → Not n p ≡ undo_plan_of profile b l j u
+        go : (v : Verdict) → profile_verdict profile (take l b) ≡ v → inspection_of v (model (take l b)) x y z ≡ Refused n p → Refused n p ≡ undo_plan_of profile b l j u
         go accept q e = let i : ◌≡◌ {A = ℕ} 0 1 = cc in absurd (omega arith)
-        go (refuse k o) q e = (cc) ∙ planned (refuse k o) (refuse k o) q refl
+        go (refuse k o) q e =
+            ap (λ (z : Result Facts Refusal). undoing_of (verdict_of z) (take l b) (take u j)) (sym e) ∙ planned (refuse k o) (refuse k o) q refl
 
-    module _ (t : Facts) (e : inspection_of (profile_verdict profile (take l b)) (model (take l b)) x y z ≡ Whole t) where
+    module _ (t : Facts) (e : inspection_of (profile_verdict profile (take l b)) (model (take l b)) x y z ≡ Ok t) where
       read_fine : (profile_verdict profile (take l b) ≡ accept) × (t ≡ facts_of (model (take l b)) x y z)
       read_fine = go (profile_verdict profile f) e
         where
-          go : (v : Verdict) → inspection_of v (model (take l b)) x y z ≡ Whole t → (v ≡ accept) × (t ≡ facts_of (model (take l b)) x y z)
+          go : (v : Verdict) → inspection_of v (model (take l b)) x y z ≡ Ok t → (v ≡ accept) × (t ≡ facts_of (model (take l b)) x y z)
           go accept e = (refl, cc)
           go (refuse k o) e = let i : ◌≡◌ {A = ℕ} 0 1 = cc in absurd (omega arith)
 
-      pub nothing_used : u ≡ 0 → Not 26 0 ≡ undo_plan_of profile b l j u
+      pub nothing_used : u ≡ 0 → Refused 26 0 ≡ undo_plan_of profile b l j u
       nothing_used h = planned accept (refuse 26 0) read_fine.0 (accepts accept behind refl ∙ behind_26 h)
 
-      module _ (n : u ≡ 0 → ⊥) (r : Record) (is : r ≡ numbers_in (last_of (take u j))) where
-        pub unformed : r.kind ≡ 0 → Not 21 0 ≡ undo_plan_of profile b l j u
-        unformed h = planned accept (refuse 21 0) read_fine.0 (accepts accept behind refl ∙ behind_21 n (bad_numbers j u (last_of (take u j)) r hu refl is h))
+      module _ (n : u ≡ 0 → ⊥) where
+        pub unformed : last_of (take u j) ≡ None → Refused 21 0 ≡ undo_plan_of profile b l j u
+        unformed h = planned accept (refuse 21 0) read_fine.0 (accepts accept behind refl ∙ behind_21 n (last_bad (take u j) h))
 
-        module _ (h : r.kind ≡ 0 → ⊥) where
-          good : last_of (take u j) ≡ Good r
-          good = good-numbers (last_of (take u j)) r is h
-
-          pub formed : (v : Undoing) → v ≡ roomy (length b) (fitting_plan profile (take l b) (take u j)) → v ≡ undo_plan_of profile b l j u
+        module _ (r : Record) (good : last_of (take u j) ≡ Some r) where
+          formed : (v : Result Undoing Refusal) → v ≡ roomy (length b) (fitting_plan profile (take l b) (take u j)) → v ≡ undo_plan_of profile b l j u
           unfolding fitting_plan
           formed v w =
               w ∙ sym (fit_plan fit)
               ∙ planned accept (check fit 21 0 then check (leb (length (undone_file (take l b) (take u j))) (length b)) 24 0) read_fine.0
               (accepts accept behind refl ∙ behind-fit n (good_ends j u r hu good).formed)
 
-          pub asked : All Byte b → All Byte j → x ≡ r.usage → y ≡ r.number → z ≡ asked_at r → UndoReady profile b l j u r t
-          asked bb bj ex ey ez =
+          abbrev plan : Option Undoing
+          plan = fitting_plan profile (take l b) (take u j)
+
+          pub unfit : plan ≡ None → Refused 21 0 ≡ undo_plan_of profile b l j u
+          unfit h = formed (Refused 21 0) (ap (roomy (length b)) (sym h))
+
+          pub no_room : (w : Undoing) → plan ≡ Some w → length b < w.to → Refused 24 0 ≡ undo_plan_of profile b l j u
+          no_room w h g = formed (Refused 24 0) (sym (ap (roomy (length b)) h ∙ rw (lt-leb w.to (length b) g)))
+
+          pub room_for : (w : Undoing) → plan ≡ Some w → w.to ≤ length b → Ok w ≡ undo_plan_of profile b l j u
+          room_for w h g = formed (Ok w) (sym (ap (roomy (length b)) h ∙ rw (le-leb w.to (length b) g)))
+
+          pub asked : All Byte b → All Byte j → ◌≡◌ {A = Question} (record { usage = x; number = y; at = z }) (question_of (Some r))
+              → UndoReady profile b l j u r t
+          asked bb bj e =
               let fine : verdict (rules_of profile) (take l b) ≡ accept = sym by_rules ∙ read_fine.0 in
               let len : length (take l b) ≡ l = length-take-le l b hl in
               record {
@@ -265,5 +257,5 @@ module _ (profile : ℕ) (b : List ℕ) (l : ℕ) (j : List ℕ) (u : ℕ) where
                 fine = fine;
                 bytes = all_take Byte u j bj;
                 last = good;
-                facts_are = read_fine.1 ∙ (λ i. facts_of (model (take l b)) (ex i) (ey i) (ez i));
+                facts_are = read_fine.1 ∙ ap (λ (q : Question). facts_of (model (take l b)) q.usage q.number q.at) e;
               }

@@ -7,6 +7,7 @@ use native.Mathlib.Omega.{arith}
 use lib.ListN.{length, drop, length-append, length-drop}
 use lib.Dec.{eqb, leb, ltb}
 use borrow.Author.Tests.{ltb-true, ltb-false, le-leb, lt-leb}
+use Rattle.std.specs.Prelude.{Option, Some, None}
 use Rattle.blorb.specs.Bytes.{rd32, Byte}
 use Rattle.blorb.specs.Tags.{RIdx, Pict, Rect, Fspc}
 use Rattle.blorb.specs.Format.{Chunk, size, chunk_in, chunk_bytes, chunks_bytes, is_start}
@@ -33,7 +34,6 @@ use Rattle.edits.proofs.UndoTold.{entry_start, accepted2, accepted4, test_1, tes
 use Rattle.reader.specs.declared.Piece.{Piece}
 use Rattle.reader.specs.declared.Facts.{Facts}
 use Rattle.undoing.specs.declared.Undoing.{Undoing}
-use Rattle.undoing.specs.declared.Undoing.TheVariants.{Go}
 use Rattle.undoing.specs.LastRecord.{numbers_of}
 use Rattle.reader.specs.Inspecting.{piece_of, target_by, target_of, front_by, front_of, facts_of}
 use Rattle.undoing.specs.UndoPlan.{
@@ -90,7 +90,7 @@ below a b = go (ltb a b) refl
     go false e = let h : b ≤ a = ltb-false a b e in sym (lt-leb (suc a) b (omega arith))
 
 fitting_where : (b : Bool) (x y : Undoing) → (b ≡ true → x ≡ y) → fitting b x ≡ fitting b y
-fitting_where true x y h = h refl
+fitting_where true x y h = ap Some (h refl)
 fitting_where false x y h = refl
 
 -- the chunk of an undo, by kind
@@ -147,10 +147,13 @@ module _ (profile : ℕ) (f j : List ℕ) (st : AcceptedFile profile f) (bytes :
   the_fit : test ≡ true → fits (last_rec j) (model f) ≡ true
   the_fit h = (and_both (fits r m) (accepted (verdict (rules_of profile) (undone_file f j))) h).0
 
+  abbrev going : ℕ → ℕ → ℕ → Undoing
+  going x y z = record { count = length (model f).refs; at = x; size = y; to = z; last = numbers_of (last_rec j) }
+
   go_is : (x y z : ℕ) → x ≡ chunk_start (last_rec j) (model f) → y ≡ chunk_size_of (last_rec j) (model f) → z ≡ length (undone_file f j)
-      → Go (length (model f).refs) x y z (numbers_of (last_rec j)) ≡ go_of f j
+      → going x y z ≡ go_of f j
   unfolding go_of
-  go_is x y z ex ey ez = λ i. Go (length m.refs) (ex i) (ey i) (ez i) (numbers_of r)
+  go_is x y z ex ey ez = λ i. going (ex i) (ey i) (ez i)
 
   pub fits-added : (last_rec j).kind ≡ 1 → added_plan told (length f) (numbers_of (last_rec j)) ≡ fitting_plan profile f j
   unfolding target_of
@@ -159,16 +162,14 @@ module _ (profile : ℕ) (f j : List ℕ) (st : AcceptedFile profile f) (bytes :
       let p : Piece = piece_of m at in
       let t : Bool = fits_added_of p (length m.refs) (length f) r.place in
       on_found b m at (λ (z : Piece). fits_added_of z (length m.refs) (length f) r.place && not (front_matches (front_of m) r.usage r.number))
-      (λ (z : Piece). Go (length m.refs) z.start (size_of z.length) (length f - (12 + size_of z.length)) (numbers_of r))
-      ∙ same_plan (b && (t && not (front_matches (front_of m) r.usage r.number))) (Go (length m.refs) p.start (size_of p.length)
-      (length f - (12 + size_of p.length)) (numbers_of r))
+      (λ (z : Piece). going z.start (size_of z.length) (length f - (12 + size_of z.length)))
+      ∙ same_plan (b && (t && not (front_matches (front_of m) r.usage r.number))) (going p.start (size_of p.length) (length f - (12 + size_of p.length)))
       ((λ i. b && (t && not (front-told m r.usage r.number i))) ∙ sym (and_assoc b t (not (is_front_of m.chunks r.usage r.number)))
       ∙ sym (test_1 profile f j st bytes h))
       (λ ok. rest (sym (kind_1 r m h).0 ∙ the_fit ok))
     where
       rest : fits1 (last_rec j) (model f) ≡ true
-          → Go (length (model f).refs) (piece_of (model f) at).start (size_of (piece_of (model f) at).length)
-          (length f - (12 + size_of (piece_of (model f) at).length)) (numbers_of (last_rec j)) ≡ go_of f j
+          → going (piece_of (model f) at).start (size_of (piece_of (model f) at).length) (length f - (12 + size_of (piece_of (model f) at).length)) ≡ go_of f j
       rest fit =
           let q = fits1-facts r m fit in
           let i : at ≡ r.place = found_at profile r m st.judged (omega (arith, q.count)) q.usage_is q.number_is in
@@ -186,18 +187,17 @@ module _ (profile : ℕ) (f j : List ℕ) (st : AcceptedFile profile f) (bytes :
       let t : Bool = fits_replaced_of p (numbers_of r) in
       on_found b m at (λ (z : Piece). fits_replaced_of z (numbers_of r) && (leb (length f - size_of z.length + size_of (length r.body)) 16777216 && old_fine_of
       profile (numbers_of r) r.body (front_of m)))
-      (λ (z : Piece). Go (length m.refs) z.start (size_of z.length) (length f - size_of z.length + size_of (length r.body)) (numbers_of r))
+      (λ (z : Piece). going z.start (size_of z.length) (length f - size_of z.length + size_of (length r.body)))
       ∙ same_plan (b && (t && (leb (length f - size_of p.length + size_of (length r.body)) 16777216 && old_fine_of profile (numbers_of r) r.body
       (front_of m))))
-      (Go (length m.refs) p.start (size_of p.length) (length f - size_of p.length + size_of (length r.body)) (numbers_of r))
+      (going p.start (size_of p.length) (length f - size_of p.length + size_of (length r.body)))
       ((λ i. b && (t && (leb (length f - size_of p.length + size_of (length r.body)) 16777216 && (not (eqb r.type RIdx)
       && (allows profile r.usage (old_chunk r) && not (front-told m r.usage r.number i && eqb r.type Rect))))))
       ∙ sym (and_assoc b t (accepted2 profile r m (length f) at)) ∙ sym (test_2 profile f j st bytes h))
       (λ ok. rest (sym (kind_2 r m h).0 ∙ the_fit ok))
     where
       rest : fits2 (last_rec j) (model f) ≡ true
-          → Go (length (model f).refs) (piece_of (model f) at).start (size_of (piece_of (model f) at).length)
-          (length f - size_of (piece_of (model f) at).length + size_of (length (last_rec j).body)) (numbers_of (last_rec j)) ≡ go_of f j
+          → going (piece_of (model f) at).start (size_of (piece_of (model f) at).length) (length f - size_of (piece_of (model f) at).length + size_of (length (last_rec j).body)) ≡ go_of f j
       rest fit =
           let q = fits2-facts r m fit in
           let i : at ≡ r.place = found_at profile r m st.judged q.inside q.usage_is q.number_is in
@@ -214,14 +214,14 @@ module _ (profile : ℕ) (f j : List ℕ) (st : AcceptedFile profile f) (bytes :
       let p : Piece = piece_of m at in
       let t : Bool = fits_linked_of p (numbers_of r) in
       on_found b m at (λ (z : Piece). fits_linked_of z (numbers_of r) && not (front_matches (front_of m) r.usage r.number))
-      (λ (z : Piece). Go (length m.refs) z.start 0 (length f - 12) (numbers_of r))
-      ∙ same_plan (b && (t && not (front_matches (front_of m) r.usage r.number))) (Go (length m.refs) p.start 0 (length f - 12) (numbers_of r))
+      (λ (z : Piece). going z.start 0 (length f - 12))
+      ∙ same_plan (b && (t && not (front_matches (front_of m) r.usage r.number))) (going p.start 0 (length f - 12))
       ((λ i. b && (t && not (front-told m r.usage r.number i))) ∙ sym (and_assoc b t (not (is_front_of m.chunks r.usage r.number)))
       ∙ sym (test_5 profile f j st bytes h))
       (λ ok. rest (sym (kind_5 r m h).0 ∙ the_fit ok))
     where
       rest : fits5 (last_rec j) (model f) ≡ true
-          → Go (length (model f).refs) (piece_of (model f) at).start 0 (length f - 12) (numbers_of (last_rec j)) ≡ go_of f j
+          → going (piece_of (model f) at).start 0 (length f - 12) ≡ go_of f j
       rest fit =
           let q = fits5-facts r m fit in
           let i : at ≡ r.place = found_at profile r m st.judged q.inside q.usage_is q.number_is in

@@ -8,6 +8,7 @@ use lib.ListN.{length, take, drop}
 use lib.Seq.{drop-drop}
 use lib.Dec.{eqb, leb, ltb}
 use borrow.Author.Tests.{not-true, not-false, le-leb, lt-leb, le-ltb, lt-ltb, eq-eqb, ne_eqb}
+use Rattle.std.specs.Prelude.{Option, Some, None}
 use Rattle.blorb.specs.Bytes.{rd32}
 use Rattle.blorb.specs.Tags.{RIdx}
 use Rattle.blorb.specs.Format.{chunk_in, chunk_of}
@@ -17,10 +18,7 @@ use Rattle.edits.specs.Order.{between}
 use Rattle.undoing.specs.declared.journal.Record.{Record}
 use Rattle.reader.specs.declared.Piece.{Piece}
 use Rattle.reader.specs.declared.Facts.{Facts}
-use Rattle.reader.specs.declared.Target.{Target}
-use Rattle.reader.specs.declared.Target.TheVariants as target
 use Rattle.undoing.specs.declared.Undoing.{Undoing}
-use Rattle.undoing.specs.declared.Undoing.TheVariants.{Go, Not}
 use Rattle.undoing.specs.UndoPlan.{
   fitting,
   on_piece,
@@ -42,79 +40,59 @@ use Rattle.undoing.specs.UndoPlan.{
   roomy,
 }
 
--- a test that the code found to hold or not
-pub not_fitting : (a b : Bool) (x : Undoing) → a ≡ b → not a ≡ true → Not 21 0 ≡ fitting b x
-not_fitting a b x e h = ap (λ (z : Bool). fitting z x) (sym (not-true a h) ∙ e)
-
-pub is-fitting : (a b : Bool) (x y : Undoing) → a ≡ b → not a ≡ false → y ≡ x → y ≡ fitting b x
-is-fitting a b x y e h g = g ∙ ap (λ (z : Bool). fitting z x) (sym (not-false a h) ∙ e)
-
--- the same of an entry that was found
-module _ (t : Target) (p : Piece) (found : t ≡ target.At p) (a : Bool) (test : Piece → Bool) (go : Piece → Undoing) (is : a ≡ test p) where
-  pub piece_not : not a ≡ true → Not 21 0 ≡ on_piece t (λ (z : Piece). fitting (test z) (go z))
-  piece_not h = not_fitting a (test p) (go p) is h ∙ ap (λ (y : Target). on_piece y (λ (z : Piece). fitting (test z) (go z))) (sym found)
-
-  pub piece-fits : not a ≡ false → (x : Undoing) → x ≡ go p → x ≡ on_piece t (λ (z : Piece). fitting (test z) (go z))
-  piece-fits h x e = is-fitting a (test p) (go p) x is h e ∙ ap (λ (y : Target). on_piece y (λ (z : Piece). fitting (test z) (go z))) (sym found)
+-- an entry that was found
+module _ (t : Option Piece) (p : Piece) (found : t ≡ Some p) (test : Piece → Bool) (go : Piece → Undoing) where
+  piece_found : fitting (test p) (go p) ≡ on_piece t (λ (z : Piece). fitting (test z) (go z))
+  piece_found = ap (λ (y : Option Piece). on_piece y (λ (z : Piece). fitting (test z) (go z))) (sym found)
 
 -- kind 1: a is the test of the entry, f whether it is the frontispiece's picture
-module _ (t : Facts) (l : ℕ) (r : Record) (p : Piece) (a f : Bool) (found : t.target ≡ target.At p)
+module _ (t : Facts) (l : ℕ) (r : Record) (p : Piece) (a f : Bool) (found : t.target ≡ Some p)
     (ea : a ≡ fits_added_of p t.count l r.place) (ef : f ≡ front_matches t.front r.usage r.number) where
   abbrev added_test : Piece → Bool
   added_test z = fits_added_of z t.count l r.place && not (front_matches t.front r.usage r.number)
 
   abbrev added_go : Piece → Undoing
-  added_go z = Go t.count z.start (size_of z.length) (l - (12 + size_of z.length)) r
+  added_go z = record { count = t.count; at = z.start; size = size_of z.length; to = l - (12 + size_of z.length); last = r }
 
-  pub added_not : not (a && not f) ≡ true → Not 21 0 ≡ added_plan t l r
-  added_not h = piece_not t.target p found (a && not f) added_test added_go (λ i. ea i && not (ef i)) h
-
-  pub added-fits : (s x : ℕ) → not (a && not f) ≡ false → s ≡ size_of p.length → x ≡ l - (12 + s) → Go t.count p.start s x r ≡ added_plan t l r
-  added-fits s x h es ex =
-      piece-fits t.target p found (a && not f) added_test added_go (λ i. ea i && not (ef i)) h (Go t.count p.start s x r)
-      (λ i. Go t.count p.start (es i) ((ex ∙ ap (λ (z : ℕ). l - (12 + z)) es) i) r)
+  pub added : (s x : ℕ) → s ≡ size_of p.length → x ≡ l - (12 + s)
+      → fitting (a && not f) (record { count = t.count; at = p.start; size = s; to = x; last = r }) ≡ added_plan t l r
+  added s x es ex =
+      (λ i. fitting (ea i && not (ef i)) (record
+      { count = t.count; at = p.start; size = es i; to = (ex ∙ ap (λ (z : ℕ). l - (12 + z)) es) i; last = r }))
+      ∙ piece_found t.target p found added_test added_go
 
 -- kind 5: the same
-module _ (t : Facts) (l : ℕ) (r : Record) (p : Piece) (a f : Bool) (found : t.target ≡ target.At p)
+module _ (t : Facts) (l : ℕ) (r : Record) (p : Piece) (a f : Bool) (found : t.target ≡ Some p)
     (ea : a ≡ fits_linked_of p r) (ef : f ≡ front_matches t.front r.usage r.number) where
   abbrev linked_test : Piece → Bool
   linked_test z = fits_linked_of z r && not (front_matches t.front r.usage r.number)
 
   abbrev linked_go : Piece → Undoing
-  linked_go z = Go t.count z.start 0 (l - 12) r
+  linked_go z = record { count = t.count; at = z.start; size = 0; to = l - 12; last = r }
 
-  pub linked_not : not (a && not f) ≡ true → Not 21 0 ≡ linked_plan t l r
-  linked_not h = piece_not t.target p found (a && not f) linked_test linked_go (λ i. ea i && not (ef i)) h
+  pub linked : (x : ℕ) → x ≡ l - 12 → fitting (a && not f) (record { count = t.count; at = p.start; size = 0; to = x; last = r }) ≡ linked_plan t l r
+  linked x ex =
+      (λ i. fitting (ea i && not (ef i)) (record { count = t.count; at = p.start; size = 0; to = ex i; last = r }))
+      ∙ piece_found t.target p found linked_test linked_go
 
-  pub linked-fits : (x : ℕ) → not (a && not f) ≡ false → x ≡ l - 12 → Go t.count p.start 0 x r ≡ linked_plan t l r
-  linked-fits x h ex =
-      piece-fits t.target p found (a && not f) linked_test linked_go (λ i. ea i && not (ef i)) h (Go t.count p.start 0 x r)
-      (λ i. Go t.count p.start 0 (ex i) r)
-
--- kind 2: no such entry
-pub replaced-none : (profile : ℕ) (t : Facts) (l : ℕ) (r : Record) (d : List ℕ) → t.target ≡ target.Nothing → Not 21 0 ≡ replaced_plan profile t l r d
-replaced-none profile t l r d e = rw e
-
--- the same: a is the test of the entry, o that of the record's chunk, n its size, x the file's length less the present chunk's size s
-module _ (profile : ℕ) (t : Facts) (l : ℕ) (r : Record) (d : List ℕ) (p : Piece) (a o : Bool) (s n x : ℕ) (found : t.target ≡ target.At p)
+-- kind 2: a is the test of the entry, o that of the record's chunk, n its size, x the file's length less the present chunk's size s
+module _ (profile : ℕ) (t : Facts) (l : ℕ) (r : Record) (d : List ℕ) (p : Piece) (a o : Bool) (s n x : ℕ) (found : t.target ≡ Some p)
     (ea : a ≡ fits_replaced_of p r) (eo : o ≡ old_fine_of profile r d t.front) (es : s ≡ size_of p.length) (en : n ≡ size_of r.length) (ex : x ≡ l - s) where
   abbrev replaced_test : Piece → Bool
   replaced_test z = fits_replaced_of z r && (leb (l - size_of z.length + size_of r.length) 16777216 && old_fine_of profile r d t.front)
 
   abbrev replaced_go : Piece → Undoing
-  replaced_go z = Go t.count z.start (size_of z.length) (l - size_of z.length + size_of r.length) r
+  replaced_go z = record { count = t.count; at = z.start; size = size_of z.length; to = l - size_of z.length + size_of r.length; last = r }
 
   replaced_to : x + n ≡ l - size_of p.length + size_of r.length
   replaced_to = λ i. (ex ∙ ap (λ (z : ℕ). l - z) es) i + en i
 
-  pub replaced_not : not (a && (leb (x + n) 16777216 && o)) ≡ true → Not 21 0 ≡ replaced_plan profile t l r d
-  replaced_not h =
-      piece_not t.target p found (a && (leb (x + n) 16777216 && o)) replaced_test replaced_go (λ i. ea i && (leb (replaced_to i) 16777216 && eo i)) h
-
-  pub replaced-fits : not (a && (leb (x + n) 16777216 && o)) ≡ false → Go t.count p.start s (x + n) r ≡ replaced_plan profile t l r d
-  replaced-fits h =
-      piece-fits t.target p found (a && (leb (x + n) 16777216 && o)) replaced_test replaced_go (λ i. ea i && (leb (replaced_to i) 16777216 && eo i)) h
-      (Go t.count p.start s (x + n) r) (λ i. Go t.count p.start (es i) (replaced_to i) r)
+  pub replaced : fitting (a && (leb (x + n) 16777216 && o)) (record { count = t.count; at = p.start; size = s; to = x + n; last = r })
+      ≡ replaced_plan profile t l r d
+  replaced =
+      (λ i. fitting (ea i && (leb (replaced_to i) 16777216 && eo i)) (record
+      { count = t.count; at = p.start; size = es i; to = replaced_to i; last = r }))
+      ∙ piece_found t.target p found replaced_test replaced_go
 
 -- kind 3: a is the test of place and start, o that of the order, e that of the entry, b whether rule 5 allows the record's chunk, n that chunk's
 -- size, x where it goes in
@@ -127,13 +105,9 @@ module _ (profile : ℕ) (t : Facts) (s : List ℕ) (r : Record) (d : List ℕ) 
   removed-same = λ i. ea i && ((eo ∙ ap (λ (z : ℕ). between (start_in s) t.count r.place z z) ex) i && (leb (length s + 12 + en i) 16777216
       && (not (eqb r.sort RIdx) && (ltb t.count 4096 && (ee ∙ ap (λ (z : Bool). entry_fine_of r.usage r.number z t.target) eb) i))))
 
-  pub removed_not : not (a && (o && (leb (length s + 12 + n) 16777216 && (not (eqb r.sort RIdx) && (ltb t.count 4096 && e))))) ≡ true → Not 21 0
-      ≡ removed_plan profile t s r d
-  removed_not h = not_fitting _ _ _ removed-same h
-
-  pub removed-fits : not (a && (o && (leb (length s + 12 + n) 16777216 && (not (eqb r.sort RIdx) && (ltb t.count 4096 && e))))) ≡ false
-      → Go t.count x 0 (length s + 12 + n) r ≡ removed_plan profile t s r d
-  removed-fits h = is-fitting _ _ _ _ removed-same h (λ i. Go t.count (ex i) 0 (length s + 12 + en i) r)
+  pub removed : fitting (a && (o && (leb (length s + 12 + n) 16777216 && (not (eqb r.sort RIdx) && (ltb t.count 4096 && e)))))
+      (record { count = t.count; at = x; size = 0; to = length s + 12 + n; last = r }) ≡ removed_plan profile t s r d
+  removed = λ i. fitting (removed-same i) (record { count = t.count; at = ex i; size = 0; to = length s + 12 + en i; last = r })
 
 -- a chunk read in place
 pub chunk_read : (s : List ℕ) (at k m : ℕ) → k ≡ rd32 (drop at s) → m ≡ rd32 (drop (at + 4) s)
@@ -165,8 +139,8 @@ pub both-sides : (s : List ℕ) (count place limit at : ℕ) (a b : Bool) → pl
 both-sides s count place limit at a b h ea eb = (λ i. ea i && eb i) ∙ rw (le-leb place count h)
 
 -- kind 4: b is whether rule 5 allows the chunk at x, o the test of the order, e that of the entry
-pub unlisted_none : (profile : ℕ) (t : Facts) (s : List ℕ) (r : Record) → not t.begins ≡ true → Not 21 0 ≡ unlisted_plan profile t s r
-unlisted_none profile t s r h = ap (λ (z : Bool). fitting z (Go t.count (r.start - 12) 0 (length s + 12) r))
+pub unlisted_none : (profile : ℕ) (t : Facts) (s : List ℕ) (r : Record) → not t.begins ≡ true → None ≡ unlisted_plan profile t s r
+unlisted_none profile t s r h = ap (λ (z : Bool). fitting z (record { count = t.count; at = r.start - 12; size = 0; to = length s + 12; last = r }))
     (sym (go (leb r.place t.count) t.begins _ (not-true _ h)))
   where
     go : (a b c : Bool) → b ≡ false → (a && b) && c ≡ false
@@ -193,20 +167,6 @@ module _ (profile : ℕ) (t : Facts) (s : List ℕ) (r : Record) (o b e : Bool) 
       && (leb (length s + 12) 16777216 && (ltb t.count 4096 && (ee ∙ ap (λ (z : Bool). entry_fine_of r.usage r.number z t.target) eb') i))))
       ∙ ap (λ (z : Bool). (leb r.place t.count && z) && unlisted_rest) (sym (not-false t.begins begun))
 
-  pub unlisted_not : not (leb r.place t.count && (o && (leb (length s + 12) 16777216 && (ltb t.count 4096 && e)))) ≡ true → Not 21 0
-      ≡ unlisted_plan profile t s r
-  unlisted_not h = not_fitting _ _ _ unlisted_same h
-
-  pub unlisted_fits : not (leb r.place t.count && (o && (leb (length s + 12) 16777216 && (ltb t.count 4096 && e)))) ≡ false
-      → Go t.count x 0 (length s + 12) r ≡ unlisted_plan profile t s r
-  unlisted_fits h = is-fitting _ _ _ _ unlisted_same h (λ i. Go t.count (ex i) 0 (length s + 12) r)
-
--- room for the file after it
-pub no_room : (N k a s t : ℕ) (r : Record) (x : Undoing) → x ≡ Go k a s t r → N < t → Not 24 0 ≡ roomy N x
-no_room N k a s t r x e h = rw (e, lt-leb t N h)
-
-pub room_for : (N k a s t : ℕ) (r : Record) (x : Undoing) → x ≡ Go k a s t r → t ≤ N → Go k a s t r ≡ roomy N x
-room_for N k a s t r x e h = rw (e, le-leb t N h)
-
-pub room_not : (N n p : ℕ) (x : Undoing) → x ≡ Not n p → Not n p ≡ roomy N x
-room_not N n p x e = rw e
+  pub unlisted : fitting (leb r.place t.count && (o && (leb (length s + 12) 16777216 && (ltb t.count 4096 && e))))
+      (record { count = t.count; at = x; size = 0; to = length s + 12; last = r }) ≡ unlisted_plan profile t s r
+  unlisted = λ i. fitting (unlisted_same i) (record { count = t.count; at = ex i; size = 0; to = length s + 12; last = r })

@@ -1,12 +1,57 @@
 // The journal's last record, read back (01, The undo journal).
-ghost use Rattle.std.specs.Prelude.{◌≡◌, ◌+◌, ◌≤◌, ◌<◌, length, take};
+ghost use Rattle.std.specs.Prelude.{◌≡◌, ◌+◌, ◌≤◌, length, take};
 ghost use Rattle.edits.specs.KindRule.{kind_rule};
+ghost use Rattle.undoing.specs.Kinds.{number_of, Names};
 ghost use Rattle.undoing.specs.LastRecord.{record_at_of, last_of};
+
+// What the edit did that a record takes back. The number of each is the record's first byte.
+#[derive(Clone, Copy, PartialEq, Eq, Debug)]
+pub enum Kind {
+    // An entry and its chunk went in.
+    Added = 1,
+    // A chunk got another type and data.
+    Replaced = 2,
+    // An entry went, and its chunk.
+    Removed = 3,
+    // An entry alone went.
+    Unlisted = 4,
+    // An entry went in, for a chunk that was there.
+    Linked = 5,
+}
+
+impl Kind {
+    pub fn number(self) -> u8
+        ensures { result ≡ number_of self }
+    {
+        self as u8
+    }
+}
+
+// A byte that is no kind's number.
+#[derive(Clone, Copy, PartialEq, Eq, Debug)]
+pub struct UnknownKind(pub u8);
+
+impl TryFrom<u8> for Kind {
+    type Error = UnknownKind;
+
+    ghost try_from_gives = { Names };
+
+    fn try_from(number: u8) -> Result<Kind, UnknownKind> {
+        match number {
+            1 => Ok(Kind::Added),
+            2 => Ok(Kind::Replaced),
+            3 => Ok(Kind::Removed),
+            4 => Ok(Kind::Unlisted),
+            5 => Ok(Kind::Linked),
+            _ => Err(UnknownKind(number)),
+        }
+    }
+}
 
 // A record's numbers; `sort` is its type, `length` the number of its data bytes.
 #[derive(Clone, Copy)]
 pub struct Record {
-    pub kind: u8,
+    pub kind: Kind,
     pub usage: u32,
     pub number: u32,
     pub place: u32,
@@ -15,19 +60,27 @@ pub struct Record {
     pub length: u32,
 }
 
-#[derive(Clone, Copy)]
-pub enum Last {
-    Good(Record),
-    Bad,
+impl Record {
+    // The fields that its kind names zero are zero.
+    fn is_allowed(self) -> bool
+        ensures { result ≡ kind_rule (number_of self.kind) self.start self.sort self.length }
+    {
+        let bare = (self.sort == 0) & (self.length == 0);
+        match self.kind {
+            Kind::Added => (self.start == 0) & bare,
+            Kind::Unlisted | Kind::Linked => bare,
+            Kind::Replaced | Kind::Removed => true,
+        }
+    }
 }
 
-// The numbers of the record that begins at `at`.
-fn record_at(jrn: &[u8], at: usize) -> Record
+// The numbers of the record of this kind that begins at `at`.
+fn record_at(jrn: &[u8], at: usize, kind: Kind) -> Record
     requires { at + 25 ≤ length jrn.now }
-    ensures { result ≡ record_at_of jrn.now at }
+    ensures { result ≡ record_at_of jrn.now at kind }
 {
     Record {
-        kind: jrn[at],
+        kind,
         usage: blorb::be32_at(jrn, at + 1) as u32,
         number: blorb::be32_at(jrn, at + 5) as u32,
         place: blorb::be32_at(jrn, at + 9) as u32,
@@ -37,43 +90,29 @@ fn record_at(jrn: &[u8], at: usize) -> Record
     }
 }
 
-// The kind is 1 to 5, and the fields that it names zero are zero.
-fn is_allowed(kind: u8, start: u32, sort: u32, length: u32) -> bool
-    ensures { result ≡ kind_rule kind start sort length }
-{
-    let bare = (sort == 0) & (length == 0);
-    if kind == 1 {
-        return (start == 0) & bare;
-    }
-    if (kind == 4) | (kind == 5) {
-        return bare;
-    }
-    (kind == 2) | (kind == 3)
-}
-
 // The last record of the journal's first `used` bytes, if it is well formed.
-pub fn last_record(jrn: &[u8], used: usize) -> Last
+pub fn last_record(jrn: &[u8], used: usize) -> Option<Record>
     requires { used ≤ length jrn.now }
     ensures { result ≡ last_of (take used jrn.now) }
 {
     if used < 29 {
-        return Last::Bad;
+        return None;
     }
     let end = used - 4;
     let t = blorb::be32_at(jrn, end) as usize;
     if t < 25 {
-        return Last::Bad;
+        return None;
     }
     if end < t {
-        return Last::Bad;
+        return None;
     }
-    let r = record_at(jrn, end - t);
-    let m = r.length;
-    if 25 + m as usize != t {
-        return Last::Bad;
+    let at = end - t;
+    let Ok(kind) = Kind::try_from(jrn[at]) else {
+        return None;
+    };
+    let r = record_at(jrn, at, kind);
+    if 25 + r.length as usize != t {
+        return None;
     }
-    if !is_allowed(r.kind, r.start, r.sort, m) {
-        return Last::Bad;
-    }
-    Last::Good(r)
+    r.is_allowed().then_some(r)
 }

@@ -1,9 +1,17 @@
-use mathlib.Core.Path.{sym, ◌∙◌}
+-- Whether the bytes name a usage is the definition's test, in both cases.
+use Prim.Native.Nat.{ℕ}
+use mathlib.Core.Path.{◌≡◌, sym, ◌∙◌}
+use Rattle.std.specs.Prelude.{Option, Some, None}
+use Rattle.std.specs.Option.{is_some}
+use Rattle.blorb.specs.declared.Usage.{Usage}
+use Rattle.blorb.specs.Usages.{usage_of}
+use Rattle.blorb.specs.Verdict.{known_usage_of}
 use Rattle.blorb.proofs.UsageLaws.{known_is, known_not}
 use Rattle.undoing.proofs.known_usage.Goals as goal
 
-pub returns-in-Is : goal.returns-in-Is
-returns-in-Is c = sym (known_is _ _ (sym c.of_code.ensures ∙ c.in-Is.is)).0
+known : (u : ℕ) (o : Option Usage) → usage_of u ≡ o → is_some o ≡ known_usage_of u
+known u (Some k) e = sym (known_is u k e).0
+known u None e = sym (known_not u e)
 
-pub returns-in-Unknown : goal.returns-in-Unknown
-returns-in-Unknown c = sym (known_not _ (sym c.of_code.ensures ∙ c.in-Unknown.is))
+pub returns : goal.returns
+returns c = c.is_some.ensures ∙ known c.args.usage _ (sym c.of_code.ensures)

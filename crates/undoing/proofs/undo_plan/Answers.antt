@@ -1,15 +1,16 @@
 -- Each way out is a law of UndoAsked. The tests before the reader is called hold at every way out behind it.
 use native.Mathlib.Omega.{arith}
-use Prim.Native.Nat.{◌≤◌}
-use mathlib.Core.Path.{refl, ap, sym, ◌∙◌}
+use Prim.Native.Nat.{ℕ, ◌≤◌}
+use mathlib.Core.Path.{◌≡◌, refl, ap, sym, ◌∙◌}
 use lib.ListN.{length}
 use lib.Seq.{length-take-le}
+use Rattle.std.specs.Prelude.{Some, None, Ok}
+use Rattle.std.proofs.lemmas.Result.{err_from_is_err_and}
 use Rattle.blorb.specs.Bytes.{Byte}
 use Rattle.blorb.proofs.Accept.{bytes-all}
 use Rattle.blorb.specs.All.{All}
-use Rattle.undoing.specs.declared.Undoing.{Undoing}
-use Rattle.undoing.specs.UndoPlan.{roomy}
-use Rattle.undoing.proofs.UndoAsked.{unknown_profile, short_buffer, short_journal, unread, nothing_used, unformed, formed, asked}
+use Rattle.undoing.specs.UndoPlan.{question_of}
+use Rattle.undoing.proofs.UndoAsked.{unknown_profile, short_buffer, short_journal, unread, nothing_used, unformed, unfit, no_room, room_for, asked}
 use Rattle.undoing.proofs.undo_plan.Goals as goal
 use Rattle.undoing.proofs.undo_plan.Goals.{After-inspect}
 
@@ -43,49 +44,70 @@ returns-then-jrn-used c =
 pub slice_bounds-inspect-end : goal.slice_bounds-inspect-end
 slice_bounds-inspect-end c = sym (length-take-le _ _ c.if-buf-len.false)
 
+pub returns-in_err-facts : goal.returns-in_err-facts
+returns-in_err-facts c =
+    let a = c.args in
+    let q = c.of-asked.result in
+    let p = err_from_is_err_and c.from_residual.result c.from_residual.ensures.1 in
+    rw (p.1, p.2) (unread a.profile a.buf.now a.len a.jrn.now a.used (known (goal.at.returns-in_err-facts c).After-inspect) (file-lent (goal.at.returns-in_err-facts c).After-inspect) (journal_lent (goal.at.returns-in_err-facts c).After-inspect) q.usage q.number q.at _ _ (sym c.inspect.ensures ∙ c.in_err-facts.was))
+
 pub returns-then-used-eq0 : goal.returns-then-used-eq0
 returns-then-used-eq0 c =
     let a = c.args in
-    let r = c.last_numbers-r.result in
-    nothing_used a.profile a.buf.now a.len a.jrn.now a.used (known (goal.at.returns-then-used-eq0 c).After-inspect) (file-lent (goal.at.returns-then-used-eq0 c).After-inspect) (journal_lent (goal.at.returns-then-used-eq0 c).After-inspect) r.usage r.number
-    c.asked_offset.result c.in-Whole.facts (sym c.inspect.ensures ∙ c.in-Whole.is) c.if-used-eq0.true
+    let q = c.of-asked.result in
+    nothing_used a.profile a.buf.now a.len a.jrn.now a.used (known (goal.at.returns-then-used-eq0 c).After-inspect) (file-lent (goal.at.returns-then-used-eq0 c).After-inspect) (journal_lent (goal.at.returns-then-used-eq0 c).After-inspect) q.usage q.number q.at
+    c.in_ok-facts.facts (sym c.inspect.ensures ∙ c.in_ok-facts.was) c.if-used-eq0.true
 
-pub returns-then-r-eq0 : goal.returns-then-r-eq0
-returns-then-r-eq0 c =
+pub returns-in_err-r : goal.returns-in_err-r
+returns-in_err-r c =
     let a = c.args in
-    let last = c.last_numbers-r in
-    let r = last.result in
-    unformed a.profile a.buf.now a.len a.jrn.now a.used (known (goal.at.returns-then-r-eq0 c).After-inspect) (file-lent (goal.at.returns-then-r-eq0 c).After-inspect) (journal_lent (goal.at.returns-then-r-eq0 c).After-inspect) r.usage r.number
-    c.asked_offset.result c.in-Whole.facts (sym c.inspect.ensures ∙ c.in-Whole.is) c.if-used-eq0.false
-    r last.ensures c.if-r-eq0.true
+    let q = c.of-asked.result in
+    let p = err_from_is_err_and c.from_residual-in_err-r.result c.from_residual-in_err-r.ensures.1 in
+    let none : c.last_record-last.result ≡ None = grind arith in
+    let e : ◌≡◌ {A = ℕ × ℕ} c.in_err-r.field-0.0 (21, 0) = grind arith in
+    rw (p.1, p.2, e) (unformed a.profile a.buf.now a.len a.jrn.now a.used (known (goal.at.returns-in_err-r c).After-inspect) (file-lent (goal.at.returns-in_err-r c).After-inspect) (journal_lent (goal.at.returns-in_err-r c).After-inspect) q.usage q.number q.at
+    c.in_ok-facts.facts (sym c.inspect.ensures ∙ c.in_ok-facts.was) c.if-used-eq0.false (sym c.last_record-last.ensures ∙ none))
 
 pub plan_fitting-requires : goal.plan_fitting-requires
 plan_fitting-requires c =
     let a = c.args in
-    let last = c.last_numbers-r in
-    let r = last.result in
+    let q = c.of-asked.result in
     let file-known = c.type_inv.buf in
     let journal-known = c.type_inv.jrn in
     let bb : All Byte a.buf.now = bytes-all a.buf.now (λ i. omega (arith, file-known i)) in
     let bj : All Byte a.jrn.now = bytes-all a.jrn.now (λ i. omega (arith, journal-known i)) in
-    asked a.profile a.buf.now a.len a.jrn.now a.used (known (goal.at.plan_fitting-requires c).After-inspect) (file-lent (goal.at.plan_fitting-requires c).After-inspect) (journal_lent (goal.at.plan_fitting-requires c).After-inspect) r.usage r.number
-    c.asked_offset.result c.in-Whole.facts (sym c.inspect.ensures ∙ c.in-Whole.is) c.if-used-eq0.false
-    r last.ensures c.if-r-eq0.false bb bj refl refl c.asked_offset.ensures
+    let some : c.last_record-last.result ≡ Some c.in_ok-r.r = grind arith in
+    asked a.profile a.buf.now a.len a.jrn.now a.used (known (goal.at.plan_fitting-requires c).After-inspect) (file-lent (goal.at.plan_fitting-requires c).After-inspect) (journal_lent (goal.at.plan_fitting-requires c).After-inspect) q.usage q.number q.at
+    c.in_ok-facts.facts (sym c.inspect.ensures ∙ c.in_ok-facts.was) c.if-used-eq0.false
+    c.in_ok-r.r (sym c.last_record-last.ensures ∙ some) bb bj (c.of-asked.ensures ∙ ap question_of some)
 
-pub returns-in-Refused : goal.returns-in-Refused
-returns-in-Refused c =
+pub returns-in_err-plan : goal.returns-in_err-plan
+returns-in_err-plan c =
     let a = c.args in
-    let r = c.last_numbers-r.result in
-    unread a.profile a.buf.now a.len a.jrn.now a.used (known (goal.at.returns-in-Refused c).After-inspect) (file-lent (goal.at.returns-in-Refused c).After-inspect) (journal_lent (goal.at.returns-in-Refused c).After-inspect) r.usage r.number
-    c.asked_offset.result c.in-Refused.number c.in-Refused.place
-    (sym c.inspect.ensures ∙ c.in-Refused.is)
+    let q = c.of-asked.result in
+    let p = err_from_is_err_and c.from_residual-in_err-plan.result c.from_residual-in_err-plan.ensures.1 in
+    let some : c.last_record-last.result ≡ Some c.in_ok-r.r = grind arith in
+    let none : c.plan_fitting.result ≡ None = grind arith in
+    let e : ◌≡◌ {A = ℕ × ℕ} c.in_err-plan.field-0.0 (21, 0) = grind arith in
+    rw (p.1, p.2, e) (unfit a.profile a.buf.now a.len a.jrn.now a.used (known (goal.at.returns-in_err-plan c).After-inspect) (file-lent (goal.at.returns-in_err-plan c).After-inspect) (journal_lent (goal.at.returns-in_err-plan c).After-inspect) q.usage q.number q.at
+    c.in_ok-facts.facts (sym c.inspect.ensures ∙ c.in_ok-facts.was) c.if-used-eq0.false c.in_ok-r.r (sym c.last_record-last.ensures ∙ some) (sym c.plan_fitting.ensures ∙ none))
 
-pub returns-else-r-eq0 : goal.returns-else-r-eq0
-returns-else-r-eq0 c =
+pub returns-then-buf-plan : goal.returns-then-buf-plan
+returns-then-buf-plan c =
     let a = c.args in
-    let last = c.last_numbers-r in
-    let r = last.result in
-    let planned = ap (λ (z : Undoing). roomy (length a.buf.now) z) c.plan_fitting.ensures in
-    formed a.profile a.buf.now a.len a.jrn.now a.used (known (goal.at.returns-else-r-eq0 c).After-inspect) (file-lent (goal.at.returns-else-r-eq0 c).After-inspect) (journal_lent (goal.at.returns-else-r-eq0 c).After-inspect) r.usage r.number
-    c.asked_offset.result c.in-Whole.facts (sym c.inspect.ensures ∙ c.in-Whole.is) c.if-used-eq0.false
-    r last.ensures c.if-r-eq0.false c.with_room.result (c.with_room.ensures ∙ planned)
+    let q = c.of-asked.result in
+    let some : c.last_record-last.result ≡ Some c.in_ok-r.r = grind arith in
+    let planned : c.plan_fitting.result ≡ Some c.in_ok-plan.plan = grind arith in
+    no_room a.profile a.buf.now a.len a.jrn.now a.used (known (goal.at.returns-then-buf-plan c).After-inspect) (file-lent (goal.at.returns-then-buf-plan c).After-inspect) (journal_lent (goal.at.returns-then-buf-plan c).After-inspect) q.usage q.number q.at
+    c.in_ok-facts.facts (sym c.inspect.ensures ∙ c.in_ok-facts.was) c.if-used-eq0.false c.in_ok-r.r (sym c.last_record-last.ensures ∙ some)
+    c.in_ok-plan.plan (sym c.plan_fitting.ensures ∙ planned) c.if-buf-plan.true
+
+pub returns : goal.returns
+returns c =
+    let a = c.args in
+    let q = c.of-asked.result in
+    let some : c.last_record-last.result ≡ Some c.in_ok-r.r = grind arith in
+    let planned : c.plan_fitting.result ≡ Some c.in_ok-plan.plan = grind arith in
+    room_for a.profile a.buf.now a.len a.jrn.now a.used (known (goal.at.returns c).After-inspect) (file-lent (goal.at.returns c).After-inspect) (journal_lent (goal.at.returns c).After-inspect) q.usage q.number q.at
+    c.in_ok-facts.facts (sym c.inspect.ensures ∙ c.in_ok-facts.was) c.if-used-eq0.false c.in_ok-r.r (sym c.last_record-last.ensures ∙ some)
+    c.in_ok-plan.plan (sym c.plan_fitting.ensures ∙ planned) c.if-buf-plan.false
