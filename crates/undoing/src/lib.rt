@@ -140,7 +140,8 @@ fn entry_fine(usage: u32, number: u32, allowed: bool, target: Option<Piece>) -> 
 fn fits_removed(facts: Facts, len: usize, r: Record) -> bool
     ensures { result ≡ fits_removed_of facts len r }
 {
-    (r.place as usize <= facts.count) & (facts.begins | ((r.start as usize).saturating_sub(12) == len))
+    (r.place as usize <= facts.count)
+        & (facts.begins | ((r.start as usize).saturating_sub(12) == len))
 }
 
 // The entry in front of `place` in the index of the file `s`, if there is one, starts below `limit`.
