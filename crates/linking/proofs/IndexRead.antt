@@ -4,9 +4,12 @@ use Prim.Native.Nat.{ℕ, suc, ◌+◌, ◌*◌, ◌≤◌, ◌<◌}
 use mathlib.Core.List.{List}
 use mathlib.Core.Bool.{Bool, true, false, cond, ◌&&◌}
 use native.Mathlib.Omega.{arith}
-use lib.ListN.{length, drop, drop_of_length-le}
+use lib.ListN.{length, drop}
 use lib.Seq.{drop-drop, drop-cons}
-use lib.Dec.{eqb}
+use lib.Dec.{eqb, ltb}
+use borrow.Author.Tests.{lt-ltb, ltb-true, ltb-false}
+use Rattle.std.specs.Prelude.{Some, None}
+use Rattle.std.specs.Bool.{then_some}
 use Rattle.blorb.specs.Bytes.{rd32, Byte}
 use Rattle.blorb.specs.All.{All}
 use Rattle.blorb.specs.Format.{Ref, Entry, entry_from}
@@ -71,8 +74,24 @@ module _ (f : List ℕ) (k : ℕ) (a : Indexed f k) (bytes : All Byte f) where
       pub pair-next : (eqb x u && eqb y n) ≡ false → i + 1 + find u n (drop (i + 1) (model f).refs) ≡ find u n (model f).refs
       pair-next e = omega (arith, step false e, inv)
 
-    pub pair-none : k ≤ i → i ≤ k → i + find u n (drop i (model f).refs) ≡ find u n (model f).refs → k ≡ find u n (model f).refs
-    pair-none h l inv =
-        let le : length rs ≤ i = omega (arith, a.counted.entries) in
-        let e : find u n (drop i rs) ≡ 0 = ap (find u n) (drop_of_length-le rs le) ∙ (unfold find in refl) in
-        omega arith
+    -- the search ends there
+    pub found : i < k → i ≡ find u n (model f).refs
+        → Some i ≡ then_some (ltb (find u n (model f).refs) (length (model f).refs)) (find u n (model f).refs)
+    found h e =
+        let l : find u n (model f).refs < length (model f).refs = omega (arith, a.counted.entries) in
+        ap Some e ∙ ap (λ (b : Bool). then_some b (find u n (model f).refs)) (sym (lt-ltb (find u n (model f).refs) (length (model f).refs) l))
+
+-- what its answer tells: the entry's place, which lies below the count, or none
+pub pair_there : (x k o : ℕ) → then_some (ltb x k) x ≡ Some o → (o ≡ x) × (o < k)
+pair_there x k o e = go (ltb x k) refl e
+  where
+    go : (b : Bool) → ltb x k ≡ b → then_some b x ≡ Some o → (o ≡ x) × (o < k)
+    go true t e = let q : x ≡ o = cc in (sym q, omega (arith, ltb-true x k t))
+    go false t e = cc
+
+pub pair_missing : (x k : ℕ) → then_some (ltb x k) x ≡ None → k ≤ x
+pair_missing x k e = go (ltb x k) refl e
+  where
+    go : (b : Bool) → ltb x k ≡ b → then_some b x ≡ None → k ≤ x
+    go true t e = cc
+    go false t e = ltb-false x k t

@@ -1,10 +1,7 @@
 -- The starts rise along the index, so the new entry goes where the first later one stands: the loop keeps that the entry before i starts no later.
-use Prim.Native.Nat.{◌-◌, ◌≤◌, ◌<◌}
+use Prim.Native.Nat.{◌-◌, ◌≤◌}
 use Rattle.undoing.specs.UndoPlan.{start_in}
 use Rattle.linking.proofs.link_place.Given as goal
 
 abbrev pub invariant-loop-i : goal.invariant-loop-i
-invariant-loop-i l = (0 < l.i) × (l.i ≤ l.count) × (start_in l.s (l.i - 1) ≤ l.at)
-
-abbrev pub decreases-loop-i : goal.decreases-loop-i
-decreases-loop-i l = l.count - l.i
+invariant-loop-i l = start_in l.s (l.i - 1) ≤ l.at
