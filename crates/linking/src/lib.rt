@@ -13,7 +13,7 @@ ghost use Rattle.edits.specs.Run.{hundred};
 ghost use Rattle.linking.specs.Original.{Indexed, Original};
 
 use blorb::{Fault, Refusal, Usage};
-use judging::judge;
+use judging::judge::Pair;
 use reader::Piece;
 
 // The place of a new entry on the chunk of `piece`: behind the entries that start there, which stand side by side.
@@ -30,21 +30,24 @@ pub fn link_place(s: &[u8], count: usize, piece: Piece) -> usize
     count
 }
 
-// The place of the entry (usage, number) of the file `s`, if there is one.
-fn find_pair(s: &[u8], count: usize, usage: u32, number: u32) -> Option<usize>
+// The place of the entry with this pair in the file `s`, if there is one.
+fn find_pair(s: &[u8], count: usize, pair: Pair) -> Option<usize>
     requires { Indexed s.now count }
-    ensures { result ≡ then_some (ltb (find usage number (model s.now).refs) (length (model s.now).refs)) (find usage number (model s.now).refs) }
+    ensures { result ≡ then_some (ltb (find pair.usage pair.number (model s.now).refs) (length (model s.now).refs))
+        (find pair.usage pair.number (model s.now).refs) }
 {
     for i in 0..count {
         let p = 24 + 12 * i;
-        if (blorb::be32_at(s, p) == usage as u64) & (blorb::be32_at(s, p + 4) == number as u64) {
+        if (blorb::be32_at(s, p) == pair.usage as u64)
+            & (blorb::be32_at(s, p + 4) == pair.number as u64)
+        {
             return Some(i);
         }
     }
     None
 }
 
-// 100 + k for a link of the pair (usage, number) to the chunk of `piece` in the accepted file `s` with `count` entries: the new entry goes in at
+// 100 + k for a link of the pair to the chunk of `piece` in the accepted file `s` with `count` entries: the new entry goes in at
 // `place`. Of two entries with one pair the later is refused, and that may be the old one.
 pub fn link_fault(
     s: &[u8],
@@ -52,13 +55,12 @@ pub fn link_fault(
     count: usize,
     piece: Piece,
     place: usize,
-    usage: u32,
-    number: u32,
+    pair: Pair,
 ) -> Result<(), Refusal>
     requires { (verdict (rules_of profile) s.now ≡ accept)
         × (Original s.now count piece × ((place ≡ link_place_of (ref_at (model s.now) piece.place).chunk (model s.now).refs) × (place ≤ count))) }
     ensures { verdict_of result ≡ hundred
-        (verdict (rules_of profile) (file (linked (model s.now) (ref_at (model s.now) piece.place).chunk usage number))) }
+        (verdict (rules_of profile) (file (linked (model s.now) (ref_at (model s.now) piece.place).chunk pair.usage pair.number))) }
 {
     if 16777216 < s.len() + 12 {
         return Err(Refusal {
@@ -73,25 +75,25 @@ pub fn link_fault(
         });
     }
     let at = 24 + 12 * place;
-    if Usage::of_code(usage as u64).is_none() {
+    if Usage::of_code(pair.usage as u64).is_none() {
         return Err(Refusal {
             fault: Fault::ResultUsage,
             place: at,
         });
     }
-    if !undoing::chunk_allowed(s, profile, piece.start as usize, usage) {
+    if !undoing::chunk_allowed(s, profile, piece.start as usize, pair.usage) {
         return Err(Refusal {
             fault: Fault::ResultType,
             place: at,
         });
     }
-    if !judge::number_fits(usage, number) {
+    if !pair.number_fits() {
         return Err(Refusal {
             fault: Fault::ResultExecNumber,
             place: at + 4,
         });
     }
-    let Some(other) = find_pair(s, count, usage, number) else {
+    let Some(other) = find_pair(s, count, pair) else {
         return Ok(());
     };
     if other < place {

@@ -4,6 +4,8 @@ ghost use Rattle.edits.specs.KindRule.{kind_rule};
 ghost use Rattle.undoing.specs.Kinds.{number_of, Names};
 ghost use Rattle.undoing.specs.LastRecord.{record_at_of, last_of};
 
+use judging::judge::Pair;
+
 // What the edit did that a record takes back. The number of each is the record's first byte.
 #[derive(Clone, Copy, PartialEq, Eq, Debug)]
 pub enum Kind {
@@ -61,6 +63,16 @@ pub struct Record {
 }
 
 impl Record {
+    // The entry that it is about.
+    pub fn pair(self) -> Pair
+        ensures { (result.usage ≡ self.usage) × (result.number ≡ self.number) }
+    {
+        Pair {
+            usage: self.usage,
+            number: self.number,
+        }
+    }
+
     // The fields that its kind names zero are zero.
     fn is_allowed(self) -> bool
         ensures { result ≡ kind_rule (number_of self.kind) self.start self.sort self.length }
