@@ -1,16 +1,9 @@
 -- What a call of the editor promises under a profile: its answer and every byte of both buffers at exit, for every input.
-use Rattle.std.specs.Prelude.{◌≡◌, ℕ, List, Bool, true, false}
-use Rattle.editor.specs.declared.Outcome.TheVariants.{Done, Refused}
-use Rattle.editor.specs.declared.Outcome.{Outcome}
-use Rattle.blorb.specs.Verdict.{Verdict, accept, refuse}
+use Rattle.std.specs.Prelude.{◌≡◌, ℕ, List, Bool, true, false, Ok}
+pub use Rattle.blorb.specs.Refusals.{Refused, verdict_of}
 use Rattle.blorb.specs.Rules.{rules_of}
 use Rattle.edits.specs.Run.{State, Call, fault, step}
 use Rattle.editor.specs.declared.Answer.{Answer}
-
--- the answer's number and place, as document 01 has them
-abbrev pub verdict_of : Outcome → Verdict
-verdict_of Done = accept
-verdict_of (Refused k p) = refuse k p
 
 -- under this profile a call c in state s gives the answer r and leaves these buffers
 pub record Called (profile : ℕ) (s : State) (c : Call) (r : Answer) (b j : List ℕ) : Type 0 where
@@ -28,5 +21,5 @@ pub record Untouched (k p : ℕ) (s : State) (r : Answer) (b j : List ℕ) : Typ
 
 -- blank's answer, told whether the buffer has room: "The answer is L = 24, U = 0"; "A buffer under 24 bytes: refusal 24 with L and U 0" (01, The edits)
 abbrev pub blank_answer : Bool → Answer
-blank_answer true = record { outcome = Done; len = 24; used = 0 }
+blank_answer true = record { outcome = Ok tt; len = 24; used = 0 }
 blank_answer false = record { outcome = Refused 24 0; len = 0; used = 0 }

@@ -1,9 +1,10 @@
 -- What was put in reads back: what a file holds for a pair (usage, number), as the reader's own lookup tells it, and what an edit makes of that.
-use Rattle.std.specs.Prelude.{◌≡◌, ℕ, List, length, take}
+use Rattle.std.specs.Prelude.{◌≡◌, ℕ, List, length, take, Result, Ok}
 use Rattle.blorb.specs.Tags.{FORM}
 use Rattle.reader.specs.Reading.{lookup_of, part_of}
-use Rattle.reader.specs.declared.Looked.{Looked}
-use Rattle.reader.specs.declared.Looked.TheVariants.{Found, Refused}
+use Rattle.reader.specs.declared.Resource.{Resource}
+use Rattle.blorb.specs.declared.refusal.Refusal.{Refusal}
+use Rattle.blorb.specs.Refusals.{Refused}
 use Rattle.blorb.specs.All.{All}
 use Rattle.blorb.specs.Bytes.{Byte}
 use Rattle.blorb.specs.Rules.{rules_of}
@@ -17,8 +18,8 @@ pub data Content : Type 0 where
 
 -- "A lookup gives the chunk's type and the part of the caller's slice that is its data" (01, Found resources), of type 'FORM' the whole chunk without
 -- padding (02, P3): both, for the answer of reader::lookup and the part that reader::data gives; a refused lookup gives nothing
-abbrev pub content_by : Looked → List ℕ → Content
-content_by (Found t a m) f = holds t (part_of (Found t a m) f)
+abbrev pub content_by : Result Resource Refusal → List ℕ → Content
+content_by (Ok r) f = holds r.kind (part_of (Ok r) f)
 content_by (Refused k p) f = nothing
 
 -- what the file f holds for usage u and number n
@@ -36,7 +37,7 @@ file_after profile s c = file_of (step (rules_of profile) s c)
 -- the file f holds type t and data d for the pair: its lookup isn't refused, but finds type t and as many bytes as d has, and these bytes are d
 pub record Holds (profile : ℕ) (f : List ℕ) (u n t : ℕ) (d : List ℕ) : Type 0 where
   pub start : ℕ
-  pub found : lookup_of profile f u n ≡ Found t start (length d)
+  pub found : lookup_of profile f u n ≡ Ok (record { kind = t; start = start; length = length d })
   pub content : content_of profile f u n ≡ holds t d
 
 -- the data of type 'FORM' given to an edit are bytes; of other types nothing is asked

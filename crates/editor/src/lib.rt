@@ -6,48 +6,42 @@ ghost use Rattle.blorb.specs.Bytes.{rd32};
 ghost use Rattle.edits.specs.Edit.{add, replace, remove, link};
 ghost use Rattle.edits.specs.Run.{edit, undo};
 ghost use Rattle.edits.specs.Run.{written, undone_file};
-ghost use Rattle.undoing.specs.declared.Undoing.TheVariants.{Go};
+ghost use Rattle.std.specs.Prelude.{Ok};
 ghost use Rattle.undoing.specs.UndoPlan.{undo_plan_of};
 ghost use Rattle.edits.specs.Blank.{blanked};
 ghost use Rattle.edits.specs.Run.{state};
 ghost use Rattle.editor.specs.Called.{Called, blank_answer};
-ghost use Rattle.editor.specs.Post.{refused_with, done_with};
+ghost use Rattle.editor.specs.Post.{answered_with};
 
-use planning::{Change, Linking, Plan, Removal, given};
-use undoing::journal::Record;
-
-#[derive(Clone, Copy)]
-pub enum Outcome {
-    Done,
-    Refused { number: u64, place: usize },
-}
+use blorb::{Fault, Refusal};
+use judging::judge::Pair;
+use planning::{Lent, given};
+use undoing::Undoing;
+use undoing::journal::Kind;
 
 #[derive(Clone, Copy)]
 pub struct Answer {
-    pub outcome: Outcome,
+    pub outcome: Result<(), Refusal>,
     pub len: usize,
     pub used: usize,
 }
 
 impl Answer {
-    // A refused call gives back the lengths as given.
-    fn refused(number: u64, place: usize, len: usize, used: usize) -> Answer
-        ensures { result ≡ refused_with number place len used }
+    // A call that was made answers with the lengths after it, a refused one gives back those that it was given.
+    fn new(made: Result<Session, Refusal>, len: usize, used: usize) -> Answer
+        ensures { result ≡ answered_with made len used }
     {
-        Answer {
-            outcome: Outcome::Refused { number, place },
-            len,
-            used,
-        }
-    }
-
-    fn done(len: usize, used: usize) -> Answer
-        ensures { result ≡ done_with len used }
-    {
-        Answer {
-            outcome: Outcome::Done,
-            len,
-            used,
+        match made {
+            Ok(after) => Answer {
+                outcome: Ok(()),
+                len: after.len,
+                used: after.used,
+            },
+            Err(refusal) => Answer {
+                outcome: Err(refusal),
+                len,
+                used,
+            },
         }
     }
 }
@@ -59,36 +53,40 @@ fn add_entry(
     jrn: &mut [u8],
     used: usize,
     profile: u32,
-    usage: u32,
-    number: u32,
+    pair: Pair,
     kind: u32,
     d: &[u8],
-) -> Answer
-    ensures { Called profile (state buf.old len jrn.old used) (edit (add usage number kind d.now)) result
+) -> Result<Session, Refusal>
+    ensures { Called profile (state buf.old len jrn.old used) (edit (add pair.usage pair.number kind d.now)) (answered_with result len used)
         buf.new jrn.new }
 {
-    match planning::add_plan(buf, len, jrn.len(), used, profile, usage, number, kind, d) {
-        Plan::No(k, place) => Answer::refused(k, place, len, used),
-        Plan::Go { count } => {
-            let body = given::held(kind, d);
-            let m = body.len();
-            rewrite::add_bytes(buf, len, count, usage, number, kind, body);
-            moves::put_record(
-                jrn,
-                used,
-                1,
-                moves::Entry {
-                    usage,
-                    number,
-                    start: 0,
-                },
-                count as u64,
-                0,
-                &d[0..0],
-            );
-            Answer::done(len + (20 + (m + m % 2)), used + 29)
-        }
-    }
+    let lent = Lent {
+        len,
+        room: jrn.len(),
+        used,
+        profile,
+    };
+    let count = planning::add_plan(buf, lent, pair, kind, d)?;
+    let body = given::held(kind, d);
+    let m = body.len();
+    rewrite::add_bytes(buf, len, count, pair.usage, pair.number, kind, body);
+    moves::put_record(
+        jrn,
+        used,
+        Kind::Added as u8,
+        moves::Entry {
+            usage: pair.usage,
+            number: pair.number,
+            start: 0,
+        },
+        count as u64,
+        0,
+        &d[0..0],
+    );
+    Ok(Session {
+        len: len + (20 + (m + m % 2)),
+        used: used + 29,
+    })
 }
 
 // Remove, with the usage as a number.
@@ -98,37 +96,42 @@ fn remove_entry(
     jrn: &mut [u8],
     used: usize,
     profile: u32,
-    usage: u32,
-    number: u32,
-) -> Answer
-    ensures { Called profile (state buf.old len jrn.old used) (edit (remove usage number)) result buf.new
-        jrn.new }
+    pair: Pair,
+) -> Result<Session, Refusal>
+    ensures { Called profile (state buf.old len jrn.old used) (edit (remove pair.usage pair.number)) (answered_with result len used)
+        buf.new jrn.new }
 {
-    match planning::remove_plan(buf, len, jrn.len(), used, profile, usage, number) {
-        Removal::Not(k, place) => Answer::refused(k, place, len, used),
-        Removal::Take { count, piece } => {
-            let start = piece.start;
-            let size = planning::gone_size(piece.shared, piece.length) as usize;
-            let body = planning::kept_number(piece.shared, piece.length) as usize;
-            let from = start as usize + 8;
-            let to = from + body;
-            moves::put_record(
-                jrn,
-                used,
-                planning::removal_kind(piece.shared),
-                moves::Entry {
-                    usage,
-                    number,
-                    start,
-                },
-                piece.place as u64,
-                planning::kept_number(piece.shared, piece.kind) as u64,
-                &buf[from..to],
-            );
-            rewrite::remove_bytes(buf, len, count, piece.place, start as usize, size);
-            Answer::done(len - (12 + size), used + (29 + body))
-        }
-    }
+    let lent = Lent {
+        len,
+        room: jrn.len(),
+        used,
+        profile,
+    };
+    let plan = planning::remove_plan(buf, lent, pair)?;
+    let piece = plan.piece;
+    let start = piece.start;
+    let size = planning::gone_size(piece.shared, piece.length) as usize;
+    let body = planning::kept_number(piece.shared, piece.length) as usize;
+    let from = start as usize + 8;
+    let to = from + body;
+    moves::put_record(
+        jrn,
+        used,
+        planning::removal_kind(piece.shared).number(),
+        moves::Entry {
+            usage: pair.usage,
+            number: pair.number,
+            start,
+        },
+        piece.place as u64,
+        planning::kept_number(piece.shared, piece.kind) as u64,
+        &buf[from..to],
+    );
+    rewrite::remove_bytes(buf, len, plan.count, piece.place, start as usize, size);
+    Ok(Session {
+        len: len - (12 + size),
+        used: used + (29 + body),
+    })
 }
 
 // Replace, with usage and type as numbers.
@@ -138,50 +141,54 @@ fn replace_chunk(
     jrn: &mut [u8],
     used: usize,
     profile: u32,
-    usage: u32,
-    number: u32,
+    pair: Pair,
     kind: u32,
     d: &[u8],
-) -> Answer
-    ensures { Called profile (state buf.old len jrn.old used) (edit (replace usage number kind d.now)) result
+) -> Result<Session, Refusal>
+    ensures { Called profile (state buf.old len jrn.old used) (edit (replace pair.usage pair.number kind d.now)) (answered_with result len used)
         buf.new jrn.new }
 {
-    match planning::replace_plan(buf, len, jrn.len(), used, profile, usage, number, kind, d) {
-        Change::Keep(k, place) => Answer::refused(k, place, len, used),
-        Change::Put { count, piece } => {
-            let start = piece.start;
-            let old = planning::gone_size(false, piece.length) as usize;
-            let body = given::held(kind, d);
-            let m = body.len();
-            let from = start as usize + 8;
-            let to = from + piece.length as usize;
-            moves::put_record(
-                jrn,
-                used,
-                2,
-                moves::Entry {
-                    usage,
-                    number,
-                    start,
-                },
-                piece.place as u64,
-                piece.kind as u64,
-                &buf[from..to],
-            );
-            rewrite::replace_bytes(
-                buf,
-                len,
-                count,
-                piece.place,
-                start as usize,
-                old,
-                kind,
-                body,
-            );
-            let size = len - old + (8 + (m + m % 2));
-            Answer::done(size, used + (29 + piece.length as usize))
-        }
-    }
+    let lent = Lent {
+        len,
+        room: jrn.len(),
+        used,
+        profile,
+    };
+    let plan = planning::replace_plan(buf, lent, pair, kind, d)?;
+    let piece = plan.piece;
+    let start = piece.start;
+    let old = planning::gone_size(false, piece.length) as usize;
+    let body = given::held(kind, d);
+    let m = body.len();
+    let from = start as usize + 8;
+    let to = from + piece.length as usize;
+    moves::put_record(
+        jrn,
+        used,
+        Kind::Replaced as u8,
+        moves::Entry {
+            usage: pair.usage,
+            number: pair.number,
+            start,
+        },
+        piece.place as u64,
+        piece.kind as u64,
+        &buf[from..to],
+    );
+    rewrite::replace_bytes(
+        buf,
+        len,
+        plan.count,
+        piece.place,
+        start as usize,
+        old,
+        kind,
+        body,
+    );
+    Ok(Session {
+        len: len - old + (8 + (m + m % 2)),
+        used: used + (29 + piece.length as usize),
+    })
 }
 
 // Link, with the usages as numbers.
@@ -191,44 +198,45 @@ fn link_entry(
     jrn: &mut [u8],
     used: usize,
     profile: u32,
-    usage: u32,
-    number: u32,
-    alias: u32,
-    chosen: u32,
-) -> Answer
-    ensures { Called profile (state buf.old len jrn.old used) (edit (link usage number alias chosen)) result buf.new
-        jrn.new }
+    original: Pair,
+    alias: Pair,
+) -> Result<Session, Refusal>
+    ensures { Called profile (state buf.old len jrn.old used) (edit (link original.usage original.number alias.usage alias.number))
+        (answered_with result len used) buf.new jrn.new }
 {
-    match planning::link_plan(
-        buf,
+    let lent = Lent {
         len,
-        jrn.len(),
+        room: jrn.len(),
         used,
         profile,
-        usage,
-        number,
-        alias,
-        chosen,
-    ) {
-        Linking::Stay(k, place) => Answer::refused(k, place, len, used),
-        Linking::Join { count, place, at } => {
-            moves::put_record(
-                jrn,
-                used,
-                5,
-                moves::Entry {
-                    usage: alias,
-                    number: chosen,
-                    start: at + 12,
-                },
-                place as u64,
-                0,
-                &buf[0..0],
-            );
-            rewrite::insert_entry(buf, len, count, place, at as usize, alias, chosen);
-            Answer::done(len + 12, used + 29)
-        }
-    }
+    };
+    let plan = planning::link_plan(buf, lent, original, alias)?;
+    moves::put_record(
+        jrn,
+        used,
+        Kind::Linked as u8,
+        moves::Entry {
+            usage: alias.usage,
+            number: alias.number,
+            start: plan.at + 12,
+        },
+        plan.place as u64,
+        0,
+        &buf[0..0],
+    );
+    rewrite::insert_entry(
+        buf,
+        len,
+        plan.count,
+        plan.place,
+        plan.at as usize,
+        alias.usage,
+        alias.number,
+    );
+    Ok(Session {
+        len: len + 12,
+        used: used + 29,
+    })
 }
 
 // Four bytes as the number in them.
@@ -253,9 +261,13 @@ pub fn add(
     ensures { Called profile (state buf.old len jrn.old used) (edit (add (rd32 usage) number (rd32 kind)
         d.now)) result buf.new jrn.new }
 {
-    let u = code_of(usage);
-    let t = code_of(kind);
-    add_entry(buf, len, jrn, used, profile, u, number, t, d)
+    let pair = Pair {
+        usage: code_of(usage),
+        number,
+    };
+    let kind = code_of(kind);
+    let made = add_entry(buf, len, jrn, used, profile, pair, kind, d);
+    Answer::new(made, len, used)
 }
 
 // Replace: the chunk in the same position takes the new type and data, given as for an add.
@@ -273,9 +285,13 @@ pub fn replace(
     ensures { Called profile (state buf.old len jrn.old used) (edit (replace (rd32 usage) number (rd32 kind) d.now))
         result buf.new jrn.new }
 {
-    let u = code_of(usage);
-    let t = code_of(kind);
-    replace_chunk(buf, len, jrn, used, profile, u, number, t, d)
+    let pair = Pair {
+        usage: code_of(usage),
+        number,
+    };
+    let kind = code_of(kind);
+    let made = replace_chunk(buf, len, jrn, used, profile, pair, kind, d);
+    Answer::new(made, len, used)
 }
 
 // Remove: the entry goes, and its chunk unless another entry has it too.
@@ -291,8 +307,12 @@ pub fn remove(
     ensures { Called profile (state buf.old len jrn.old used) (edit (remove (rd32 usage) number)) result buf.new
         jrn.new }
 {
-    let u = code_of(usage);
-    remove_entry(buf, len, jrn, used, profile, u, number)
+    let pair = Pair {
+        usage: code_of(usage),
+        number,
+    };
+    let made = remove_entry(buf, len, jrn, used, profile, pair);
+    Answer::new(made, len, used)
 }
 
 // Link: a new entry on the chunk of an existing one, the original, which is named first.
@@ -310,12 +330,19 @@ pub fn link(
     ensures { Called profile (state buf.old len jrn.old used) (edit (link (rd32 usage) number (rd32 alias) chosen)) result
         buf.new jrn.new }
 {
-    let u = code_of(usage);
-    let v = code_of(alias);
-    link_entry(buf, len, jrn, used, profile, u, number, v, chosen)
+    let original = Pair {
+        usage: code_of(usage),
+        number,
+    };
+    let alias = Pair {
+        usage: code_of(alias),
+        number: chosen,
+    };
+    let made = link_entry(buf, len, jrn, used, profile, original, alias);
+    Answer::new(made, len, used)
 }
 
-// The state that a run of edits begins with: the file's length, and U.
+// What a run of calls goes on with: the file's length, and U.
 #[derive(Clone, Copy)]
 pub struct Session {
     pub len: usize,
@@ -343,73 +370,75 @@ pub fn blank(buf: &mut [u8]) -> Answer
     ensures { (result ≡ blank_answer (leb 24 (length buf.old))) × (buf.new ≡ blanked buf.old) }
 {
     if buf.len() < Session::BLANK_SIZE {
-        return Answer::refused(24, 0, 0, 0);
+        return Answer {
+            outcome: Err(Refusal {
+                fault: Fault::FileRoom,
+                place: 0,
+            }),
+            len: 0,
+            used: 0,
+        };
     }
     let file = Session::BLANK;
     moves::copy_in(buf, 0, &file);
     let fresh = Session::fresh();
-    Answer::done(fresh.len, fresh.used)
+    Answer {
+        outcome: Ok(()),
+        len: fresh.len,
+        used: fresh.used,
+    }
 }
 
 // The file before the last record's edit, written over the present one. The undo was planned under some profile, which matters no more.
-fn write_back(
+fn write_back(buf: &mut [u8], len: usize, jrn: &[u8], used: usize, plan: Undoing)
+    requires { (profile : ℕ) × (undo_plan_of profile buf.old len jrn.now used ≡ Ok plan) }
+    ensures { buf.new ≡ written buf.old len (undone_file (take len buf.old) (take used jrn.now)) }
+{
+    let r = plan.last;
+    let count = plan.count;
+    let place = r.place as usize;
+    let at = plan.at;
+    let end = used - 4;
+    let from = end - r.length as usize;
+    let d = &jrn[from..end];
+    match r.kind {
+        Kind::Added | Kind::Linked => {
+            rewrite::remove_bytes(buf, len, count, place, at, plan.size);
+        }
+        Kind::Unlisted => {
+            rewrite::insert_entry(buf, len, count, place, at, r.usage, r.number);
+        }
+        Kind::Replaced => {
+            rewrite::replace_bytes(buf, len, count, place, at, plan.size, r.sort, d);
+        }
+        Kind::Removed => {
+            rewrite::insert_bytes(buf, len, count, place, at, r.usage, r.number, r.sort, d);
+        }
+    }
+}
+
+// Undo, answered as the edits are.
+fn take_back(
     buf: &mut [u8],
     len: usize,
     jrn: &[u8],
     used: usize,
-    count: usize,
-    at: usize,
-    size: usize,
-    r: Record,
-)
-    requires { (profile : ℕ) × (undo_plan_of profile buf.old len jrn.now used ≡ Go count at size
-        (length (undone_file (take len buf.old) (take used jrn.now))) r) }
-    ensures { buf.new ≡ written buf.old len (undone_file (take len buf.old) (take used jrn.now)) }
+    profile: u32,
+) -> Result<Session, Refusal>
+    ensures { Called profile (state buf.old len jrn.now used) undo (answered_with result len used) buf.new jrn.now }
 {
-    let kind = r.kind;
-    let place = r.place as usize;
-    if (kind == 1) | (kind == 5) {
-        rewrite::remove_bytes(buf, len, count, place, at, size);
-        return;
-    }
-    if kind == 4 {
-        rewrite::insert_entry(buf, len, count, place, at, r.usage, r.number);
-        return;
-    }
-    let end = used - 4;
-    let from = end - r.length as usize;
-    let d = &jrn[from..end];
-    if kind == 2 {
-        rewrite::replace_bytes(buf, len, count, place, at, size, r.sort, d);
-        return;
-    }
-    rewrite::insert_bytes(buf, len, count, place, at, r.usage, r.number, r.sort, d);
+    let plan = undoing::undo_plan(buf, len, jrn, used, profile)?;
+    write_back(buf, len, jrn, used, plan);
+    Ok(Session {
+        len: plan.to,
+        used: used - (29 + plan.last.length as usize),
+    })
 }
 
 // Undo: the last record's edit is taken back. The journal is only read.
 pub fn undo(buf: &mut [u8], len: usize, jrn: &[u8], used: usize, profile: u32) -> Answer
     ensures { Called profile (state buf.old len jrn.now used) undo result buf.new jrn.now }
 {
-    match undoing::undo_plan(buf, len, jrn, used, profile) {
-        undoing::Undoing::Not { number: k, place } => Answer {
-            outcome: Outcome::Refused { number: k, place },
-            len,
-            used,
-        },
-        undoing::Undoing::Go {
-            count,
-            at,
-            size,
-            to,
-            record,
-        } => {
-            let m = record.length as usize;
-            write_back(buf, len, jrn, used, count, at, size, record);
-            Answer {
-                outcome: Outcome::Done,
-                len: to,
-                used: used - (29 + m),
-            }
-        }
-    }
+    let made = take_back(buf, len, jrn, used, profile);
+    Answer::new(made, len, used)
 }

@@ -19,19 +19,17 @@ use Rattle.blorb.specs.Bytes.{Byte}
 use Rattle.blorb.proofs.Checks.{holds_last}
 use Rattle.edits.proofs.Lengths.{length-added, size-given}
 use Rattle.edits.specs.Run.{hundred, whole_fault, target_fault, edited_file, edit_record}
-use Rattle.judging.specs.declared.Outcome.{Outcome}
-use Rattle.judging.specs.declared.Outcome.TheVariants as outcome
-use Rattle.planning.specs.declared.Plan.TheVariants.{Go, No}
+use Rattle.std.specs.Prelude.{Result, Ok, Err}
+use Rattle.blorb.specs.declared.refusal.Refusal.{Refusal}
+use Rattle.blorb.specs.Refusals.{Refused, verdict_of, answer_by}
 use Rattle.reader.specs.declared.Facts.{Facts}
-use Rattle.reader.specs.declared.Inspection.TheVariants.{Whole, Refused}
 use Rattle.reader.specs.Inspecting.{target_of}
-use Rattle.judging.specs.Outcomes.{verdict_of}
 use Rattle.judging.specs.Told.{Counted}
 use Rattle.rewrite.specs.Rewriting.{Stands}
 use Rattle.rewrite.proofs.Writes.{stands_length}
-use Rattle.planning.specs.Plans.{edit_refusal, plan_of}
+use Rattle.planning.specs.Plans.{edit_refusal}
 use Rattle.judging.proofs.OpenLaws.{asked, asked-refused, asked_whole}
-use Rattle.planning.proofs.PlanLaws.{plan_go, open_stands, opened_fine, stands_counted, edit_unopened, edit_off_target, edit-told, unrefused}
+use Rattle.planning.proofs.PlanLaws.{answer_go, open_stands, opened_fine, stands_counted, opening_no, target_no, judged_no, room_no, room_fine, unrefused}
 
 module _ (profile : ℕ) (b : List ℕ) (l J U u n t : ℕ) (d : List ℕ) (bytes : All Byte (take l b)) where
   abbrev pub f : List ℕ
@@ -64,10 +62,10 @@ module _ (profile : ℕ) (b : List ℕ) (l J U u n t : ℕ) (d : List ℕ) (byte
       let lf : length (file (model f)) ≡ l = stands_length b l K st.0 in
       length-added (model f) u n (given_chunk t d) ∙ omega (arith, size-given t d)
 
-  pub plan_unopened : (x k p : ℕ) → asked profile b l J U u n x ≡ Refused k p → No k p ≡ plan_of Vd K
-  plan_unopened x k p e = ap (λ (v : Verdict). plan_of v K) (sym (edit_unopened profile (length b) J f l U E k p (asked-refused profile b l J U u n x k p e)))
+  pub plan_unopened : (x : ℕ) (y : Refusal) → asked profile b l J U u n x ≡ Err y → Err y ≡ answer_by Vd K
+  plan_unopened x y e = opening_no profile (length b) J f l U E K y (asked-refused profile b l J U u n x y.0 y.1 e)
 
-  module _ (x : ℕ) (fs : Facts) (op : asked profile b l J U u n x ≡ Whole fs) where
+  module _ (x : ℕ) (fs : Facts) (op : asked profile b l J U u n x ≡ Ok fs) where
     ok : O ≡ accept
     ok = (asked_whole profile b l J U u n x fs op).0
 
@@ -88,31 +86,34 @@ module _ (profile : ℕ) (b : List ℕ) (l J U u n t : ℕ) (d : List ℕ) (byte
       ),
     )
 
-    pub plan_30 : (not (eqb t FORM) || is_whole d) ≡ false → No 30 0 ≡ plan_of Vd K
-    plan_30 e =
-        let q : target_fault (model f) E ≡ refuse 30 0 = (unfold target_fault whole_fault check in rw e) in
-        ap (λ (v : Verdict). plan_of v K) (sym (edit_off_target profile (length b) J f l U E 30 0 ok q))
+    pub plan_30 : (not (eqb t FORM) || is_whole d) ≡ false → Refused 30 0 ≡ answer_by Vd K
+    plan_30 e = target_no profile (length b) J f l U E K 30 0 ok (unfold target_fault whole_fault check in rw e)
 
     -- h: the data as the chunk holds it, as the code has it
-    module _ (whole : (not (eqb t FORM) || is_whole d) ≡ true) (h : List ℕ) (eh : h ≡ held t d) (j r : Outcome)
-        (judged : verdict_of j ≡ hundred (verdict (rules_of profile) (file (added (model f) u n (chunk_of t h)))))
-        (e : verdict_of r ≡ verdict_of j then (check (leb (l + (20 + (length h + length h % 2))) (length b)) 24 0 then check (leb 29 (J - U)) 25 0)) where
+    module _ (whole : (not (eqb t FORM) || is_whole d) ≡ true) (h : List ℕ) (eh : h ≡ held t d) (j : Result (Unit {0}) Refusal)
+        (judged : verdict_of j ≡ hundred (verdict (rules_of profile) (file (added (model f) u n (chunk_of t h))))) where
       on_target : target_fault (model f) E ≡ accept
       unfolding target_fault whole_fault
       on_target = holds_last _ _ _ whole
 
-      told : Vd ≡ verdict_of r
+      judged_is : verdict_of j ≡ hundred (verdict (rules_of profile) (edited_file f E))
       unfolding edited_file edited
-      told =
-          edit-told profile (length b) J f l U E j r _ _ ok on_target told_stands.1
-          (judged ∙ ap (λ (z : List ℕ). hundred (verdict (rules_of profile) (file (added (model f) u n (chunk_of t z))))) eh)
-          (ap (λ (z : List ℕ). l + (20 + (length z + length z % 2))) eh ∙ sym (add-length ok)) (sym record_29) e
+      judged_is = judged ∙ ap (λ (z : List ℕ). hundred (verdict (rules_of profile) (file (added (model f) u n (chunk_of t z))))) eh
 
-      pub plan_refused : (k p : ℕ) → r ≡ outcome.Refused k p → No k p ≡ plan_of Vd K
-      plan_refused k p q = ap (λ (v : Verdict). plan_of v K) (sym (told ∙ ap verdict_of q))
+      new_is : l + (20 + (length h + length h % 2)) ≡ length (edited_file f E)
+      new_is = ap (λ (z : List ℕ). l + (20 + (length z + length z % 2))) eh ∙ sym (add-length ok)
 
-      pub plan_fine : r ≡ outcome.Done → Go fs.count ≡ plan_of Vd K
-      plan_fine q = ap Go count_is ∙ ap (λ (v : Verdict). plan_of v K) (sym (told ∙ ap verdict_of q))
+      pub plan_judged : (y : Refusal) → j ≡ Err y → Err y ≡ answer_by Vd K
+      plan_judged y q = judged_no profile (length b) J f l U E K ok on_target j judged_is y q
+
+      module _ (fine : verdict_of j ≡ accept) (r : Result (Unit {0}) Refusal)
+          (e : verdict_of r ≡ check (leb (l + (20 + (length h + length h % 2))) (length b)) 24 0 then check (leb 29 (J - U)) 25 0) where
+        pub plan_full : (y : Refusal) → r ≡ Err y → Err y ≡ answer_by Vd K
+        plan_full y q = room_no profile (length b) J f l U E K ok on_target j judged_is fine told_stands.1 _ _ new_is (sym record_29) r e y q
+
+        pub plan_fine : verdict_of r ≡ accept → Ok fs.count ≡ answer_by Vd K
+        plan_fine q = ap Ok count_is
+            ∙ room_fine profile (length b) J f l U E K ok on_target j judged_is fine told_stands.1 _ _ new_is (sym record_29) r e q
 
   -- what a plan to go on tells
   pub record Ready (k : ℕ) : Type 0 where
@@ -124,9 +125,9 @@ module _ (profile : ℕ) (b : List ℕ) (l J U u n t : ℕ) (d : List ℕ) (byte
     pub new_length : l + (20 + (length D + length D % 2)) ≡ length (edited_file f E)
     pub new_record : 29 ≡ length (edit_record f E)
 
-  pub ready : (k : ℕ) → plan_of Vd K ≡ Go k → Ready k
+  pub ready : (k : ℕ) → answer_by Vd K ≡ Ok k → Ready k
   ready k e =
-      let q = plan_go Vd K k e in
+      let q = answer_go Vd K k e in
       let told = unrefused profile (length b) J f l U E q.0 in
       let len = add-length told.opened in
       record {

@@ -20,24 +20,18 @@ use Rattle.edits.specs.Run.{hundred, target_fault, edited_file, edit_record}
 use Rattle.edits.proofs.JournalLaws.{length-rec_bytes}
 use Rattle.edits.proofs.LinkLaws.{linked-length}
 use Rattle.reader.specs.declared.Piece.{Piece}
-use Rattle.reader.specs.declared.Target.TheVariants as target
+use Rattle.std.specs.Prelude.{Some, None, Result, Ok, Err}
+use Rattle.blorb.specs.declared.refusal.Refusal.{Refusal}
+use Rattle.blorb.specs.Refusals.{Refused, verdict_of, answer_by}
 use Rattle.reader.specs.declared.Facts.{Facts}
-use Rattle.reader.specs.declared.Inspection.TheVariants.{Whole, Refused}
 use Rattle.reader.specs.Inspecting.{piece_of}
-use Rattle.judging.specs.declared.Outcome.{Outcome}
-use Rattle.judging.specs.declared.Outcome.TheVariants as outcome
-use Rattle.judging.specs.Outcomes.{verdict_of}
 use Rattle.judging.proofs.OpenLaws.{asked, asked-refused, place_is, start_is}
 use Rattle.linking.specs.Original.{Original}
-use Rattle.planning.specs.declared.Linking.TheVariants.{Join, Stay}
-use Rattle.planning.specs.Plans.{edit_refusal, linking_of}
-use Rattle.planning.proofs.PlanLaws.{opened_fine, stands_as, stands_counted, edit_unopened, edit_off_target, edit-told, unrefused}
+use Rattle.planning.specs.declared.Joining.{Joining}
+use Rattle.planning.specs.Plans.{edit_refusal, joining_of}
+use Rattle.planning.proofs.PlanLaws.{answer_go, opened_fine, stands_as, stands_counted, opening_no, target_no, judged_no, room_no, room_fine, unrefused}
 use Rattle.planning.proofs.RemovePlan.{Found, Told}
 use Rattle.planning.proofs.RemovePlan as original
-
-pub linking_no : (w : Verdict) (m : Model) (v o k p : ℕ) → linking_of w m v o ≡ Stay k p → w ≡ refuse k p
-linking_no accept m v o k p e = let z : ◌≡◌ {A = ℕ} 0 1 = cc in absurd (omega arith)
-linking_no (refuse a b) m v o k p e = cc
 
 module _ (profile : ℕ) (b : List ℕ) (l J U v o u n : ℕ) (bytes : All Byte (take l b)) where
   abbrev pub f : List ℕ
@@ -80,19 +74,20 @@ module _ (profile : ℕ) (b : List ℕ) (l J U v o u n : ℕ) (bytes : All Byte 
   unfolding target_fault
   on_target h = holds_last _ _ _ (lt-ltb _ _ h)
 
-  pub plan_unopened : (x k p : ℕ) → asked profile b l J U v o x ≡ Refused k p → Stay k p ≡ linking_of Vd m v o
-  plan_unopened x k p e =
-      ap (λ (w : Verdict). linking_of w m v o) (sym (edit_unopened profile (length b) J f l U E k p (asked-refused profile b l J U v o x k p e)))
+  abbrev X : Joining
+  X = joining_of (model (take l b)) v o
 
-  module _ (x : ℕ) (fs : Facts) (e : asked profile b l J U v o x ≡ Whole fs) where
-    pub plan_22 : fs.target ≡ target.Nothing → Stay 22 0 ≡ linking_of Vd m v o
+  pub plan_unopened : (x : ℕ) (y : Refusal) → asked profile b l J U v o x ≡ Err y → Err y ≡ answer_by Vd X
+  plan_unopened x y e = opening_no profile (length b) J f l U E X y (asked-refused profile b l J U v o x y.0 y.1 e)
+
+  module _ (x : ℕ) (fs : Facts) (e : asked profile b l J U v o x ≡ Ok fs) where
+    pub plan_22 : fs.target ≡ None → Refused 22 0 ≡ answer_by Vd X
     plan_22 t =
         let h = original.told_missing profile b l J U v o bytes x fs e t in
-        let q : target_fault m E ≡ refuse 22 0 = (unfold target_fault check in rw h.1) in
-        ap (λ (w : Verdict). linking_of w m v o) (sym (edit_off_target profile (length b) J f l U E 22 0 h.0 q))
+        target_no profile (length b) J f l U E X 22 0 h.0 (unfold target_fault check in rw h.1)
 
     -- the original's piece, as the reader tells it
-    module _ (p : Piece) (t : fs.target ≡ target.At p) where
+    module _ (p : Piece) (t : fs.target ≡ Some p) where
       pub told : Told profile b l J U v o bytes fs p
       told = original.told profile b l J U v o bytes x fs e p t
 
@@ -121,23 +116,29 @@ module _ (profile : ℕ) (b : List ℕ) (l J U v o u n : ℕ) (bytes : All Byte 
           → (verdict (rules_of profile) f ≡ accept) × (Original f fs.count p × ((y ≡ link_place_of (ref_at m p.place).chunk m.refs) × (y ≤ fs.count)))
       told-place y h = (accepted, (told_original, h))
 
-      module _ (y : ℕ) (ey : y ≡ link_place_of (ref_at m p.place).chunk m.refs) (j r : Outcome)
-          (judged : verdict_of j ≡ hundred (verdict (rules_of profile) (file (linked m (ref_at m p.place).chunk u n))))
-          (er : verdict_of r ≡ verdict_of j then (check (leb (l + 12) (length b)) 24 0 then check (leb 29 (J - U)) 25 0)) where
-        judged_is : Vd ≡ verdict_of r
+      module _ (j : Result (Unit {0}) Refusal)
+          (judged : verdict_of j ≡ hundred (verdict (rules_of profile) (file (linked m (ref_at m p.place).chunk u n)))) where
+        judged_is : verdict_of j ≡ hundred (verdict (rules_of profile) (edited_file f E))
         unfolding edited_file edited
-        judged_is =
-            edit-told profile (length b) J f l U E j r _ _ told.opened (on_target told.found.listed) told.found.used_in
-            (judged ∙ ap (λ (z : ℕ). hundred (verdict (rules_of profile) (file (linked m z u n)))) its_chunk) (sym (link-length told.found))
-            (sym record_29) er
+        judged_is = judged ∙ ap (λ (z : ℕ). hundred (verdict (rules_of profile) (file (linked m z u n)))) its_chunk
 
-        pub plan_refused : (k q : ℕ) → r ≡ outcome.Refused k q → Stay k q ≡ linking_of Vd m v o
-        plan_refused k q h = ap (λ (w : Verdict). linking_of w m v o) (sym (judged_is ∙ ap verdict_of h))
+        pub plan_judged : (y : Refusal) → j ≡ Err y → Err y ≡ answer_by Vd X
+        plan_judged y q = judged_no profile (length b) J f l U E X told.opened (on_target told.found.listed) j judged_is y q
 
-        pub plan_fine : r ≡ outcome.Done → Join fs.count y p.start ≡ linking_of Vd m v o
-        plan_fine h =
-            (λ z. Join (told.count_is z) ((ey ∙ ap (λ (c : ℕ). link_place_of c m.refs) its_chunk) z) (start_is m i p told.piece_is z))
-            ∙ ap (λ (w : Verdict). linking_of w m v o) (sym (judged_is ∙ ap verdict_of h))
+        module _ (ok : verdict_of j ≡ accept) (r : Result (Unit {0}) Refusal)
+            (er : verdict_of r ≡ check (leb (l + 12) (length b)) 24 0 then check (leb 29 (J - U)) 25 0) where
+          pub plan_full : (y : Refusal) → r ≡ Err y → Err y ≡ answer_by Vd X
+          plan_full y q =
+              room_no profile (length b) J f l U E X told.opened (on_target told.found.listed) j judged_is ok told.found.used_in _ _
+              (sym (link-length told.found)) (sym record_29) r er y q
+
+          pub plan_fine : (y : ℕ) → y ≡ link_place_of (ref_at m p.place).chunk m.refs → verdict_of r ≡ accept
+              → Ok (record { count = fs.count; place = y; at = p.start }) ≡ answer_by Vd X
+          plan_fine y ey q =
+              (λ z. Ok (record
+              { count = told.count_is z; place = (ey ∙ ap (λ (c : ℕ). link_place_of c m.refs) its_chunk) z; at = start_is m i p told.piece_is z }))
+              ∙ room_fine profile (length b) J f l U E X told.opened (on_target told.found.listed) j judged_is ok told.found.used_in _ _
+              (sym (link-length told.found)) (sym record_29) r er q
 
   -- what a plan to go on tells: k entries, the new one's place y, the chunk's start x
   pub record Ready (k y x : ℕ) : Type 0 where
@@ -150,25 +151,20 @@ module _ (profile : ℕ) (b : List ℕ) (l J U v o u n : ℕ) (bytes : All Byte 
     pub short : l + 12 ≤ 16777216
     pub journal_room : U + 29 ≤ J
 
-  pub ready : (k y x : ℕ) → linking_of Vd m v o ≡ Join k y x → Ready k y x
+  pub ready : (w : Joining) → answer_by Vd X ≡ Ok w → Ready w.count w.place w.at
   unfolding target_fault
-  ready k y x e =
-      let w : Vd ≡ accept = go Vd e in
-      let told = unrefused profile (length b) J f l U E w in
+  ready w e =
+      let g = answer_go Vd X w e in
+      let told = unrefused profile (length b) J f l U E g.0 in
       let there : There = original.found profile b l J U v o bytes told.opened (ltb-true _ _ (check_accept _ _ _ told.on_target)) in
       let len = link-length there in
-      let q : Join K (link_place_of kc m.refs) (start m kc) ≡ Join k y x = ap (λ (z : Verdict). linking_of z m v o) (sym w) ∙ e in
       record {
-        fine = w;
+        fine = g.0;
         found = there;
-        count_is = cc;
-        place_is = cc;
-        start_is = cc;
+        count_is = ap (λ (z : Joining). z.count) g.1;
+        place_is = ap (λ (z : Joining). z.place) g.1;
+        start_is = ap (λ (z : Joining). z.at) g.1;
         room = omega (arith, told.room);
         short = omega (arith, told.short);
         journal_room = omega (arith, told.journal_room, record_29);
       }
-    where
-      go : (w : Verdict) → linking_of w (model (take l b)) v o ≡ Join k y x → w ≡ accept
-      go accept e = refl
-      go (refuse a c) e = let z : ◌≡◌ {A = ℕ} 0 1 = cc in absurd (omega arith)

@@ -19,21 +19,22 @@ use Rattle.blorb.proofs.Parts.{file-length}
 use Rattle.edits.specs.Edit.{Edit}
 use Rattle.edits.specs.Run.{hundred, target_fault, edit_fault, edited_file, edit_record}
 use Rattle.edits.proofs.RunLaws.{hundred_accept}
-use Rattle.judging.specs.declared.Outcome.{Outcome}
-use Rattle.judging.specs.declared.Outcome.TheVariants.{Done, Refused}
-use Rattle.judging.specs.Outcomes.{verdict_of}
+use Rattle.std.specs.Prelude.{Result, Ok, Err}
+use Rattle.blorb.specs.declared.refusal.Refusal.{Refusal}
+use Rattle.blorb.specs.Refusals.{Refused, verdict_of, answer_by}
+use Rattle.blorb.proofs.RefusalLaws.{not_refused}
 use Rattle.judging.specs.Told.{Counted}
 use Rattle.rewrite.specs.Rewriting.{Stands}
-use Rattle.planning.specs.declared.Plan.TheVariants.{Go, No}
-use Rattle.planning.specs.Plans.{edit_refusal, plan_of}
+use Rattle.planning.specs.Plans.{edit_refusal}
 
-pub plan_no : (v : Verdict) (k n p : ℕ) → plan_of v k ≡ No n p → v ≡ refuse n p
-plan_no accept k n p e = let z : ◌≡◌ {A = ℕ} 0 1 = cc in absurd (omega arith)
-plan_no (refuse a b) k n p e = cc
+-- an answer by a verdict tells the verdict
+pub answer_no : {A : Type 0} (v : Verdict) (x : A) (y : Refusal) → answer_by v x ≡ Err y → v ≡ refuse y.0 y.1
+answer_no accept x y e = absurd (not_refused e)
+answer_no (refuse a b) x y e = ap verdict_of e
 
-pub plan_go : (v : Verdict) (k i : ℕ) → plan_of v k ≡ Go i → (v ≡ accept) × (i ≡ k)
-plan_go accept k i e = (refl, cc)
-plan_go (refuse a b) k i e = let z : ◌≡◌ {A = ℕ} 0 1 = cc in absurd (omega arith)
+pub answer_go : {A : Type 0} (v : Verdict) (x y : A) → answer_by v x ≡ Ok y → (v ≡ accept) × (y ≡ x)
+answer_go accept x y e = (refl, cc)
+answer_go (refuse a b) x y e = absurd (not_refused (sym e))
 
 -- what is known once 52, 20 and the reader's refusals are past
 pub open_stands : (profile : ℕ) (b : List ℕ) (l u J k : ℕ) → All Byte (take l b)
@@ -121,42 +122,49 @@ module _ (profile N J : ℕ) (f : List ℕ) (L U : ℕ) (e : Edit) where
         journal_room = leb-true _ _ (check_accept _ _ _ d.1);
       }
 
-  pub edit_unopened : (n p : ℕ) → opening ≡ refuse n p → edit_refusal profile N J f L U e ≡ refuse n p
+  edit_unopened : (n p : ℕ) → opening ≡ refuse n p → edit_refusal profile N J f L U e ≡ refuse n p
   edit_unopened n p h = edit_split ∙ ap (λ (v : Verdict). v then behind) h ∙ (unfold ◌then◌ in refl)
 
-  pub edit_off_target : (n p : ℕ) → opening ≡ accept → target_fault (model f) e ≡ refuse n p → edit_refusal profile N J f L U e ≡ refuse n p
+  edit_off_target : (n p : ℕ) → opening ≡ accept → target_fault (model f) e ≡ refuse n p → edit_refusal profile N J f L U e ≡ refuse n p
   edit_off_target n p h t = edit_split ∙ accepts _ _ h
       ∙ ap (λ (v : Verdict). v then (hundred (verdict (rules_of profile) (edited_file f e)) then (check (leb (length (edited_file f e)) N) 24 0 then check
       (leb (U + length (edit_record f e)) J) 25 0))) t ∙ (unfold ◌then◌ in refl)
 
-  -- 100 + k, 24 and 25, as the code finds them: j is what was judged, x and y the new file's and the record's length
-  pub edit-told : (j r : Outcome) (x y : ℕ) → opening ≡ accept → target_fault (model f) e ≡ accept → U ≤ J
-      → verdict_of j ≡ hundred (verdict (rules_of profile) (edited_file f e)) → x ≡ length (edited_file f e) → y ≡ length (edit_record f e)
-      → verdict_of r ≡ verdict_of j then (check (leb x N) 24 0 then check (leb y (J - U)) 25 0)
-      → edit_refusal profile N J f L U e ≡ verdict_of r
-  edit-told j r x y h t le ej ex ey er =
-      edit_split ∙ accepts _ _ h ∙ accepts _ _ t
-      ∙ (λ i. sym ej i then (check (leb (sym ex i) N) 24 0 then check (left_room U (length (edit_record f e)) J le i) 25 0))
-      ∙ ap (λ (z : ℕ). verdict_of j then (check (leb x N) 24 0 then check (leb z (J - U)) 25 0)) (sym ey)
-      ∙ sym er
+  -- 22, 23 and 30, and what is refused before them
+  module _ {A : Type 0} (x : A) where
+    pub opening_no : (y : Refusal) → opening ≡ refuse y.0 y.1 → Err y ≡ answer_by (edit_refusal profile N J f L U e) x
+    opening_no y h = ap (λ (v : Verdict). answer_by v x) (sym (edit_unopened y.0 y.1 h))
 
--- the ways out of with_room
-module _ (v : Outcome) (x N y J : ℕ) where
-  pub room-judged : (k p : ℕ) → v ≡ Refused k p → refuse k p ≡ verdict_of v then (check (leb x N) 24 0 then check (leb y J) 25 0)
-  room-judged k p e = sym (ap (λ (z : Outcome). verdict_of z then (check (leb x N) 24 0 then check (leb y J) 25 0)) e ∙ (unfold ◌then◌ in refl))
+    pub target_no : (k p : ℕ) → opening ≡ accept → target_fault (model f) e ≡ refuse k p
+        → Refused k p ≡ answer_by (edit_refusal profile N J f L U e) x
+    target_no k p h t = ap (λ (v : Verdict). answer_by v x) (sym (edit_off_target k p h t))
 
-  module _ (e : v ≡ Done) where
-    past : verdict_of v then (check (leb x N) 24 0 then check (leb y J) 25 0) ≡ check (leb x N) 24 0 then check (leb y J) 25 0
-    past = accepts _ _ (ap verdict_of e)
+  -- 100 + k, 24 and 25, as the code finds them: j is what was judged
+  module _ {A : Type 0} (a : A) (h : opening ≡ accept) (t : target_fault (model f) e ≡ accept) (j : Result (Unit {0}) Refusal)
+      (ej : verdict_of j ≡ hundred (verdict (rules_of profile) (edited_file f e))) where
+    abbrev room_verdict : Verdict
+    room_verdict = check (leb (length (edited_file f e)) N) 24 0 then check (leb (U + length (edit_record f e)) J) 25 0
 
-    pub room_24 : N < x → refuse 24 0 ≡ verdict_of v then (check (leb x N) 24 0 then check (leb y J) 25 0)
-    room_24 h = sym (past ∙ stop _ _ _ _ (lt-leb _ _ h))
+    judged : edit_refusal profile N J f L U e ≡ verdict_of j then room_verdict
+    judged = edit_split ∙ accepts _ _ h ∙ accepts _ _ t ∙ ap (λ (v : Verdict). v then room_verdict) (sym ej)
 
-    module _ (h : x ≤ N) where
-      pub room_25 : J < y → refuse 25 0 ≡ verdict_of v then (check (leb x N) 24 0 then check (leb y J) 25 0)
-      unfolding check
-      room_25 g = sym (past ∙ pass _ _ _ _ (le-leb _ _ h) ∙ rw (lt-leb y J g))
+    pub judged_no : (y : Refusal) → j ≡ Err y → Err y ≡ answer_by (edit_refusal profile N J f L U e) a
+    unfolding ◌then◌
+    judged_no y q = ap (λ (v : Verdict). answer_by v a)
+        (sym (judged ∙ ap (λ (z : Result (Unit {0}) Refusal). verdict_of z then room_verdict) q ∙ refl))
 
-      pub room_fine : y ≤ J → accept ≡ verdict_of v then (check (leb x N) 24 0 then check (leb y J) 25 0)
-      unfolding check
-      room_fine g = sym (past ∙ pass _ _ _ _ (le-leb _ _ h) ∙ rw (le-leb y J g))
+    -- x and y are the new file's and the record's length, r what the code found of the room for them
+    module _ (ok : verdict_of j ≡ accept) (le : U ≤ J) (x y : ℕ) (ex : x ≡ length (edited_file f e)) (ey : y ≡ length (edit_record f e))
+        (r : Result (Unit {0}) Refusal) (er : verdict_of r ≡ check (leb x N) 24 0 then check (leb y (J - U)) 25 0) where
+      told : edit_refusal profile N J f L U e ≡ verdict_of r
+      told =
+          judged ∙ accepts _ _ ok
+          ∙ (λ i. check (leb (sym ex i) N) 24 0 then check (left_room U (length (edit_record f e)) J le i) 25 0)
+          ∙ ap (λ (z : ℕ). check (leb x N) 24 0 then check (leb z (J - U)) 25 0) (sym ey)
+          ∙ sym er
+
+      pub room_no : (z : Refusal) → r ≡ Err z → Err z ≡ answer_by (edit_refusal profile N J f L U e) a
+      room_no z q = ap (λ (v : Verdict). answer_by v a) (sym (told ∙ ap verdict_of q))
+
+      pub room_fine : verdict_of r ≡ accept → Ok a ≡ answer_by (edit_refusal profile N J f L U e) a
+      room_fine q = ap (λ (v : Verdict). answer_by v a) (sym (told ∙ q))

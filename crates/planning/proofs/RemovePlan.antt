@@ -26,21 +26,19 @@ use Rattle.edits.specs.Journal.{rec_of, removal}
 use Rattle.edits.specs.Run.{hundred, target_fault, edited_file, edit_record}
 use Rattle.edits.proofs.JournalLaws.{length-rec_bytes}
 use Rattle.reader.specs.declared.Piece.{Piece}
-use Rattle.reader.specs.declared.Target.TheVariants as target
+use Rattle.std.specs.Prelude.{Some, None, Result, Ok, Err}
+use Rattle.blorb.specs.declared.refusal.Refusal.{Refusal}
+use Rattle.blorb.specs.Refusals.{Refused, verdict_of, answer_by}
 use Rattle.reader.specs.declared.Facts.{Facts}
-use Rattle.reader.specs.declared.Inspection.TheVariants.{Whole, Refused}
 use Rattle.reader.specs.Inspecting.{piece_of, front_of}
-use Rattle.judging.specs.declared.Outcome.{Outcome}
-use Rattle.judging.specs.declared.Outcome.TheVariants as outcome
-use Rattle.judging.specs.Outcomes.{verdict_of}
 use Rattle.judging.specs.Told.{Listed}
 use Rattle.judging.proofs.OpenLaws.{asked, asked-refused, asked_whole, target_at, target-nothing, start_is, length-is}
 use Rattle.judging.proofs.RemoveFault.{removed-length}
 use Rattle.rewrite.specs.Rewriting.{Stands}
 use Rattle.rewrite.proofs.Writes.{stands_length}
-use Rattle.planning.specs.declared.Removal.TheVariants.{Take, Not}
-use Rattle.planning.specs.Plans.{edit_refusal, removal_of}
-use Rattle.planning.proofs.PlanLaws.{open_stands, opened_fine, edit_unopened, edit_off_target, edit-told, unrefused}
+use Rattle.planning.specs.declared.Owned.{Owned}
+use Rattle.planning.specs.Plans.{edit_refusal, owned_of}
+use Rattle.planning.proofs.PlanLaws.{answer_go, open_stands, opened_fine, opening_no, target_no, judged_no, room_no, room_fine, unrefused}
 
 -- the size that goes, by what the reader tells
 gone_is : (m : Model) (i : ℕ) (p : Piece) → p ≡ piece_of m i → cond p.shared 0 (8 + (p.length + p.length % 2)) ≡ gone_size_of m i
@@ -67,10 +65,6 @@ start-before m k h = (omega (arith, total-upto m.chunks k h, file-length m), ome
     total-upto [] j h = absurd (not-suc-le-zero h)
     total-upto (x ∷ cs) zero h = omega arith
     total-upto (x ∷ cs) (suc j) h = omega (arith, total-upto cs j (le_of_suc-le-suc h))
-
-pub removal_no : (v : Verdict) (m : Model) (u n k p : ℕ) → removal_of v m u n ≡ Not k p → v ≡ refuse k p
-removal_no accept m u n k p e = let z : ◌≡◌ {A = ℕ} 0 1 = cc in absurd (omega arith)
-removal_no (refuse a b) m u n k p e = cc
 
 module _ (profile : ℕ) (b : List ℕ) (l J U u n : ℕ) (bytes : All Byte (take l b)) where
   abbrev pub f : List ℕ
@@ -148,9 +142,11 @@ module _ (profile : ℕ) (b : List ℕ) (l J U u n : ℕ) (bytes : All Byte (tak
     unfolding target_fault
     on_target = holds_last _ _ _ (lt-ltb _ _ w.listed)
 
-  pub plan_unopened : (x k p : ℕ) → asked profile b l J U u n x ≡ Refused k p → Not k p ≡ removal_of Vd m u n
-  plan_unopened x k p e =
-      ap (λ (v : Verdict). removal_of v m u n) (sym (edit_unopened profile (length b) J f l U E k p (asked-refused profile b l J U u n x k p e)))
+  abbrev X : Owned
+  X = owned_of (model (take l b)) u n
+
+  pub plan_unopened : (x : ℕ) (y : Refusal) → asked profile b l J U u n x ≡ Err y → Err y ≡ answer_by Vd X
+  plan_unopened x y e = opening_no profile (length b) J f l U E X y (asked-refused profile b l J U u n x y.0 y.1 e)
 
   -- what an inspection tells of the entry
   pub record Told (fs : Facts) (p : Piece) : Type 0 where
@@ -160,8 +156,8 @@ module _ (profile : ℕ) (b : List ℕ) (l J U u n : ℕ) (bytes : All Byte (tak
     pub front_is : fs.front ≡ front_of m
     pub piece_is : p ≡ piece_of m i
 
-  module _ (x : ℕ) (fs : Facts) (e : asked profile b l J U u n x ≡ Whole fs) where
-    pub told : (p : Piece) → fs.target ≡ target.At p → Told fs p
+  module _ (x : ℕ) (fs : Facts) (e : asked profile b l J U u n x ≡ Ok fs) where
+    pub told : (p : Piece) → fs.target ≡ Some p → Told fs p
     told p t =
         let w = asked_whole profile b l J U u n x fs e in
         let h = target_at m u n p (ap (λ (z : Facts). z.target) (sym w.1) ∙ t) in
@@ -175,16 +171,15 @@ module _ (profile : ℕ) (b : List ℕ) (l J U u n : ℕ) (bytes : All Byte (tak
         }
 
     -- the entry is not there
-    pub told_missing : fs.target ≡ target.Nothing → (O ≡ accept) × (ltb i K ≡ false)
+    pub told_missing : fs.target ≡ None → (O ≡ accept) × (ltb i K ≡ false)
     told_missing t =
         let w = asked_whole profile b l J U u n x fs e in
         (w.0, target-nothing m u n (ap (λ (z : Facts). z.target) (sym w.1) ∙ t))
 
-    pub plan_22 : fs.target ≡ target.Nothing → Not 22 0 ≡ removal_of Vd m u n
+    pub plan_22 : fs.target ≡ None → Refused 22 0 ≡ answer_by Vd X
     plan_22 t =
         let h = told_missing t in
-        let q : target_fault m E ≡ refuse 22 0 = (unfold target_fault check in rw h.1) in
-        ap (λ (v : Verdict). removal_of v m u n) (sym (edit_off_target profile (length b) J f l U E 22 0 h.0 q))
+        target_no profile (length b) J f l U E X 22 0 h.0 (unfold target_fault check in rw h.1)
 
   -- the sizes of an entry that is there, as the code has them
   module _ (p : Piece) (w : Found K) (e : p ≡ piece_of m i) where
@@ -223,20 +218,29 @@ module _ (profile : ℕ) (b : List ℕ) (l J U u n : ℕ) (bytes : All Byte (tak
           ),
         )
 
-    module _ (x : ℕ) (ex : x ≡ cond p.shared 0 p.length) (j r : Outcome) (judged : verdict_of j ≡ hundred (verdict (rules_of profile) (file (removed m i))))
-        (e : verdict_of r ≡ verdict_of j then (check (leb (l - (12 + a)) (length b)) 24 0 then check (leb (29 + x) (J - U)) 25 0)) where
-      judged_is : Vd ≡ verdict_of r
+    module _ (j : Result (Unit {0}) Refusal) (judged : verdict_of j ≡ hundred (verdict (rules_of profile) (file (removed m i)))) where
+      judged_is : verdict_of j ≡ hundred (verdict (rules_of profile) (edited_file f E))
       unfolding edited_file edited
-      judged_is =
-          edit-told profile (length b) J f l U E j r _ _ w.opened (on_target w.found) w.found.used_in judged
-          (length_now p w.found w.piece_is a ea)
-          (ap (λ (z : ℕ). 29 + z) ex ∙ record_now p w.found w.piece_is) e
+      judged_is = judged
 
-      pub plan_refused : (k q : ℕ) → r ≡ outcome.Refused k q → Not k q ≡ removal_of Vd m u n
-      plan_refused k q h = ap (λ (v : Verdict). removal_of v m u n) (sym (judged_is ∙ ap verdict_of h))
+      pub plan_judged : (y : Refusal) → j ≡ Err y → Err y ≡ answer_by Vd X
+      plan_judged y q = judged_no profile (length b) J f l U E X w.opened (on_target w.found) j judged_is y q
 
-      pub plan_fine : r ≡ outcome.Done → Take fs.count p ≡ removal_of Vd m u n
-      plan_fine h = (λ z. Take (w.count_is z) (w.piece_is z)) ∙ ap (λ (v : Verdict). removal_of v m u n) (sym (judged_is ∙ ap verdict_of h))
+      module _ (ok : verdict_of j ≡ accept) (x : ℕ) (ex : x ≡ cond p.shared 0 p.length) (r : Result (Unit {0}) Refusal)
+          (e : verdict_of r ≡ check (leb (l - (12 + a)) (length b)) 24 0 then check (leb (29 + x) (J - U)) 25 0) where
+        record_is : 29 + x ≡ length (edit_record f E)
+        record_is = ap (λ (z : ℕ). 29 + z) ex ∙ record_now p w.found w.piece_is
+
+        pub plan_full : (y : Refusal) → r ≡ Err y → Err y ≡ answer_by Vd X
+        plan_full y q =
+            room_no profile (length b) J f l U E X w.opened (on_target w.found) j judged_is ok w.found.used_in _ _
+            (length_now p w.found w.piece_is a ea) record_is r e y q
+
+        pub plan_fine : verdict_of r ≡ accept → Ok (record { count = fs.count; piece = p }) ≡ answer_by Vd X
+        plan_fine q =
+            (λ z. Ok (record { count = w.count_is z; piece = w.piece_is z }))
+            ∙ room_fine profile (length b) J f l U E X w.opened (on_target w.found) j judged_is ok w.found.used_in _ _
+            (length_now p w.found w.piece_is a ea) record_is r e q
 
   -- what a plan to go on tells
   pub record Ready (k : ℕ) (p : Piece) : Type 0 where
@@ -246,15 +250,15 @@ module _ (profile : ℕ) (b : List ℕ) (l J U u n : ℕ) (bytes : All Byte (tak
     pub piece_is : p ≡ piece_of m i
     pub journal_room : U + length (edit_record f E) ≤ J
 
-  pub ready : (k : ℕ) (p : Piece) → removal_of Vd m u n ≡ Take k p → Ready k p
+  pub ready : (o : Owned) → answer_by Vd X ≡ Ok o → Ready o.count o.piece
   unfolding target_fault
-  ready k p e =
-      let v : Vd ≡ accept = go Vd e in
-      let told = unrefused profile (length b) J f l U E v in
-      let lt : i < K = ltb-true _ _ (check_accept _ _ _ told.on_target) in
-      let q : Take K (piece_of m i) ≡ Take k p = ap (λ (z : Verdict). removal_of z m u n) (sym v) ∙ e in
-      record { fine = v; found = found told.opened lt; count_is = cc; piece_is = cc; journal_room = told.journal_room }
-    where
-      go : (v : Verdict) → removal_of v (model (take l b)) u n ≡ Take k p → v ≡ accept
-      go accept e = refl
-      go (refuse a c) e = let z : ◌≡◌ {A = ℕ} 0 1 = cc in absurd (omega arith)
+  ready o e =
+      let g = answer_go Vd X o e in
+      let told = unrefused profile (length b) J f l U E g.0 in
+      record {
+        fine = g.0;
+        found = found told.opened (ltb-true _ _ (check_accept _ _ _ told.on_target));
+        count_is = ap (λ (z : Owned). z.count) g.1;
+        piece_is = ap (λ (z : Owned). z.piece) g.1;
+        journal_room = told.journal_room;
+      }

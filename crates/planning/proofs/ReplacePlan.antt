@@ -23,24 +23,18 @@ use Rattle.edits.specs.Run.{hundred, whole_fault, target_fault, edited_file, edi
 use Rattle.edits.proofs.JournalLaws.{length-rec_bytes}
 use Rattle.edits.proofs.Lengths.{length-replaced, size-given}
 use Rattle.reader.specs.declared.Piece.{Piece}
-use Rattle.reader.specs.declared.Target.TheVariants as target
+use Rattle.std.specs.Prelude.{None, Result, Ok, Err}
+use Rattle.blorb.specs.declared.refusal.Refusal.{Refusal}
+use Rattle.blorb.specs.Refusals.{Refused, verdict_of, answer_by}
 use Rattle.reader.specs.declared.Facts.{Facts}
-use Rattle.reader.specs.declared.Inspection.TheVariants.{Whole, Refused}
 use Rattle.reader.specs.Inspecting.{piece_of, front_of}
-use Rattle.judging.specs.declared.Outcome.{Outcome}
-use Rattle.judging.specs.declared.Outcome.TheVariants as outcome
-use Rattle.judging.specs.Outcomes.{verdict_of}
 use Rattle.judging.specs.Told.{Own}
 use Rattle.judging.proofs.OpenLaws.{asked, asked-refused, place_is, shared-is}
 use Rattle.edits.proofs.FitFacts.{size_is}
-use Rattle.planning.specs.declared.Change.TheVariants.{Put, Keep}
-use Rattle.planning.specs.Plans.{edit_refusal, change_of}
-use Rattle.planning.proofs.PlanLaws.{opened_fine, edit_unopened, edit_off_target, edit-told, unrefused}
+use Rattle.planning.specs.declared.Owned.{Owned}
+use Rattle.planning.specs.Plans.{edit_refusal, owned_of}
+use Rattle.planning.proofs.PlanLaws.{answer_go, opened_fine, opening_no, target_no, judged_no, room_no, room_fine, unrefused}
 use Rattle.planning.proofs.RemovePlan.{Found, found, Told, told_missing}
-
-pub change_no : (v : Verdict) (m : Model) (u n k p : ℕ) → change_of v m u n ≡ Keep k p → v ≡ refuse k p
-change_no accept m u n k p e = let z : ◌≡◌ {A = ℕ} 0 1 = cc in absurd (omega arith)
-change_no (refuse a b) m u n k p e = cc
 
 module _ (profile : ℕ) (b : List ℕ) (l J U u n t : ℕ) (d : List ℕ) (bytes : All Byte (take l b)) where
   abbrev pub f : List ℕ
@@ -71,15 +65,16 @@ module _ (profile : ℕ) (b : List ℕ) (l J U u n t : ℕ) (d : List ℕ) (byte
   abbrev pub new : ℕ
   new = 8 + (length (held t d) + length (held t d) % 2)
 
-  pub plan_unopened : (x k p : ℕ) → asked profile b l J U u n x ≡ Refused k p → Keep k p ≡ change_of Vd m u n
-  plan_unopened x k p e =
-      ap (λ (v : Verdict). change_of v m u n) (sym (edit_unopened profile (length b) J f l U E k p (asked-refused profile b l J U u n x k p e)))
+  abbrev X : Owned
+  X = owned_of (model (take l b)) u n
 
-  pub plan_22 : (x : ℕ) (fs : Facts) → asked profile b l J U u n x ≡ Whole fs → fs.target ≡ target.Nothing → Keep 22 0 ≡ change_of Vd m u n
+  pub plan_unopened : (x : ℕ) (y : Refusal) → asked profile b l J U u n x ≡ Err y → Err y ≡ answer_by Vd X
+  plan_unopened x y e = opening_no profile (length b) J f l U E X y (asked-refused profile b l J U u n x y.0 y.1 e)
+
+  pub plan_22 : (x : ℕ) (fs : Facts) → asked profile b l J U u n x ≡ Ok fs → fs.target ≡ None → Refused 22 0 ≡ answer_by Vd X
   plan_22 x fs e t =
       let h = told_missing profile b l J U u n bytes x fs e t in
-      let q : target_fault m E ≡ refuse 22 0 = (unfold target_fault check ◌then◌ in rw h.1) in
-      ap (λ (v : Verdict). change_of v m u n) (sym (edit_off_target profile (length b) J f l U E 22 0 h.0 q))
+      target_no profile (length b) J f l U E X 22 0 h.0 (unfold target_fault check ◌then◌ in rw h.1)
 
   new_length : Found profile b l J U u n bytes K → length (edited_file f E) ≡ l - size (chunk_at m kc) + new
   unfolding edited_file edited
@@ -106,14 +101,14 @@ module _ (profile : ℕ) (b : List ℕ) (l J U u n t : ℕ) (d : List ℕ) (byte
       length_now h eh = (λ z. l - size_now z + (8 + (length (eh z) + length (eh z) % 2))) ∙ sym (new_length w)
 
   module _ (fs : Facts) (p : Piece) (w : Told profile b l J U u n bytes fs p) where
-    pub plan_23 : p.shared ≡ true → Keep 23 0 ≡ change_of Vd m u n
+    pub plan_23 : p.shared ≡ true → Refused 23 0 ≡ answer_by Vd X
     plan_23 h =
         let q : target_fault m E ≡ refuse 23 0 = (unfold target_fault check ◌then◌ in rw (
           lt-ltb i K w.found.listed,
           sym (shared-is m i p w.piece_is)
               ∙ h,
         )) in
-        ap (λ (v : Verdict). change_of v m u n) (sym (edit_off_target profile (length b) J f l U E 23 0 w.opened q))
+        target_no profile (length b) J f l U E X 23 0 w.opened q
 
     module _ (alone : p.shared ≡ false) where
       -- what replace_fault asks
@@ -141,30 +136,35 @@ module _ (profile : ℕ) (b : List ℕ) (l J U u n t : ℕ) (d : List ℕ) (byte
       unfolding target_fault
       there_alone = pass _ _ _ _ (lt-ltb _ _ w.found.listed) ∙ pass _ _ _ _ (ap not (sym (shared-is m i p w.piece_is) ∙ alone))
 
-      pub plan_30 : (not (eqb t FORM) || is_whole d) ≡ false → Keep 30 0 ≡ change_of Vd m u n
+      pub plan_30 : (not (eqb t FORM) || is_whole d) ≡ false → Refused 30 0 ≡ answer_by Vd X
       plan_30 e =
           let q : whole_fault t d ≡ refuse 30 0 = (unfold whole_fault check in rw e) in
-          ap (λ (v : Verdict). change_of v m u n) (sym (edit_off_target profile (length b) J f l U E 30 0 w.opened (there_alone ∙ q)))
+          target_no profile (length b) J f l U E X 30 0 w.opened (there_alone ∙ q)
 
-      module _ (whole : (not (eqb t FORM) || is_whole d) ≡ true) (h : List ℕ) (eh : h ≡ held t d) (a : ℕ) (ea : a ≡ 8 + (p.length + p.length % 2))
-          (j r : Outcome) (judged : verdict_of j ≡ hundred (verdict (rules_of profile) (file (replaced m kc (chunk_of t h)))))
-          (e : verdict_of r ≡ verdict_of j
-          then (check (leb (l - a + (8 + (length h + length h % 2))) (length b)) 24 0 then check (leb (29 + p.length) (J - U)) 25 0)) where
+      module _ (whole : (not (eqb t FORM) || is_whole d) ≡ true) (h : List ℕ) (eh : h ≡ held t d) (j : Result (Unit {0}) Refusal)
+          (judged : verdict_of j ≡ hundred (verdict (rules_of profile) (file (replaced m kc (chunk_of t h))))) where
         on_target : target_fault m E ≡ accept
         on_target = there_alone ∙ (unfold whole_fault in holds_last _ _ _ whole)
 
-        judged_is : Vd ≡ verdict_of r
+        judged_is : verdict_of j ≡ hundred (verdict (rules_of profile) (edited_file f E))
         unfolding edited_file edited
-        judged_is =
-            edit-told profile (length b) J f l U E j r _ _ w.opened on_target w.found.used_in
-            (judged ∙ ap (λ (z : List ℕ). hundred (verdict (rules_of profile) (file (replaced m kc (chunk_of t z))))) eh)
-            (length_now p w.found w.piece_is a ea h eh) (record_now p w.found w.piece_is) e
+        judged_is = judged ∙ ap (λ (z : List ℕ). hundred (verdict (rules_of profile) (file (replaced m kc (chunk_of t z))))) eh
 
-        pub plan_refused : (k q : ℕ) → r ≡ outcome.Refused k q → Keep k q ≡ change_of Vd m u n
-        plan_refused k q h = ap (λ (v : Verdict). change_of v m u n) (sym (judged_is ∙ ap verdict_of h))
+        pub plan_judged : (y : Refusal) → j ≡ Err y → Err y ≡ answer_by Vd X
+        plan_judged y q = judged_no profile (length b) J f l U E X w.opened on_target j judged_is y q
 
-        pub plan_fine : r ≡ outcome.Done → Put fs.count p ≡ change_of Vd m u n
-        plan_fine h = (λ z. Put (w.count_is z) (w.piece_is z)) ∙ ap (λ (v : Verdict). change_of v m u n) (sym (judged_is ∙ ap verdict_of h))
+        module _ (ok : verdict_of j ≡ accept) (a : ℕ) (ea : a ≡ 8 + (p.length + p.length % 2)) (r : Result (Unit {0}) Refusal)
+            (e : verdict_of r ≡ check (leb (l - a + (8 + (length h + length h % 2))) (length b)) 24 0 then check (leb (29 + p.length) (J - U)) 25 0) where
+          pub plan_full : (y : Refusal) → r ≡ Err y → Err y ≡ answer_by Vd X
+          plan_full y q =
+              room_no profile (length b) J f l U E X w.opened on_target j judged_is ok w.found.used_in _ _
+              (length_now p w.found w.piece_is a ea h eh) (record_now p w.found w.piece_is) r e y q
+
+          pub plan_fine : verdict_of r ≡ accept → Ok (record { count = fs.count; piece = p }) ≡ answer_by Vd X
+          plan_fine q =
+              (λ z. Ok (record { count = w.count_is z; piece = w.piece_is z }))
+              ∙ room_fine profile (length b) J f l U E X w.opened on_target j judged_is ok w.found.used_in _ _
+              (length_now p w.found w.piece_is a ea h eh) (record_now p w.found w.piece_is) r e q
 
   -- what a plan to go on tells
   pub record Ready (k : ℕ) (p : Piece) : Type 0 where
@@ -176,23 +176,18 @@ module _ (profile : ℕ) (b : List ℕ) (l J U u n t : ℕ) (d : List ℕ) (byte
     pub short : length (edited_file f E) ≤ 16777216
     pub journal_room : U + length (edit_record f E) ≤ J
 
-  pub ready : (k : ℕ) (p : Piece) → change_of Vd m u n ≡ Put k p → Ready k p
+  pub ready : (o : Owned) → answer_by Vd X ≡ Ok o → Ready o.count o.piece
   unfolding target_fault
-  ready k p e =
-      let v : Vd ≡ accept = go Vd e in
-      let told = unrefused profile (length b) J f l U E v in
+  ready o e =
+      let g = answer_go Vd X o e in
+      let told = unrefused profile (length b) J f l U E g.0 in
       let lt : i < K = ltb-true _ _ (check_accept _ _ _ (then_accept _ _ told.on_target).0) in
-      let q : Put K (piece_of m i) ≡ Put k p = ap (λ (z : Verdict). change_of z m u n) (sym v) ∙ e in
       record {
-        fine = v;
+        fine = g.0;
         found = found profile b l J U u n bytes told.opened lt;
-        count_is = cc;
-        piece_is = cc;
+        count_is = ap (λ (z : Owned). z.count) g.1;
+        piece_is = ap (λ (z : Owned). z.piece) g.1;
         room = told.room;
         short = told.short;
         journal_room = told.journal_room;
       }
-    where
-      go : (v : Verdict) → change_of v (model (take l b)) u n ≡ Put k p → v ≡ accept
-      go accept e = refl
-      go (refuse a c) e = let z : ◌≡◌ {A = ℕ} 0 1 = cc in absurd (omega arith)

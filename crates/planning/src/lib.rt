@@ -2,131 +2,103 @@
 #![tactic(auto)]
 
 ghost use Rattle.std.specs.Prelude.{◌≡◌, ◌+◌, ◌%◌, ◌≤◌, cond, ◌&&◌, length, take, leb};
+ghost use Rattle.blorb.specs.Refusals.{verdict_of, answer_by};
 ghost use Rattle.blorb.specs.Verdict.{◌then◌, check, verdict};
 ghost use Rattle.blorb.specs.Rules.{rules_of};
 ghost use Rattle.blorb.specs.Model.{model};
 ghost use Rattle.edits.specs.Edit.{add, replace, remove, link};
 ghost use Rattle.reader.specs.Inspecting.{inspection_of};
-ghost use Rattle.judging.specs.Outcomes.{verdict_of};
-ghost use Rattle.planning.specs.Plans.{edit_refusal, plan_of, removal_of, change_of, linking_of};
+ghost use Rattle.undoing.specs.Kinds.{number_of};
+ghost use Rattle.planning.specs.Plans.{edit_refusal, owned_of, joining_of};
 
 pub mod given;
 
+use blorb::{Fault, Refusal};
 use judging::judge;
-use reader::{Inspection, Piece, Target};
+use judging::judge::Pair;
+use reader::{Facts, Piece};
+use undoing::journal::Kind;
 
-// What an add goes on with: the file has `count` entries. Or its refusal, number and place.
+// What a call is lent besides the file's buffer: the file is its first `len` bytes, and `used` of the journal's `room` bytes are in use.
 #[derive(Clone, Copy)]
-pub enum Plan {
-    Go { count: usize },
-    No(u64, usize),
+pub struct Lent {
+    pub len: usize,
+    pub room: usize,
+    pub used: usize,
+    pub profile: u32,
 }
 
-// 52, 20 and the reader's refusals, for the first `len` bytes of `buf` and `used` bytes of a journal of `room`; else what the file tells.
-fn opened(
-    buf: &[u8],
-    len: usize,
-    room: usize,
-    used: usize,
-    profile: u32,
-    usage: u32,
-    number: u32,
-    at: usize,
-) -> Inspection
-    ensures { result ≡ inspection_of (check (leb profile 1) 52 0 then (check (leb len (length buf.now) && leb used room) 20 0 then verdict
-        (rules_of profile) (take len buf.now))) (model (take len buf.now)) usage number at }
+// 52, 20 and the reader's refusals; else what the file tells.
+fn opened(buf: &[u8], lent: Lent, pair: Pair) -> Result<Facts, Refusal>
+    ensures { result ≡ inspection_of (check (leb lent.profile 1) 52 0 then check (leb lent.len (length buf.now) && leb lent.used lent.room) 20 0 then
+        verdict (rules_of lent.profile) (take lent.len buf.now)) (model (take lent.len buf.now)) pair.usage pair.number 0 }
 {
-    if 1 < profile {
-        return Inspection::Refused {
-            number: 52,
+    if 1 < lent.profile {
+        return Err(Refusal {
+            fault: Fault::Profile,
             place: 0,
-        };
+        });
     }
-    if buf.len() < len {
-        return Inspection::Refused {
-            number: 20,
+    if buf.len() < lent.len {
+        return Err(Refusal {
+            fault: Fault::Lengths,
             place: 0,
-        };
+        });
     }
-    if room < used {
-        return Inspection::Refused {
-            number: 20,
+    if lent.room < lent.used {
+        return Err(Refusal {
+            fault: Fault::Lengths,
             place: 0,
-        };
+        });
     }
-    reader::inspect(&buf[..len], profile, usage, number, at)
+    reader::inspect(&buf[..lent.len], lent.profile, pair.usage, pair.number, 0)
 }
 
-// What was judged, then 24 and 25: a new file of `size` bytes in a buffer of `room`, a record of `more` bytes where `left` are left.
-fn with_room(
-    judged: judging::Outcome,
-    size: usize,
-    room: usize,
-    more: usize,
-    left: usize,
-) -> judging::Outcome
-    ensures { verdict_of result ≡ verdict_of judged then (check (leb size room) 24 0 then check (leb more left) 25 0) }
+// 24 and 25: a new file of `size` bytes in a buffer of `room`, a record of `more` bytes where `left` are left.
+fn with_room(size: usize, room: usize, more: usize, left: usize) -> Result<(), Refusal>
+    ensures { verdict_of result ≡ check (leb size room) 24 0 then check (leb more left) 25 0 }
 {
-    if let judging::Outcome::Refused { number, place } = judged {
-        return judge::refused(number, place);
-    }
     if room < size {
-        return judge::refused(24, 0);
+        return Err(Refusal {
+            fault: Fault::FileRoom,
+            place: 0,
+        });
     }
     if left < more {
-        return judge::refused(25, 0);
+        return Err(Refusal {
+            fault: Fault::JournalRoom,
+            place: 0,
+        });
     }
-    judging::Outcome::Done
+    Ok(())
 }
 
-// An add's refusal, or what it needs to be made.
-pub fn add_plan(
-    buf: &[u8],
-    len: usize,
-    room: usize,
-    used: usize,
-    profile: u32,
-    usage: u32,
-    number: u32,
-    kind: u32,
-    d: &[u8],
-) -> Plan
-    ensures { result ≡ plan_of (edit_refusal profile (length buf.now) room (take len buf.now) len used
-        (add usage number kind d.now)) (length (model (take len buf.now)).refs) }
+// An add's refusal, or the number of entries that it goes on with.
+pub fn add_plan(buf: &[u8], lent: Lent, pair: Pair, kind: u32, d: &[u8]) -> Result<usize, Refusal>
+    ensures { result ≡ answer_by (edit_refusal lent.profile (length buf.now) lent.room (take lent.len buf.now) lent.len lent.used
+        (add pair.usage pair.number kind d.now)) (length (model (take lent.len buf.now)).refs) }
 {
-    match opened(buf, len, room, used, profile, usage, number, 0) {
-        Inspection::Refused { number: k, place } => Plan::No(k, place),
-        Inspection::Whole(facts) => {
-            if !given::is_whole(kind, d) {
-                return Plan::No(30, 0);
-            }
-            let body = given::held(kind, d);
-            let count = facts.count;
-            let target = facts.target;
-            let judged = judge::add_fault(
-                &buf[..len],
-                profile,
-                count,
-                target,
-                usage,
-                number,
-                kind,
-                body,
-            );
-            let m = body.len();
-            match with_room(judged, len + (20 + (m + m % 2)), buf.len(), 29, room - used) {
-                judging::Outcome::Refused { number: k, place } => Plan::No(k, place),
-                judging::Outcome::Done => Plan::Go { count },
-            }
-        }
+    let facts = opened(buf, lent, pair)?;
+    if !given::is_whole(kind, d) {
+        return Err(Refusal {
+            fault: Fault::WholeForm,
+            place: 0,
+        });
     }
+    let body = given::held(kind, d);
+    let s = &buf[..lent.len];
+    judge::add_fault(s, lent.profile, facts.count, facts.target, pair, kind, body)?;
+    let m = body.len();
+    let size = lent.len + (20 + (m + m % 2));
+    with_room(size, buf.len(), 29, lent.room - lent.used)?;
+    Ok(facts.count)
 }
 
-// What a removal goes on with: the count, and the entry with its chunk. Or its refusal.
+// What a removal or a replacement goes on with: the file has `count` entries, and the entry's chunk is `piece`.
 #[derive(Clone, Copy)]
-pub enum Removal {
-    Take { count: usize, piece: Piece },
-    Not(u64, usize),
+pub struct Owned {
+    pub count: usize,
+    pub piece: Piece,
 }
 
 // What goes of a chunk with `m` data bytes: nothing of a shared one.
@@ -150,178 +122,113 @@ pub fn kept_number(shared: bool, x: u32) -> u32
     x
 }
 
-pub fn removal_kind(shared: bool) -> u8
-    ensures { result ≡ cond shared 4 3 }
+// What a removal does.
+pub fn removal_kind(shared: bool) -> Kind
+    ensures { number_of result ≡ cond shared 4 3 }
 {
     if shared {
-        return 4;
+        return Kind::Unlisted;
     }
-    3
+    Kind::Removed
 }
 
 // A removal's refusal, or what it needs to be made.
-pub fn remove_plan(
-    buf: &[u8],
-    len: usize,
-    room: usize,
-    used: usize,
-    profile: u32,
-    usage: u32,
-    number: u32,
-) -> Removal
-    ensures { result ≡ removal_of (edit_refusal profile (length buf.now) room (take len buf.now) len used (remove usage number))
-        (model (take len buf.now)) usage number }
+pub fn remove_plan(buf: &[u8], lent: Lent, pair: Pair) -> Result<Owned, Refusal>
+    ensures { result ≡ answer_by (edit_refusal lent.profile (length buf.now) lent.room (take lent.len buf.now) lent.len lent.used
+        (remove pair.usage pair.number)) (owned_of (model (take lent.len buf.now)) pair.usage pair.number) }
 {
-    match opened(buf, len, room, used, profile, usage, number, 0) {
-        Inspection::Refused { number: k, place } => Removal::Not(k, place),
-        Inspection::Whole(facts) => {
-            let target = facts.target;
-            let Target::At(piece) = target else {
-                return Removal::Not(22, 0);
-            };
-            let size = gone_size(piece.shared, piece.length);
-            let body = kept_number(piece.shared, piece.length) as usize;
-            let front = facts.front;
-            let judged = judge::remove_fault(
-                &buf[..len],
-                profile,
-                front,
-                usage,
-                number,
-                piece.start,
-                size,
-            );
-            match with_room(
-                judged,
-                len - (12 + size as usize),
-                buf.len(),
-                29 + body,
-                room - used,
-            ) {
-                judging::Outcome::Refused { number: k, place } => Removal::Not(k, place),
-                judging::Outcome::Done => Removal::Take {
-                    count: facts.count,
-                    piece,
-                },
-            }
-        }
-    }
-}
-
-// What a replacement goes on with: the count, and the entry with its chunk. Or its refusal.
-#[derive(Clone, Copy)]
-pub enum Change {
-    Put { count: usize, piece: Piece },
-    Keep(u64, usize),
+    let facts = opened(buf, lent, pair)?;
+    let Some(piece) = facts.target else {
+        return Err(Refusal {
+            fault: Fault::NotThere,
+            place: 0,
+        });
+    };
+    let size = gone_size(piece.shared, piece.length);
+    let body = kept_number(piece.shared, piece.length) as usize;
+    let s = &buf[..lent.len];
+    judge::remove_fault(s, lent.profile, facts.front, pair, piece.start, size)?;
+    let size = lent.len - (12 + size as usize);
+    with_room(size, buf.len(), 29 + body, lent.room - lent.used)?;
+    Ok(Owned {
+        count: facts.count,
+        piece,
+    })
 }
 
 // A replacement's refusal, or what it needs to be made.
 pub fn replace_plan(
     buf: &[u8],
-    len: usize,
-    room: usize,
-    used: usize,
-    profile: u32,
-    usage: u32,
-    number: u32,
+    lent: Lent,
+    pair: Pair,
     kind: u32,
     d: &[u8],
-) -> Change
-    ensures { result ≡ change_of (edit_refusal profile (length buf.now) room (take len buf.now) len used
-        (replace usage number kind d.now)) (model (take len buf.now)) usage number }
+) -> Result<Owned, Refusal>
+    ensures { result ≡ answer_by (edit_refusal lent.profile (length buf.now) lent.room (take lent.len buf.now) lent.len lent.used
+        (replace pair.usage pair.number kind d.now)) (owned_of (model (take lent.len buf.now)) pair.usage pair.number) }
 {
-    match opened(buf, len, room, used, profile, usage, number, 0) {
-        Inspection::Refused { number: k, place } => Change::Keep(k, place),
-        Inspection::Whole(facts) => {
-            let target = facts.target;
-            let Target::At(piece) = target else {
-                return Change::Keep(22, 0);
-            };
-            let whole = given::is_whole(kind, d);
-            if piece.shared {
-                return Change::Keep(23, 0);
-            }
-            if !whole {
-                return Change::Keep(30, 0);
-            }
-            let body = given::held(kind, d);
-            let old = gone_size(false, piece.length);
-            let front = facts.front;
-            let judged = judge::replace_fault(
-                &buf[..len],
-                profile,
-                front,
-                piece,
-                usage,
-                number,
-                kind,
-                body,
-            );
-            let m = body.len();
-            let size = len - old as usize + (8 + (m + m % 2));
-            let more = 29 + piece.length as usize;
-            match with_room(judged, size, buf.len(), more, room - used) {
-                judging::Outcome::Refused { number: k, place } => Change::Keep(k, place),
-                judging::Outcome::Done => Change::Put {
-                    count: facts.count,
-                    piece,
-                },
-            }
-        }
+    let facts = opened(buf, lent, pair)?;
+    let Some(piece) = facts.target else {
+        return Err(Refusal {
+            fault: Fault::NotThere,
+            place: 0,
+        });
+    };
+    let whole = given::is_whole(kind, d);
+    if piece.shared {
+        return Err(Refusal {
+            fault: Fault::Shared,
+            place: 0,
+        });
     }
+    if !whole {
+        return Err(Refusal {
+            fault: Fault::WholeForm,
+            place: 0,
+        });
+    }
+    let body = given::held(kind, d);
+    let old = gone_size(false, piece.length) as usize;
+    let s = &buf[..lent.len];
+    judge::replace_fault(s, lent.profile, facts.front, piece, pair, kind, body)?;
+    let m = body.len();
+    let size = lent.len - old + (8 + (m + m % 2));
+    let more = 29 + piece.length as usize;
+    with_room(size, buf.len(), more, lent.room - lent.used)?;
+    Ok(Owned {
+        count: facts.count,
+        piece,
+    })
 }
 
-// What a link goes on with: the count, the new entry's place and where the original's chunk starts. Or its refusal.
+// What a link goes on with: the file has `count` entries, the new one goes in at `place`, and the original's chunk starts at `at`.
 #[derive(Clone, Copy)]
-pub enum Linking {
-    Join { count: usize, place: usize, at: u32 },
-    Stay(u64, usize),
+pub struct Joining {
+    pub count: usize,
+    pub place: usize,
+    pub at: u32,
 }
 
 // A link's refusal, or what it needs to be made.
-pub fn link_plan(
-    buf: &[u8],
-    len: usize,
-    room: usize,
-    used: usize,
-    profile: u32,
-    usage: u32,
-    number: u32,
-    alias: u32,
-    chosen: u32,
-) -> Linking
-    ensures { result ≡ linking_of (edit_refusal profile (length buf.now) room (take len buf.now) len used
-        (link usage number alias chosen)) (model (take len buf.now)) usage number }
+pub fn link_plan(buf: &[u8], lent: Lent, original: Pair, alias: Pair) -> Result<Joining, Refusal>
+    ensures { result ≡ answer_by (edit_refusal lent.profile (length buf.now) lent.room (take lent.len buf.now) lent.len lent.used
+        (link original.usage original.number alias.usage alias.number)) (joining_of (model (take lent.len buf.now)) original.usage original.number) }
 {
-    match opened(buf, len, room, used, profile, usage, number, 0) {
-        Inspection::Refused { number: k, place } => Linking::Stay(k, place),
-        Inspection::Whole(facts) => {
-            let target = facts.target;
-            let Target::At(piece) = target else {
-                return Linking::Stay(22, 0);
-            };
-            let count = facts.count;
-            let place = linking::link_place(&buf[..len], count, piece);
-            let judged = linking::link_fault(
-                &buf[..len],
-                profile,
-                count,
-                piece,
-                place,
-                alias,
-                chosen,
-            );
-            match with_room(judged, len + 12, buf.len(), 29, room - used) {
-                judging::Outcome::Refused {
-                    number: k,
-                    place: p,
-                } => Linking::Stay(k, p),
-                judging::Outcome::Done => Linking::Join {
-                    count,
-                    place,
-                    at: piece.start,
-                },
-            }
-        }
-    }
+    let facts = opened(buf, lent, original)?;
+    let Some(piece) = facts.target else {
+        return Err(Refusal {
+            fault: Fault::NotThere,
+            place: 0,
+        });
+    };
+    let count = facts.count;
+    let s = &buf[..lent.len];
+    let place = linking::link_place(s, count, piece);
+    linking::link_fault(s, lent.profile, count, piece, place, alias)?;
+    with_room(lent.len + 12, buf.len(), 29, lent.room - lent.used)?;
+    Ok(Joining {
+        count,
+        place,
+        at: piece.start,
+    })
 }

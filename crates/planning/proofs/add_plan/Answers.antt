@@ -1,85 +1,88 @@
--- The plan goes by the order of the refusals: what opening tells, 30, what add_fault judges, 24 and 25. What is known of the file once it is opened is
--- said once.
+-- The plan goes by the order of the refusals: what opening tells, 30, what add_fault judges, 24 and 25. What the opened file tells is what the calls ask.
 use native.Mathlib.Omega.{arith}
-use Prim.Native.Nat.{◌≤◌}
-use mathlib.Core.Path.{◌≡◌, sym, ◌∙◌}
+use mathlib.Core.Path.{sym, ap, ◌∙◌}
 use lib.ListN.{take}
 use lib.Seq.{length-take-le}
+use Rattle.std.proofs.lemmas.Result.{err_from_is_err_and}
 use Rattle.blorb.specs.Bytes.{Byte}
-use Rattle.blorb.proofs.Accept.{bytes-all}
 use Rattle.blorb.specs.All.{All}
+use Rattle.blorb.specs.Refusals.{verdict_of}
+use Rattle.blorb.proofs.Accept.{bytes-all}
 use Rattle.blorb.proofs.AllLaws.{all_take}
-use Rattle.reader.specs.declared.Inspection.TheVariants.{Whole}
-use Rattle.judging.proofs.OpenLaws.{asked}
-use Rattle.rewrite.specs.Rewriting.{Stands}
-use Rattle.planning.proofs.AddPlan.{told_stands, told-pair, plan_unopened, plan_30, plan_refused, plan_fine}
-use borrow.Author.Rules.{rules}
+use Rattle.planning.proofs.AddPlan.{told_stands, told-pair, plan_unopened, plan_30, plan_judged, plan_full, plan_fine}
 use Rattle.planning.proofs.add_plan.Goals as goal
-use Rattle.planning.proofs.add_plan.Goals.{In-Whole}
 
-bytes : (c : In-Whole) → All Byte (take c.args.len c.args.buf.now)
-bytes c =
+pub returns-in_err-facts : goal.returns-in_err-facts
+returns-in_err-facts c =
     let a = c.args in
-    all_take Byte a.len a.buf.now (bytes-all a.buf.now (λ i. omega (arith, c.type_inv.buf i)))
-
-tells : (c : In-Whole) → let a = c.args in
-    asked a.profile a.buf.now a.len a.room a.used a.usage a.number 0 ≡ Whole c.in-Whole.facts
-tells c = sym c.opened.ensures ∙ c.in-Whole.is
-
-stands : (c : In-Whole) → let a = c.args in
-    Stands a.buf.now a.len c.in-Whole.facts.count × (a.used ≤ a.room)
-stands c =
-    let a = c.args in
-    told_stands a.profile a.buf.now a.len a.room a.used a.usage a.number a.kind a.d.now (bytes c) 0 c.in-Whole.facts
-    (tells c)
+    let b = a.buf.now in
+    let bytes : All Byte (take a.lent.len b) = all_take Byte a.lent.len b (bytes-all b (λ i. omega (arith, c.type_inv.buf i))) in
+    let p = err_from_is_err_and c.from_residual.result c.from_residual.ensures.1 in
+    rw (p.1, p.2) (plan_unopened a.lent.profile b a.lent.len a.lent.room a.lent.used a.pair.usage a.pair.number a.kind a.d.now bytes 0 _ (sym c.opened.ensures ∙ c.in_err-facts.was))
 
 pub returns-then-not-is_whole : goal.returns-then-not-is_whole
 returns-then-not-is_whole c =
     let a = c.args in
-    plan_30 a.profile a.buf.now a.len a.room a.used a.usage a.number a.kind a.d.now (bytes (goal.at.returns-then-not-is_whole c).In-Whole) 0 c.in-Whole.facts (tells (goal.at.returns-then-not-is_whole c).In-Whole)
+    let b = a.buf.now in
+    let bytes : All Byte (take a.lent.len b) = all_take Byte a.lent.len b (bytes-all b (λ i. omega (arith, c.type_inv.buf i))) in
+    plan_30 a.lent.profile b a.lent.len a.lent.room a.lent.used a.pair.usage a.pair.number a.kind a.d.now bytes 0 c.in_ok-facts.facts (sym c.opened.ensures ∙ c.in_ok-facts.was)
     (sym c.is_whole.ensures ∙ c.if-not-is_whole.true)
 
-pub slice_bounds-add_fault-end : goal.slice_bounds-add_fault-end
-slice_bounds-add_fault-end c = sym (length-take-le _ _ (stands (goal.at.slice_bounds-add_fault-end c).In-Whole).0.inside)
-
-pub add_fault-judged-requires : goal.add_fault-judged-requires
-add_fault-judged-requires c =
-    let a = c.args in
-    told-pair a.profile a.buf.now a.len a.room a.used a.usage a.number a.kind a.d.now (bytes (goal.at.add_fault-judged-requires c).In-Whole) 0 c.in-Whole.facts (tells
-    (goal.at.add_fault-judged-requires c).In-Whole)
-
-pub overflow_add-len : goal.overflow_add-len
-overflow_add-len c = let s = (stands (goal.at.overflow_add-len c).In-Whole).0.short in search rules
-
-pub overflow_sub-room : goal.overflow_sub-room
-overflow_sub-room c = (stands (goal.at.overflow_sub-room c).In-Whole).1
-
-pub returns-in-Refused : goal.returns-in-Refused
-returns-in-Refused c =
+pub slice_bounds-s-end : goal.slice_bounds-s-end
+slice_bounds-s-end c =
     let a = c.args in
     let b = a.buf.now in
-    let known = c.type_inv.buf in
-    let all : All Byte (take a.len b) = all_take Byte a.len b (bytes-all b (λ i. omega (arith, known i))) in
-    plan_unopened a.profile a.buf.now a.len a.room a.used a.usage a.number a.kind a.d.now all 0 c.in-Refused.k
-    c.in-Refused.place
-    (sym c.opened.ensures ∙ c.in-Refused.is)
+    let bytes : All Byte (take a.lent.len b) = all_take Byte a.lent.len b (bytes-all b (λ i. omega (arith, c.type_inv.buf i))) in
+    sym (length-take-le _ _ (told_stands a.lent.profile b a.lent.len a.lent.room a.lent.used a.pair.usage a.pair.number a.kind a.d.now bytes 0 c.in_ok-facts.facts (sym c.opened.ensures ∙ c.in_ok-facts.was)).0.inside)
 
-pub returns-in-Refused-with_room : goal.returns-in-Refused-with_room
-returns-in-Refused-with_room c =
+pub add_fault-requires : goal.add_fault-requires
+add_fault-requires c =
     let a = c.args in
-    plan_refused a.profile a.buf.now a.len a.room a.used a.usage a.number a.kind a.d.now (bytes (goal.at.returns-in-Refused-with_room c).In-Whole) 0 c.in-Whole.facts
-    (tells (goal.at.returns-in-Refused-with_room c).In-Whole)
-    (sym c.is_whole.ensures ∙ c.if-not-is_whole.false) c.held-body.result.now
-    c.held-body.ensures c.add_fault-judged.result
-    c.with_room.result
-    c.add_fault-judged.ensures c.with_room.ensures c.in-Refused-with_room.k
-    c.in-Refused-with_room.place c.in-Refused-with_room.is
+    let b = a.buf.now in
+    let bytes : All Byte (take a.lent.len b) = all_take Byte a.lent.len b (bytes-all b (λ i. omega (arith, c.type_inv.buf i))) in
+    told-pair a.lent.profile b a.lent.len a.lent.room a.lent.used a.pair.usage a.pair.number a.kind a.d.now bytes 0 c.in_ok-facts.facts (sym c.opened.ensures ∙ c.in_ok-facts.was)
 
-pub returns-in-Done : goal.returns-in-Done
-returns-in-Done c =
+pub returns-in_err-add_fault : goal.returns-in_err-add_fault
+returns-in_err-add_fault c =
     let a = c.args in
-    plan_fine a.profile a.buf.now a.len a.room a.used a.usage a.number a.kind a.d.now (bytes (goal.at.returns-in-Done c).In-Whole) 0 c.in-Whole.facts (tells
-    (goal.at.returns-in-Done c).In-Whole)
+    let b = a.buf.now in
+    let bytes : All Byte (take a.lent.len b) = all_take Byte a.lent.len b (bytes-all b (λ i. omega (arith, c.type_inv.buf i))) in
+    let p = err_from_is_err_and c.from_residual-in_err-add_fault.result c.from_residual-in_err-add_fault.ensures.1 in
+    rw (p.1, p.2) (plan_judged a.lent.profile b a.lent.len a.lent.room a.lent.used a.pair.usage a.pair.number a.kind a.d.now bytes 0 c.in_ok-facts.facts (sym c.opened.ensures ∙ c.in_ok-facts.was)
     (sym c.is_whole.ensures ∙ c.if-not-is_whole.false) c.held-body.result.now
-    c.held-body.ensures c.add_fault-judged.result c.with_room.result
-    c.add_fault-judged.ensures c.with_room.ensures c.in-Done.is
+    c.held-body.ensures c.add_fault.result c.add_fault.ensures _ c.in_err-add_fault.was)
+
+pub overflow_add-size-3 : goal.overflow_add-size-3
+overflow_add-size-3 c =
+    let a = c.args in
+    let b = a.buf.now in
+    let bytes : All Byte (take a.lent.len b) = all_take Byte a.lent.len b (bytes-all b (λ i. omega (arith, c.type_inv.buf i))) in
+    omega (arith, (told_stands a.lent.profile b a.lent.len a.lent.room a.lent.used a.pair.usage a.pair.number a.kind a.d.now bytes 0 c.in_ok-facts.facts (sym c.opened.ensures ∙ c.in_ok-facts.was)).0.short)
+
+pub overflow_sub-lent : goal.overflow_sub-lent
+overflow_sub-lent c =
+    let a = c.args in
+    let b = a.buf.now in
+    let bytes : All Byte (take a.lent.len b) = all_take Byte a.lent.len b (bytes-all b (λ i. omega (arith, c.type_inv.buf i))) in
+    (told_stands a.lent.profile b a.lent.len a.lent.room a.lent.used a.pair.usage a.pair.number a.kind a.d.now bytes 0 c.in_ok-facts.facts (sym c.opened.ensures ∙ c.in_ok-facts.was)).1
+
+pub returns-in_err-with_room : goal.returns-in_err-with_room
+returns-in_err-with_room c =
+    let a = c.args in
+    let b = a.buf.now in
+    let bytes : All Byte (take a.lent.len b) = all_take Byte a.lent.len b (bytes-all b (λ i. omega (arith, c.type_inv.buf i))) in
+    let p = err_from_is_err_and c.from_residual-in_err-with_room.result c.from_residual-in_err-with_room.ensures.1 in
+    rw (p.1, p.2) (plan_full a.lent.profile b a.lent.len a.lent.room a.lent.used a.pair.usage a.pair.number a.kind a.d.now bytes 0 c.in_ok-facts.facts (sym c.opened.ensures ∙ c.in_ok-facts.was)
+    (sym c.is_whole.ensures ∙ c.if-not-is_whole.false) c.held-body.result.now
+    c.held-body.ensures c.add_fault.result c.add_fault.ensures (ap verdict_of c.in_ok-add_fault.was) c.with_room.result c.with_room.ensures
+    _ c.in_err-with_room.was)
+
+pub returns : goal.returns
+returns c =
+    let a = c.args in
+    let b = a.buf.now in
+    let bytes : All Byte (take a.lent.len b) = all_take Byte a.lent.len b (bytes-all b (λ i. omega (arith, c.type_inv.buf i))) in
+    plan_fine a.lent.profile b a.lent.len a.lent.room a.lent.used a.pair.usage a.pair.number a.kind a.d.now bytes 0 c.in_ok-facts.facts (sym c.opened.ensures ∙ c.in_ok-facts.was)
+    (sym c.is_whole.ensures ∙ c.if-not-is_whole.false) c.held-body.result.now
+    c.held-body.ensures c.add_fault.result c.add_fault.ensures (ap verdict_of c.in_ok-add_fault.was) c.with_room.result c.with_room.ensures
+    (ap verdict_of c.in_ok-with_room.was)

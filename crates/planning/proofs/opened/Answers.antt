@@ -11,36 +11,40 @@ use Rattle.blorb.specs.Model.{model}
 use Rattle.judging.proofs.OpenLaws.{opened_unknown, opened-first, opened-second, opened-third}
 use Rattle.planning.proofs.opened.Goals as goal
 
-pub returns-then-profile-gt1 : goal.returns-then-profile-gt1
-returns-then-profile-gt1 c =
+pub returns-then-lent-gt1 : goal.returns-then-lent-gt1
+returns-then-lent-gt1 c =
     let a = c.args in
-    let f = take a.len a.buf.now in
-    opened_unknown a.profile a.len (length a.buf.now) a.used a.room (verdict (rules_of a.profile) f) (model f) a.usage a.number
-    a.at c.if-profile-gt1.true
+    let f = take a.lent.len a.buf.now in
+    opened_unknown a.lent.profile a.lent.len (length a.buf.now) a.lent.used a.lent.room
+    (verdict (rules_of a.lent.profile) f) (model f) a.pair.usage a.pair.number
+    0 c.if-lent-gt1.true
 
-pub returns-then-buf-len : goal.returns-then-buf-len
-returns-then-buf-len c =
+pub returns-then-buf-lent : goal.returns-then-buf-lent
+returns-then-buf-lent c =
     let a = c.args in
-    let f = take a.len a.buf.now in
-    opened-first a.profile a.len (length a.buf.now) a.used a.room (verdict (rules_of a.profile) f) (model f) a.usage a.number a.at
-    c.if-profile-gt1.false c.if-buf-len.true
+    let f = take a.lent.len a.buf.now in
+    opened-first a.lent.profile a.lent.len (length a.buf.now) a.lent.used a.lent.room
+    (verdict (rules_of a.lent.profile) f) (model f) a.pair.usage a.pair.number 0
+    c.if-lent-gt1.false c.if-buf-lent.true
 
-pub returns-then-room-used : goal.returns-then-room-used
-returns-then-room-used c =
+pub returns-then-lent : goal.returns-then-lent
+returns-then-lent c =
     let a = c.args in
-    let f = take a.len a.buf.now in
-    opened-second a.profile a.len (length a.buf.now) a.used a.room (verdict (rules_of a.profile) f) (model f) a.usage a.number a.at
-    c.if-profile-gt1.false c.if-room-used.true
+    let f = take a.lent.len a.buf.now in
+    opened-second a.lent.profile a.lent.len (length a.buf.now) a.lent.used a.lent.room
+    (verdict (rules_of a.lent.profile) f) (model f) a.pair.usage a.pair.number 0
+    c.if-lent-gt1.false c.if-lent.true
 
 pub slice_bounds-inspect-end : goal.slice_bounds-inspect-end
-slice_bounds-inspect-end c = sym (length-take-le _ _ c.if-buf-len.false)
+slice_bounds-inspect-end c = sym (length-take-le _ _ c.if-buf-lent.false)
 
 pub returns : goal.returns
 returns c =
     let a = c.args in
-    let f = take a.len a.buf.now in
+    let f = take a.lent.len a.buf.now in
     c.inspect.ensures
-    ∙ ap (λ (v : Verdict). inspection_of v (model f) a.usage a.number a.at)
-    (profile_known a.profile f (le-leb _ _ c.if-profile-gt1.false))
-    ∙ opened-third a.profile a.len (length a.buf.now) a.used a.room (verdict (rules_of a.profile) f) (model f) a.usage a.number a.at
-    c.if-profile-gt1.false c.if-buf-len.false c.if-room-used.false
+    ∙ ap (λ (v : Verdict). inspection_of v (model f) a.pair.usage a.pair.number 0)
+    (profile_known a.lent.profile f (le-leb _ _ c.if-lent-gt1.false))
+    ∙ opened-third a.lent.profile a.lent.len (length a.buf.now) a.lent.used a.lent.room
+    (verdict (rules_of a.lent.profile) f) (model f) a.pair.usage a.pair.number 0
+    c.if-lent-gt1.false c.if-buf-lent.false c.if-lent.false

@@ -1,117 +1,125 @@
--- The plan goes by the order of the refusals: what opening tells, 22, 23, 30, what replace_fault judges, 24 and 25. What is known of the entry's chunk
--- once it is found is said once.
+-- The plan goes by the order of the refusals: what opening tells, 22, 23, 30, what replace_fault judges, 24 and 25. At each place the found entry tells what
+-- the next call asks.
 use native.Mathlib.Omega.{arith}
-use mathlib.Core.Path.{sym, ◌∙◌}
+use mathlib.Core.Path.{sym, ap, ◌∙◌}
 use lib.ListN.{take}
 use lib.Seq.{length-take-le}
+use Rattle.std.proofs.lemmas.Result.{err_from_is_err_and}
 use Rattle.blorb.specs.Bytes.{Byte}
-use Rattle.blorb.proofs.Accept.{bytes-all}
 use Rattle.blorb.specs.All.{All}
+use Rattle.blorb.specs.Refusals.{verdict_of}
+use Rattle.blorb.proofs.Accept.{bytes-all}
 use Rattle.blorb.proofs.AllLaws.{all_take}
-use Rattle.planning.proofs.RemovePlan.{Told, told, body_short}
-use Rattle.planning.proofs.ReplacePlan.{plan_unopened, plan_22, plan_23, plan_30, inside, own, plan_refused, plan_fine}
-use borrow.Author.Rules.{rules}
+use Rattle.planning.proofs.RemovePlan.{told, body_short}
+use Rattle.planning.proofs.ReplacePlan.{plan_unopened, plan_22, plan_23, plan_30, inside, own, plan_judged, plan_full, plan_fine}
 use Rattle.planning.proofs.replace_plan.Goals as goal
-use Rattle.planning.proofs.replace_plan.Goals.{In-At, In-Whole}
 
-abbrev bytes : (c : In-Whole) → All Byte (take c.args.len c.args.buf.now)
-bytes c =
+pub returns-in_err-facts : goal.returns-in_err-facts
+returns-in_err-facts c =
     let a = c.args in
-    all_take Byte a.len a.buf.now (bytes-all a.buf.now (λ i. omega (arith, c.type_inv.buf i)))
-
-abbrev bytes-in-there : (c : In-At) → All Byte (take c.args.len c.args.buf.now)
-bytes-in-there c =
-    let a = c.args in
-    all_take Byte a.len a.buf.now (bytes-all a.buf.now (λ i. omega (arith, c.type_inv.buf i)))
-
--- the entry is found
-there : (c : In-At) → let a = c.args in
-    Told a.profile a.buf.now a.len a.room a.used a.usage a.number
-    (bytes-in-there c) c.in-Whole.facts c.in-At.piece
-there c =
-    let a = c.args in
-    told a.profile a.buf.now a.len a.room a.used a.usage a.number (bytes-in-there c) 0 c.in-Whole.facts (sym
-    c.opened.ensures ∙ c.in-Whole.is) c.in-At.piece c.in-At.is
+    let b = a.buf.now in
+    let bytes : All Byte (take a.lent.len b) = all_take Byte a.lent.len b (bytes-all b (λ i. omega (arith, c.type_inv.buf i))) in
+    let p = err_from_is_err_and c.from_residual.result c.from_residual.ensures.1 in
+    rw (p.1, p.2) (plan_unopened a.lent.profile b a.lent.len a.lent.room a.lent.used a.pair.usage a.pair.number a.kind a.d.now bytes 0 _ (sym c.opened.ensures ∙ c.in_err-facts.was))
 
 pub returns-in_default : goal.returns-in_default
 returns-in_default c =
     let a = c.args in
-    plan_22 a.profile a.buf.now a.len a.room a.used a.usage a.number a.kind a.d.now (bytes (goal.at.returns-in_default c).In-Whole) 0 c.in-Whole.facts (sym
-    c.opened.ensures ∙ c.in-Whole.is) c.in_default.is
+    let b = a.buf.now in
+    let bytes : All Byte (take a.lent.len b) = all_take Byte a.lent.len b (bytes-all b (λ i. omega (arith, c.type_inv.buf i))) in
+    plan_22 a.lent.profile b a.lent.len a.lent.room a.lent.used a.pair.usage a.pair.number a.kind a.d.now bytes 0 c.in_ok-facts.facts (sym c.opened.ensures ∙ c.in_ok-facts.was) c.in_default.is
 
 pub returns-then-piece : goal.returns-then-piece
 returns-then-piece c =
     let a = c.args in
-    plan_23 a.profile a.buf.now a.len a.room a.used a.usage a.number a.kind a.d.now (bytes (goal.at.returns-then-piece c).In-Whole) c.in-Whole.facts
-    c.in-At.piece (there (goal.at.returns-then-piece c).In-At) c.if-piece.true
+    let b = a.buf.now in
+    let bytes : All Byte (take a.lent.len b) = all_take Byte a.lent.len b (bytes-all b (λ i. omega (arith, c.type_inv.buf i))) in
+    let T = told a.lent.profile b a.lent.len a.lent.room a.lent.used a.pair.usage a.pair.number bytes 0 c.in_ok-facts.facts (sym c.opened.ensures ∙ c.in_ok-facts.was) c.in-Some.piece c.in-Some.is in
+    plan_23 a.lent.profile b a.lent.len a.lent.room a.lent.used a.pair.usage a.pair.number a.kind a.d.now bytes c.in_ok-facts.facts c.in-Some.piece T c.if-piece.true
 
 pub returns-then-not-whole : goal.returns-then-not-whole
 returns-then-not-whole c =
     let a = c.args in
-    plan_30 a.profile a.buf.now a.len a.room a.used a.usage a.number a.kind a.d.now (bytes (goal.at.returns-then-not-whole c).In-Whole) c.in-Whole.facts
-    c.in-At.piece (there (goal.at.returns-then-not-whole c).In-At) c.if-piece.false
-    (sym c.is_whole-whole.ensures ∙ c.if-not-whole.true)
+    let b = a.buf.now in
+    let bytes : All Byte (take a.lent.len b) = all_take Byte a.lent.len b (bytes-all b (λ i. omega (arith, c.type_inv.buf i))) in
+    let T = told a.lent.profile b a.lent.len a.lent.room a.lent.used a.pair.usage a.pair.number bytes 0 c.in_ok-facts.facts (sym c.opened.ensures ∙ c.in_ok-facts.was) c.in-Some.piece c.in-Some.is in
+    plan_30 a.lent.profile b a.lent.len a.lent.room a.lent.used a.pair.usage a.pair.number a.kind a.d.now bytes c.in_ok-facts.facts c.in-Some.piece T c.if-piece.false (sym c.is_whole-whole.ensures ∙ c.if-not-whole.true)
 
 pub gone_size-old-requires : goal.gone_size-old-requires
 gone_size-old-requires c =
     let a = c.args in
-    body_short a.profile a.buf.now a.len a.room a.used a.usage a.number (bytes (goal.at.gone_size-old-requires c).In-Whole) c.in-At.piece (there (goal.at.gone_size-old-requires c).In-At).found (there
-    (goal.at.gone_size-old-requires c).In-At).piece_is
+    let b = a.buf.now in
+    let bytes : All Byte (take a.lent.len b) = all_take Byte a.lent.len b (bytes-all b (λ i. omega (arith, c.type_inv.buf i))) in
+    let T = told a.lent.profile b a.lent.len a.lent.room a.lent.used a.pair.usage a.pair.number bytes 0 c.in_ok-facts.facts (sym c.opened.ensures ∙ c.in_ok-facts.was) c.in-Some.piece c.in-Some.is in
+    body_short a.lent.profile b a.lent.len a.lent.room a.lent.used a.pair.usage a.pair.number bytes c.in-Some.piece T.found T.piece_is
 
-pub slice_bounds-replace_fault-end : goal.slice_bounds-replace_fault-end
-slice_bounds-replace_fault-end c = sym (length-take-le _ _ (there (goal.at.slice_bounds-replace_fault-end c).In-At).found.stands.inside)
-
-pub replace_fault-judged-requires : goal.replace_fault-judged-requires
-replace_fault-judged-requires c =
+pub slice_bounds-s-end : goal.slice_bounds-s-end
+slice_bounds-s-end c =
     let a = c.args in
-    own a.profile a.buf.now a.len a.room a.used a.usage a.number a.kind a.d.now (bytes (goal.at.replace_fault-judged-requires c).In-Whole) c.in-Whole.facts
-    c.in-At.piece (there (goal.at.replace_fault-judged-requires c).In-At) c.if-piece.false
+    let b = a.buf.now in
+    let bytes : All Byte (take a.lent.len b) = all_take Byte a.lent.len b (bytes-all b (λ i. omega (arith, c.type_inv.buf i))) in
+    let T = told a.lent.profile b a.lent.len a.lent.room a.lent.used a.pair.usage a.pair.number bytes 0 c.in_ok-facts.facts (sym c.opened.ensures ∙ c.in_ok-facts.was) c.in-Some.piece c.in-Some.is in
+    sym (length-take-le a.lent.len b T.found.stands.inside)
+
+pub replace_fault-requires : goal.replace_fault-requires
+replace_fault-requires c =
+    let a = c.args in
+    let b = a.buf.now in
+    let bytes : All Byte (take a.lent.len b) = all_take Byte a.lent.len b (bytes-all b (λ i. omega (arith, c.type_inv.buf i))) in
+    let T = told a.lent.profile b a.lent.len a.lent.room a.lent.used a.pair.usage a.pair.number bytes 0 c.in_ok-facts.facts (sym c.opened.ensures ∙ c.in_ok-facts.was) c.in-Some.piece c.in-Some.is in
+    own a.lent.profile b a.lent.len a.lent.room a.lent.used a.pair.usage a.pair.number a.kind a.d.now bytes c.in_ok-facts.facts c.in-Some.piece T c.if-piece.false
+
+pub returns-in_err-replace_fault : goal.returns-in_err-replace_fault
+returns-in_err-replace_fault c =
+    let a = c.args in
+    let b = a.buf.now in
+    let bytes : All Byte (take a.lent.len b) = all_take Byte a.lent.len b (bytes-all b (λ i. omega (arith, c.type_inv.buf i))) in
+    let T = told a.lent.profile b a.lent.len a.lent.room a.lent.used a.pair.usage a.pair.number bytes 0 c.in_ok-facts.facts (sym c.opened.ensures ∙ c.in_ok-facts.was) c.in-Some.piece c.in-Some.is in
+    let p = err_from_is_err_and c.from_residual-in_err-replace_fault.result c.from_residual-in_err-replace_fault.ensures.1 in
+    rw (p.1, p.2) (plan_judged a.lent.profile b a.lent.len a.lent.room a.lent.used a.pair.usage a.pair.number a.kind a.d.now bytes c.in_ok-facts.facts c.in-Some.piece T c.if-piece.false
+    (sym c.is_whole-whole.ensures ∙ c.if-not-whole.false) c.held-body.result.now c.held-body.ensures c.replace_fault.result c.replace_fault.ensures _ c.in_err-replace_fault.was)
 
 pub overflow_sub-size : goal.overflow_sub-size
 overflow_sub-size c =
     let a = c.args in
-    inside a.profile a.buf.now a.len a.room a.used a.usage a.number a.kind a.d.now (bytes (goal.at.overflow_sub-size c).In-Whole) c.in-At.piece (there
-    (goal.at.overflow_sub-size c).In-At).found (there (goal.at.overflow_sub-size c).In-At).piece_is c.gone_size-old.result
-    c.gone_size-old.ensures
+    let b = a.buf.now in
+    let bytes : All Byte (take a.lent.len b) = all_take Byte a.lent.len b (bytes-all b (λ i. omega (arith, c.type_inv.buf i))) in
+    let T = told a.lent.profile b a.lent.len a.lent.room a.lent.used a.pair.usage a.pair.number bytes 0 c.in_ok-facts.facts (sym c.opened.ensures ∙ c.in_ok-facts.was) c.in-Some.piece c.in-Some.is in
+    inside a.lent.profile b a.lent.len a.lent.room a.lent.used a.pair.usage a.pair.number a.kind a.d.now bytes c.in-Some.piece T.found T.piece_is c.gone_size-old.result c.gone_size-old.ensures
 
-pub overflow_add-size-in-Whole-2 : goal.overflow_add-size-in-Whole-2
-overflow_add-size-in-Whole-2 c = let s = (there (goal.at.overflow_add-size-in-Whole-2 c).In-At).found.stands.short in search rules
-
-pub overflow_sub-room : goal.overflow_sub-room
-overflow_sub-room c = (there (goal.at.overflow_sub-room c).In-At).found.used_in
-
-pub returns-in-Refused : goal.returns-in-Refused
-returns-in-Refused c =
+pub overflow_add-size-3 : goal.overflow_add-size-3
+overflow_add-size-3 c =
     let a = c.args in
     let b = a.buf.now in
-    let known = c.type_inv.buf in
-    let all : All Byte (take a.len b) = all_take Byte a.len b (bytes-all b (λ i. omega (arith, known i))) in
-    plan_unopened a.profile a.buf.now a.len a.room a.used a.usage a.number a.kind a.d.now all 0 c.in-Refused.k
-    c.in-Refused.place
-    (sym c.opened.ensures ∙ c.in-Refused.is)
+    let bytes : All Byte (take a.lent.len b) = all_take Byte a.lent.len b (bytes-all b (λ i. omega (arith, c.type_inv.buf i))) in
+    let T = told a.lent.profile b a.lent.len a.lent.room a.lent.used a.pair.usage a.pair.number bytes 0 c.in_ok-facts.facts (sym c.opened.ensures ∙ c.in_ok-facts.was) c.in-Some.piece c.in-Some.is in
+    omega (arith, T.found.stands.short)
 
-pub returns-in-Refused-with_room : goal.returns-in-Refused-with_room
-returns-in-Refused-with_room c =
+pub overflow_sub-lent : goal.overflow_sub-lent
+overflow_sub-lent c =
     let a = c.args in
-    plan_refused a.profile a.buf.now a.len a.room a.used a.usage a.number a.kind a.d.now (bytes (goal.at.returns-in-Refused-with_room c).In-Whole) c.in-Whole.facts
-    c.in-At.piece (there (goal.at.returns-in-Refused-with_room c).In-At) c.if-piece.false
-    (sym c.is_whole-whole.ensures ∙ c.if-not-whole.false)
-    c.held-body.result.now
-    c.held-body.ensures
-    c.gone_size-old.result
-    c.gone_size-old.ensures
-    c.replace_fault-judged.result c.with_room.result
-    c.replace_fault-judged.ensures
-    c.with_room.ensures c.in-Refused-with_room.k c.in-Refused-with_room.place c.in-Refused-with_room.is
+    let b = a.buf.now in
+    let bytes : All Byte (take a.lent.len b) = all_take Byte a.lent.len b (bytes-all b (λ i. omega (arith, c.type_inv.buf i))) in
+    let T = told a.lent.profile b a.lent.len a.lent.room a.lent.used a.pair.usage a.pair.number bytes 0 c.in_ok-facts.facts (sym c.opened.ensures ∙ c.in_ok-facts.was) c.in-Some.piece c.in-Some.is in
+    T.found.used_in
 
-pub returns-in-Done : goal.returns-in-Done
-returns-in-Done c =
+pub returns-in_err-with_room : goal.returns-in_err-with_room
+returns-in_err-with_room c =
     let a = c.args in
-    plan_fine a.profile a.buf.now a.len a.room a.used a.usage a.number a.kind a.d.now (bytes (goal.at.returns-in-Done c).In-Whole) c.in-Whole.facts
-    c.in-At.piece (there (goal.at.returns-in-Done c).In-At) c.if-piece.false
-    (sym c.is_whole-whole.ensures ∙ c.if-not-whole.false)
-    c.held-body.result.now c.held-body.ensures
-    c.gone_size-old.result c.gone_size-old.ensures
-    c.replace_fault-judged.result c.with_room.result
-    c.replace_fault-judged.ensures
-    c.with_room.ensures c.in-Done.is
+    let b = a.buf.now in
+    let bytes : All Byte (take a.lent.len b) = all_take Byte a.lent.len b (bytes-all b (λ i. omega (arith, c.type_inv.buf i))) in
+    let T = told a.lent.profile b a.lent.len a.lent.room a.lent.used a.pair.usage a.pair.number bytes 0 c.in_ok-facts.facts (sym c.opened.ensures ∙ c.in_ok-facts.was) c.in-Some.piece c.in-Some.is in
+    let p = err_from_is_err_and c.from_residual-in_err-with_room.result c.from_residual-in_err-with_room.ensures.1 in
+    rw (p.1, p.2) (plan_full a.lent.profile b a.lent.len a.lent.room a.lent.used a.pair.usage a.pair.number a.kind a.d.now bytes c.in_ok-facts.facts c.in-Some.piece T c.if-piece.false
+    (sym c.is_whole-whole.ensures ∙ c.if-not-whole.false) c.held-body.result.now c.held-body.ensures c.replace_fault.result c.replace_fault.ensures
+    (ap verdict_of c.in_ok-replace_fault.was) c.gone_size-old.result c.gone_size-old.ensures c.with_room.result c.with_room.ensures _ c.in_err-with_room.was)
+
+pub returns : goal.returns
+returns c =
+    let a = c.args in
+    let b = a.buf.now in
+    let bytes : All Byte (take a.lent.len b) = all_take Byte a.lent.len b (bytes-all b (λ i. omega (arith, c.type_inv.buf i))) in
+    let T = told a.lent.profile b a.lent.len a.lent.room a.lent.used a.pair.usage a.pair.number bytes 0 c.in_ok-facts.facts (sym c.opened.ensures ∙ c.in_ok-facts.was) c.in-Some.piece c.in-Some.is in
+    plan_fine a.lent.profile b a.lent.len a.lent.room a.lent.used a.pair.usage a.pair.number a.kind a.d.now bytes c.in_ok-facts.facts c.in-Some.piece T c.if-piece.false
+    (sym c.is_whole-whole.ensures ∙ c.if-not-whole.false) c.held-body.result.now c.held-body.ensures c.replace_fault.result c.replace_fault.ensures
+    (ap verdict_of c.in_ok-replace_fault.was) c.gone_size-old.result c.gone_size-old.ensures c.with_room.result c.with_room.ensures (ap verdict_of c.in_ok-with_room.was)
