@@ -3,11 +3,12 @@
 
 mod refusal;
 
-ghost use Rattle.std.specs.Prelude.{◌≡◌, ◌+◌, ◌≤◌, ◌<◌, ◌^◌, ◌&&◌, eqb, length, drop};
+ghost use Rattle.std.specs.Prelude.{◌≡◌, ◌+◌, ◌≤◌, ◌<◌, ◌^◌, not, ◌&&◌, ◌||◌, eqb, length, drop};
 ghost use Rattle.blorb.specs.Bytes.{rd32};
 ghost use Rattle.blorb.specs.Format.{chunk_of};
 ghost use Rattle.blorb.specs.Lookup.{left_out_of};
 ghost use Rattle.blorb.specs.Rules.{plain_allows_of, adrift_allows_of, allows};
+ghost use Rattle.blorb.specs.Tags.{Exec, Pict};
 ghost use Rattle.blorb.specs.declared.Usage.TheVariants.{Snd};
 ghost use Rattle.blorb.specs.Usages.{code_of, usage_of, pict_type_of, snd_type_of, data_type_of, exec_type_of, adrift_sound_type_of};
 
@@ -28,6 +29,29 @@ pub struct Entry {
     pub usage: Usage,
     pub number: u32,
     pub start: u32,
+}
+
+// What an entry is asked for by: its usage, as the number in its four bytes, and its number.
+#[derive(Clone, Copy, PartialEq, Eq, Debug)]
+pub struct Pair {
+    pub usage: u32,
+    pub number: u32,
+}
+
+impl Pair {
+    // An Exec has number 0.
+    pub fn number_fits(self) -> bool
+        ensures { result ≡ (not (eqb self.usage Exec) || eqb self.number 0) }
+    {
+        (self.usage as u64 != Usage::EXEC) | (self.number == 0)
+    }
+
+    // It is that of the picture numbered `q`.
+    pub fn is_picture(self, q: u32) -> bool
+        ensures { result ≡ (eqb self.usage Pict && eqb self.number q) }
+    {
+        (self.usage as u64 == Usage::PICT) & (self.number == q)
+    }
 }
 
 // The number at `at`, whose four bytes lie in the slice.

@@ -17,4 +17,4 @@ starts_moved f (suc n) at b = starts_moved f n (at + 12) (noted b (at + 8) (be32
 
 -- the record with these fields
 unfoldable pub record_of : ℕ → Entry → ℕ → ℕ → List ℕ → Rec
-record_of kind e place t d = record { kind = kind; usage = e.name.usage; number = e.name.number; place = place; start = e.start; type = t; body = d }
+record_of kind e place t d = record { kind = kind; usage = e.pair.usage; number = e.pair.number; place = place; start = e.start; type = t; body = d }

@@ -11,6 +11,8 @@ ghost use Rattle.moves.specs.Moves.{relocated, starts_moved, record_of};
 
 pub mod shift;
 
+use blorb::Pair;
+
 // How far a start moves: up, then down, at most to 0.
 #[derive(Clone, Copy)]
 pub struct Step {
@@ -35,17 +37,10 @@ pub struct Move {
     pub others: Step,
 }
 
-// What an entry is named by: its usage, one of the four or not, and its number.
-#[derive(Clone, Copy)]
-pub struct Name {
-    pub usage: u32,
-    pub number: u32,
-}
-
 // An index entry as a record keeps it.
 #[derive(Clone, Copy)]
 pub struct Entry {
-    pub name: Name,
+    pub pair: Pair,
     pub start: u32,
 }
 
@@ -147,8 +142,8 @@ pub fn put_record(jrn: &mut [u8], at: usize, kind: u8, e: Entry, place: u64, t: 
     put_words(
         jrn,
         at + 1,
-        e.name.usage as u64,
-        e.name.number as u64,
+        e.pair.usage as u64,
+        e.pair.number as u64,
         place,
     );
     put_words(jrn, at + 13, e.start as u64, t, m as u64);

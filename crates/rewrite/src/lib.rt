@@ -11,7 +11,8 @@ ghost use Rattle.rewrite.specs.Rewriting.{Stands, closed, resized, Removable, Re
 ghost use Rattle.edits.specs.Starts.{behind};
 ghost use Rattle.moves.specs.Moves.{starts_moved};
 
-use moves::{Move, Name, Step, shift};
+use blorb::Pair;
+use moves::{Move, Step, shift};
 use std::cmp::Ordering;
 
 // The file that a buffer begins with: its length, and how many entries its index has.
@@ -55,18 +56,18 @@ fn chunk_size(d: &[u8]) -> usize
 }
 
 // The file with a new entry and chunk, written over the present one: both go in at their ends.
-pub fn add_bytes(buf: &mut [u8], extent: Extent, name: Name, kind: u32, d: &[u8])
+pub fn add_bytes(buf: &mut [u8], extent: Extent, pair: Pair, kind: u32, d: &[u8])
     requires { Stands buf.old extent.len extent.count
         × ((extent.len + (20 + (length d.now + length d.now % 2)) ≤ length buf.old)
         × (extent.len + (20 + (length d.now + length d.now % 2)) ≤ 16777216)) }
     ensures { buf.new ≡ written buf.old extent.len
-        (file (added (model (take extent.len buf.old)) name.usage name.number (chunk_of kind d.now))) }
+        (file (added (model (take extent.len buf.old)) pair.usage pair.number (chunk_of kind d.now))) }
 {
     let end = Gap {
         place: extent.count,
         at: extent.len,
     };
-    insert_bytes(buf, extent, end, name, kind, d);
+    insert_bytes(buf, extent, end, pair, kind, d);
 }
 
 // The `k` bytes at `at` of the first `len` go: what stands behind them closes up, and zeros follow.
@@ -157,12 +158,12 @@ pub fn replace_bytes(buf: &mut [u8], extent: Extent, part: Part, kind: u32, d: &
 }
 
 // The file with an entry and its chunk put into the gap.
-pub fn insert_bytes(buf: &mut [u8], extent: Extent, gap: Gap, name: Name, kind: u32, d: &[u8])
+pub fn insert_bytes(buf: &mut [u8], extent: Extent, gap: Gap, pair: Pair, kind: u32, d: &[u8])
     requires { Stands buf.old extent.len extent.count × (Insertable buf.old extent.len extent.count gap.place gap.at
         × ((extent.len + (20 + (length d.now + length d.now % 2)) ≤ length buf.old) ×
         (extent.len + (20 + (length d.now + length d.now % 2)) ≤ 16777216))) }
     ensures { buf.new ≡ written buf.old extent.len
-        (file (inserted (model (take extent.len buf.old)) gap.place (place_at (model (take extent.len buf.old)) gap.at) name.usage name.number
+        (file (inserted (model (take extent.len buf.old)) gap.place (place_at (model (take extent.len buf.old)) gap.at) pair.usage pair.number
         (chunk_of kind d.now))) }
 {
     let size = chunk_size(d);
@@ -185,8 +186,8 @@ pub fn insert_bytes(buf: &mut [u8], extent: Extent, gap: Gap, name: Name, kind: 
     moves::put_words(
         buf,
         entry,
-        name.usage as u64,
-        name.number as u64,
+        pair.usage as u64,
+        pair.number as u64,
         gap.at as u64 + 12,
     );
     moves::put_chunk(buf, gap.at + 12, kind as u64, d);
@@ -195,11 +196,11 @@ pub fn insert_bytes(buf: &mut [u8], extent: Extent, gap: Gap, name: Name, kind: 
 }
 
 // The file with an entry put in. Its chunk stands.
-pub fn insert_entry(buf: &mut [u8], extent: Extent, gap: Gap, name: Name)
+pub fn insert_entry(buf: &mut [u8], extent: Extent, gap: Gap, pair: Pair)
     requires { Stands buf.old extent.len extent.count × (Insertable buf.old extent.len extent.count gap.place gap.at
         × ((extent.len + 12 ≤ length buf.old) × (extent.len + 12 ≤ 16777216))) }
     ensures { buf.new ≡ written buf.old extent.len
-        (file (entered (model (take extent.len buf.old)) gap.place (place_at (model (take extent.len buf.old)) gap.at) name.usage name.number)) }
+        (file (entered (model (take extent.len buf.old)) gap.place (place_at (model (take extent.len buf.old)) gap.at) pair.usage pair.number)) }
 {
     let entry = 24 + 12 * gap.place;
     moves::move_starts(
@@ -216,8 +217,8 @@ pub fn insert_entry(buf: &mut [u8], extent: Extent, gap: Gap, name: Name)
     moves::put_words(
         buf,
         entry,
-        name.usage as u64,
-        name.number as u64,
+        pair.usage as u64,
+        pair.number as u64,
         gap.at as u64 + 12,
     );
     moves::put_heading(buf, extent.count as u64 + 1, extent.behind() as u64);

@@ -16,5 +16,5 @@ returns c =
     let a = c.args in
     let b = a.buf.now in
     c.insert_bytes.ensures
-    ∙ ap (written b a.extent.len) (added-file b a.extent.len a.extent.count c.requires.0 a.name.usage a.name.number
+    ∙ ap (written b a.extent.len) (added-file b a.extent.len a.extent.count c.requires.0 a.pair.usage a.pair.number
     (chunk_of a.kind a.d.now))

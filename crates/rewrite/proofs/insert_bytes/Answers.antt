@@ -24,4 +24,4 @@ returns c =
       c.chunk_size-size.ensures,
       relocated-risen mv a.gap.at sz (omega (arith, p.1.0.behind)) refl refl refl refl refl,
     )
-    (insert_written b a.extent.len a.extent.count a.gap.place a.gap.at a.name.usage a.name.number p.0 p.1.0 a.kind a.d.now p.1.1.0)
+    (insert_written b a.extent.len a.extent.count a.gap.place a.gap.at a.pair.usage a.pair.number p.0 p.1.0 a.kind a.d.now p.1.1.0)

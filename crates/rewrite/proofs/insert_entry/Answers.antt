@@ -18,4 +18,4 @@ returns c =
       c.move_starts.ensures,
       relocated_alike mv 12 refl refl refl refl,
     )
-    (enter_written b a.extent.len a.extent.count a.gap.place a.gap.at a.name.usage a.name.number p.0 p.1.0 p.1.1.0)
+    (enter_written b a.extent.len a.extent.count a.gap.place a.gap.at a.pair.usage a.pair.number p.0 p.1.0 p.1.1.0)
