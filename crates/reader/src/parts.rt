@@ -11,6 +11,8 @@ ghost use Rattle.reader.specs.Passed.{Passed, model_at, Fronts, front_from_of};
 use crate::{Facts, Frontispiece, Judged, Piece};
 use index::entries;
 
+// `Passed` stays a requires: it keeps the rules that the entries were judged by, so it is no proposition, as a ghost field has to be.
+
 // Whether an entry other than entry `i` has its start. Entries stand in the order of their chunks, so it would stand beside it.
 fn start_again(s: &[u8], count: usize, i: usize, start: u64) -> bool
     requires { Passed s.now count × (i < count) × (start ≡ start_at s.now (place i)) }
