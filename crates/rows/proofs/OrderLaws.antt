@@ -14,6 +14,8 @@ use Rattle.blorb.proofs.AllLaws.{all_get_d}
 use Rattle.blorb.proofs.NumberLaws.{same?, key-eqb}
 use Rattle.blorb.proofs.Checks.{and_both}
 use Rattle.rows.specs.Order.{before, is_pair, Below, Rising}
+use Rattle.rows.specs.Bridging.{one}
+use mir.Val.{bool_byte}
 
 -- the pair (a, b) is less than (u, n)
 abbrev pub Less : ℕ → ℕ → ℕ → ℕ → Type 0
@@ -132,3 +134,12 @@ ltb-key a b u n hb hn = go (ltb (a * 4294967296 + b) (u * 4294967296 + n)) refl
 
 pub eqb-key : (u n : ℕ) (e : Entry) → e.number < 4294967296 → n < 4294967296 → eqb (e.usage * 4294967296 + e.number) (u * 4294967296 + n) ≡ is_pair u n e
 eqb-key u n e hb hn = key-eqb e.usage e.number u n hb hn
+
+-- a test that is counted
+pub one_small : (b : Bool) → one b ≤ 1
+one_small true = omega arith
+one_small false = omega arith
+
+pub counted : (b : Bool) → bool_byte b ≡ one b
+counted true = refl
+counted false = refl

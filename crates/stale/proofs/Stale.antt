@@ -25,7 +25,8 @@ use Rattle.reader.proofs.Promises.{index_is}
 use Rattle.rows.specs.Rows.{rows_of}
 use Rattle.table.specs.Answers.{table_of, agree, check_of}
 use Rattle.table.specs.TableOf.{SameEntries}
-use Rattle.table.specs.declared.Checked.TheVariants as checked
+use Rattle.blorb.specs.Refusals.{Refused}
+use Rattle.std.specs.Prelude.{Ok}
 use Rattle.table.proofs.Promises.{pairs_once, same-accepted, accepted-same, stale_refused}
 use Rattle.edits.specs.Edit.{
   Edit,
@@ -200,7 +201,7 @@ module _ (profile : ℕ) (f : List ℕ) (bytes : All Byte f) (fine : profile_ver
 
 -- ---- a call on the lent buffers
 
-caught : (profile : ℕ) (P : Type 0) (f g t : List ℕ) → profile_verdict profile g ≡ accept → check_of profile f (rows_of t) (length t) ≡ checked.Accepted
+caught : (profile : ℕ) (P : Type 0) (f g t : List ℕ) → profile_verdict profile g ≡ accept → check_of profile f (rows_of t) (length t) ≡ Ok tt
     → Exactly P f g → Caught profile P f g t
 caught profile P f g t fine good x =
     record {
@@ -212,7 +213,7 @@ caught profile P f g t fine good x =
 -- a successful call under a profile: an add, a replacement, a removal, a link or an undo, in any state of the buffers
 pub call_caught : (profile : ℕ) (s : State) (c : Call) (t : List ℕ) → All Byte s.buffer → All Byte s.journal → CallOk c
     → fault (rules_of profile) s c ≡ accept
-    → check_of profile (file_in s) (rows_of t) (length t) ≡ checked.Accepted → Caught profile (Leaves s c) (file_in s) (file_in (step (rules_of profile) s c)) t
+    → check_of profile (file_in s) (rows_of t) (length t) ≡ Ok tt → Caught profile (Leaves s c) (file_in s) (file_in (step (rules_of profile) s c)) t
 unfolding step after after_edit after_undo fault edit_fault undo_fault undone_file
 call_caught profile s (edit e) t bytes bytesj args h good =
     let f : List ℕ = file_in s in
@@ -250,27 +251,27 @@ call_caught profile s undo t bytes bytesj args h good =
 -- t is a good table of the file in the state, and the call succeeds
 module _ (profile : ℕ) (s : State) (t : List ℕ) (bytes : All Byte s.buffer) (bytesj : All Byte s.journal) (good : check_of profile (file_in s)
     (rows_of t) (length t) ≡
-    checked.Accepted) where
+    Ok tt) where
   -- every add makes it stale
   pub add_stale : (u n k : ℕ) (d : List ℕ) → ArgsOk (add u n k d) → fault (rules_of profile) s (edit (add u n k d)) ≡ accept
       → check_of profile (file_in (step (rules_of profile) s (edit (add u n k d)))) (rows_of t) (length t)
-      ≡ checked.Refused 35 (agree (table_of (file_in s)) (table_of (file_in (step (rules_of profile) s (edit (add u n k d))))))
+      ≡ Refused 35 (agree (table_of (file_in s)) (table_of (file_in (step (rules_of profile) s (edit (add u n k d))))))
   add_stale u n k d a h = (call_caught profile s (edit (add u n k d)) t bytes bytesj a h good).else_35 (λ x. x)
 
   -- and every removal
   pub remove_stale : (u n : ℕ) → ArgsOk (remove u n) → fault (rules_of profile) s (edit (remove u n)) ≡ accept
       → check_of profile (file_in (step (rules_of profile) s (edit (remove u n)))) (rows_of t) (length t)
-      ≡ checked.Refused 35 (agree (table_of (file_in s)) (table_of (file_in (step (rules_of profile) s (edit (remove u n))))))
+      ≡ Refused 35 (agree (table_of (file_in s)) (table_of (file_in (step (rules_of profile) s (edit (remove u n))))))
   remove_stale u n a h = (call_caught profile s (edit (remove u n)) t bytes bytesj a h good).else_35 (λ x. x)
 
   -- and every link
   pub link_stale : (v o u n : ℕ) → ArgsOk (link v o u n) → fault (rules_of profile) s (edit (link v o u n)) ≡ accept
       → check_of profile (file_in (step (rules_of profile) s (edit (link v o u n)))) (rows_of t) (length t)
-      ≡ checked.Refused 35 (agree (table_of (file_in s)) (table_of (file_in (step (rules_of profile) s (edit (link v o u n))))))
+      ≡ Refused 35 (agree (table_of (file_in s)) (table_of (file_in (step (rules_of profile) s (edit (link v o u n))))))
   link_stale v o u n a h = (call_caught profile s (edit (link v o u n)) t bytes bytesj a h good).else_35 (λ x. x)
 
   -- a refused call leaves it good: "A refused call changes nothing."
   pub refused-good : (c : Call) (k p : ℕ) → fault (rules_of profile) s c ≡ refuse k p → check_of profile (file_in (step (rules_of profile) s c)) (rows_of t)
-      (length t) ≡ checked.Accepted
+      (length t) ≡ Ok tt
   unfolding step
   refused-good c k p h = rw h good

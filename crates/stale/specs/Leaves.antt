@@ -1,7 +1,7 @@
 -- When a successful edit or undo leaves the file's finding table good. Every add, removal and link changes the index; a replacement moves "only starts
 -- behind it .. by the change in size" (01, The edits), so it changes no entry where the size stays or where no entry starts behind the chunk.
 -- That a table is refused with 35 in every other case is proved in proofs/Stale.
-use Rattle.std.specs.Prelude.{◌≡◌, ℕ, ◌<◌, length, take}
+use Rattle.std.specs.Prelude.{◌≡◌, ℕ, ◌<◌, length, take, Ok}
 use mathlib.Core.List.{List, Memᴰ}
 use Rattle.blorb.specs.Format.{Entry, Chunk, size}
 use Rattle.blorb.specs.Model.{model}
@@ -9,7 +9,7 @@ use Rattle.blorb.specs.Queries.{find, ref_at, chunk_at, start}
 use Rattle.reader.specs.Reading.{index_of}
 use Rattle.rows.specs.Rows.{rows_of}
 use Rattle.table.specs.Answers.{table_of, agree, check_of}
-use Rattle.table.specs.declared.Checked.TheVariants as checked
+use Rattle.blorb.specs.Refusals.{Refused}
 use Rattle.edits.specs.Edit.{Edit, add, replace, remove, link, given_chunk}
 use Rattle.edits.specs.Journal.{Rec, last_rec, old_chunk, by_kind}
 use Rattle.edits.specs.Run.{State, file_in, Call, edit, undo}
@@ -38,6 +38,6 @@ Leaves s undo = UndoLeaves (file_in s) (last_rec (take s.U s.journal))
 -- files'
 -- tables differ, or the smaller row count where one is the other's beginning
 pub record Caught (profile : ℕ) (P : Type 0) (f g t : List ℕ) : Type 0 where
-  pub stays_good : P → check_of profile g (rows_of t) (length t) ≡ checked.Accepted
-  pub good_only : check_of profile g (rows_of t) (length t) ≡ checked.Accepted → P
-  pub else_35 : (P → ⊥) → check_of profile g (rows_of t) (length t) ≡ checked.Refused 35 (agree (table_of f) (table_of g))
+  pub stays_good : P → check_of profile g (rows_of t) (length t) ≡ Ok tt
+  pub good_only : check_of profile g (rows_of t) (length t) ≡ Ok tt → P
+  pub else_35 : (P → ⊥) → check_of profile g (rows_of t) (length t) ≡ Refused 35 (agree (table_of f) (table_of g))

@@ -19,8 +19,7 @@ use Rattle.rows.proofs.FlatLaws.{length-flat, length-rows_of, rows_of-flat}
 use Rattle.rows.proofs.ColumnLaws.{length-columns_of, length-flat_columns, columns_of-flat, flat-front, columns_front}
 use Rattle.table.specs.Answers.{search_of, table_of, room_for, turn_of, written, check_of, start_from}
 use Rattle.table.specs.TableOf.{TableOf}
-use Rattle.table.specs.declared.Built.TheVariants as built
-use Rattle.table.specs.declared.Checked.TheVariants as checked
+use Rattle.std.specs.Prelude.{Ok}
 use Rattle.table.proofs.AnswerLaws.{turn-rows}
 use Rattle.table.proofs.Promises.{accepted-rows, accepted-is-table, table-is-accepted, accepted-search}
 
@@ -46,21 +45,21 @@ record Form : Type 0 where
   again : (es : List Entry) → rows (numbers es) ≡ es
   front : (t : List ℕ) → numbers (rows t) ≡ take (3 * (length t / 3)) t
 
-turned_go : (b : Bool) (m n : ℕ) → room_for b m ≡ built.Rows n → m ≡ n
+turned_go : (b : Bool) (m n : ℕ) → room_for b m ≡ Ok n → m ≡ n
 turned_go true m n h = cc
-turned_go false m n h = let z : ◌≡◌ {A = ℕ} 0 1 = cc in absurd (omega arith)
+turned_go false m n h = cc
 
-turned : (rows : List Entry) (n size : ℕ) → turn_of rows size ≡ built.Rows n → length rows ≡ n
+turned : (rows : List Entry) (n size : ℕ) → turn_of rows size ≡ Ok n → length rows ≡ n
 unfolding turn_of
 turned rows n size h = turned_go (leb (3 * length rows) size) (length rows) n h
 
-module _ (A B : Form) (src dst : List ℕ) (n : ℕ) (h : turn_of (A.rows src) (length dst) ≡ built.Rows n) where
+module _ (A B : Form) (src dst : List ℕ) (n : ℕ) (h : turn_of (A.rows src) (length dst) ≡ Ok n) where
   how_many : length (A.rows src) ≡ n
   how_many = turned (A.rows src) n (length dst) h
 
   -- just the part written
   abbrev part : List ℕ
-  part = take (3 * n) (written (built.Rows n) (B.numbers (A.rows src)) dst)
+  part = take (3 * n) (written (Ok n) (B.numbers (A.rows src)) dst)
 
   part_length : length (B.numbers (A.rows src)) ≡ 3 * n
   part_length = B.size (A.rows src) ∙ ap (λ (k : ℕ). 3 * k) how_many
@@ -77,10 +76,10 @@ module _ (A B : Form) (src dst : List ℕ) (n : ℕ) (h : turn_of (A.rows src) (
   checks : (profile : ℕ) (f : List ℕ) → length src ≡ 3 * n → check_of profile f (B.rows part) (length part) ≡ check_of profile f (A.rows src) (length src)
   checks profile f w = let l : length part ≡ length src = ap length part-is ∙ part_length ∙ sym w in rw (l, same)
 
-  back-room : (back : List ℕ) → 3 * n ≤ length back → turn_of (B.rows part) (length back) ≡ built.Rows n
+  back-room : (back : List ℕ) → 3 * n ≤ length back → turn_of (B.rows part) (length back) ≡ Ok n
   back-room back r = sym (turn-rows (B.rows part) n (length back) (ap length same ∙ how_many) r)
 
-  back-same : (back : List ℕ) → take (3 * n) (written (built.Rows n) (A.numbers (B.rows part)) back) ≡ take (3 * n) src
+  back-same : (back : List ℕ) → take (3 * n) (written (Ok n) (A.numbers (B.rows part)) back) ≡ take (3 * n) src
   back-same back =
       let q : length src / 3 ≡ n = sym (A.many src) ∙ how_many in
       let e : A.numbers (B.rows part) ≡ A.numbers (A.rows src) = ap A.numbers same in
@@ -102,66 +101,66 @@ column_form = record {
 
 -- ---- "the form given and just the part written": any slice of rows, checked or not, turned into columns. The part is the first 3 n numbers afterwards.
 
-module _ (src dst : List ℕ) (n : ℕ) (h : turn_of (rows_of src) (length dst) ≡ built.Rows n) where
+module _ (src dst : List ℕ) (n : ℕ) (h : turn_of (rows_of src) (length dst) ≡ Ok n) where
   -- "hold the same entries"
-  pub to_columns_same : columns_of (take (3 * n) (written (built.Rows n) (flat_columns (rows_of src)) dst)) ≡ rows_of src
+  pub to_columns_same : columns_of (take (3 * n) (written (Ok n) (flat_columns (rows_of src)) dst)) ≡ rows_of src
   to_columns_same = same row_form column_form src dst n h
 
   -- "and give every search the same answer and count"
-  pub to_columns_search : (u k : ℕ) → search_of (columns_of (take (3 * n) (written (built.Rows n) (flat_columns (rows_of src)) dst))) u k
+  pub to_columns_search : (u k : ℕ) → search_of (columns_of (take (3 * n) (written (Ok n) (flat_columns (rows_of src)) dst))) u k
       ≡ search_of (rows_of src) u k
   to_columns_search = searches row_form column_form src dst n h
 
   -- "turning that part back changes no row": it finds room in any slice of as many numbers, and gives the numbers of the whole rows there were
   pub to_columns_back_room : (back : List ℕ) → 3 * n ≤ length back
-      → turn_of (columns_of (take (3 * n) (written (built.Rows n) (flat_columns (rows_of src)) dst))) (length back) ≡ built.Rows n
+      → turn_of (columns_of (take (3 * n) (written (Ok n) (flat_columns (rows_of src)) dst))) (length back) ≡ Ok n
   to_columns_back_room = back-room row_form column_form src dst n h
 
   pub to_columns_back : (back : List ℕ)
-      → take (3 * n) (written (built.Rows n) (flat (columns_of (take (3 * n) (written (built.Rows n) (flat_columns (rows_of src)) dst)))) back)
+      → take (3 * n) (written (Ok n) (flat (columns_of (take (3 * n) (written (Ok n) (flat_columns (rows_of src)) dst)))) back)
       ≡ take (3 * n) src
   to_columns_back = back-same row_form column_form src dst n h
 
   -- where the slice has no partial row, the check answers the same for both forms, whatever the file
   pub to_columns_check : (profile : ℕ) (f : List ℕ) → length src ≡ 3 * n
-      → check_of profile f (columns_of (take (3 * n) (written (built.Rows n) (flat_columns (rows_of src)) dst)))
-      (length (take (3 * n) (written (built.Rows n) (flat_columns (rows_of src)) dst))) ≡ check_of profile f (rows_of src) (length src)
+      → check_of profile f (columns_of (take (3 * n) (written (Ok n) (flat_columns (rows_of src)) dst)))
+      (length (take (3 * n) (written (Ok n) (flat_columns (rows_of src)) dst))) ≡ check_of profile f (rows_of src) (length src)
   to_columns_check = checks row_form column_form src dst n h
 
 -- ---- and any slice of columns turned into rows
 
-module _ (src dst : List ℕ) (n : ℕ) (h : turn_of (columns_of src) (length dst) ≡ built.Rows n) where
-  pub to_rows_same : rows_of (take (3 * n) (written (built.Rows n) (flat (columns_of src)) dst)) ≡ columns_of src
+module _ (src dst : List ℕ) (n : ℕ) (h : turn_of (columns_of src) (length dst) ≡ Ok n) where
+  pub to_rows_same : rows_of (take (3 * n) (written (Ok n) (flat (columns_of src)) dst)) ≡ columns_of src
   to_rows_same = same column_form row_form src dst n h
 
-  pub to_rows_search : (u k : ℕ) → search_of (rows_of (take (3 * n) (written (built.Rows n) (flat (columns_of src)) dst))) u k ≡ search_of (columns_of src) u k
+  pub to_rows_search : (u k : ℕ) → search_of (rows_of (take (3 * n) (written (Ok n) (flat (columns_of src)) dst))) u k ≡ search_of (columns_of src) u k
   to_rows_search = searches column_form row_form src dst n h
 
   pub to_rows_back_room : (back : List ℕ) → 3 * n ≤ length back
-      → turn_of (rows_of (take (3 * n) (written (built.Rows n) (flat (columns_of src)) dst))) (length back) ≡ built.Rows n
+      → turn_of (rows_of (take (3 * n) (written (Ok n) (flat (columns_of src)) dst))) (length back) ≡ Ok n
   to_rows_back_room = back-room column_form row_form src dst n h
 
   pub to_rows_back : (back : List ℕ)
-      → take (3 * n) (written (built.Rows n) (flat_columns (rows_of (take (3 * n) (written (built.Rows n) (flat (columns_of src)) dst)))) back)
+      → take (3 * n) (written (Ok n) (flat_columns (rows_of (take (3 * n) (written (Ok n) (flat (columns_of src)) dst)))) back)
       ≡ take (3 * n) src
   to_rows_back = back-same column_form row_form src dst n h
 
   pub to_rows_check : (profile : ℕ) (f : List ℕ) → length src ≡ 3 * n
-      → check_of profile f (rows_of (take (3 * n) (written (built.Rows n) (flat (columns_of src)) dst)))
-      (length (take (3 * n) (written (built.Rows n) (flat (columns_of src)) dst))) ≡ check_of profile f (columns_of src) (length src)
+      → check_of profile f (rows_of (take (3 * n) (written (Ok n) (flat (columns_of src)) dst)))
+      (length (take (3 * n) (written (Ok n) (flat (columns_of src)) dst))) ≡ check_of profile f (columns_of src) (length src)
   to_rows_check = checks column_form row_form src dst n h
 
 -- ---- "P2's check, order and refusals hold for columns as they stand"
 
 module _ (profile : ℕ) (f t : List ℕ) where
   -- accepted exactly when the columns hold that file's entries, each once, in that order, and nothing more
-  pub columns_is_table : check_of profile f (columns_of t) (length t) ≡ checked.Accepted → TableOf profile f (columns_of t) (length t)
+  pub columns_is_table : check_of profile f (columns_of t) (length t) ≡ Ok tt → TableOf profile f (columns_of t) (length t)
   columns_is_table = accepted-is-table profile f (columns_of t) (length t) (length-columns_of t)
 
-  pub columns_is_accepted : TableOf profile f (columns_of t) (length t) → check_of profile f (columns_of t) (length t) ≡ checked.Accepted
+  pub columns_is_accepted : TableOf profile f (columns_of t) (length t) → check_of profile f (columns_of t) (length t) ≡ Ok tt
   columns_is_accepted = table-is-accepted profile f (columns_of t) (length t) (length-columns_of t)
 
-  module _ (h : check_of profile f (columns_of t) (length t) ≡ checked.Accepted) where
+  module _ (h : check_of profile f (columns_of t) (length t) ≡ Ok tt) where
     -- every number of it
     pub columns_numbers : t ≡ flat_columns (table_of f)
     columns_numbers =

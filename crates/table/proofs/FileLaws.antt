@@ -9,8 +9,7 @@ use Rattle.blorb.specs.Verdict.{accept}
 use Rattle.blorb.specs.Rules.{profile_verdict}
 use Rattle.blorb.proofs.AllLaws.{all-at}
 use Rattle.index.specs.Entries.{place}
-use Rattle.reader.specs.Reading.{index_of, read_of, no_entry}
-use Rattle.reader.specs.declared.Reading.TheVariants.{Accepted}
+use Rattle.reader.specs.Reading.{index_of, read_of, accepted_with, no_entry}
 use Rattle.reader.proofs.Promises.{accepted_is, counted, layout_is}
 use Rattle.rows.specs.Bridging.{Differ, NoTwice}
 use Rattle.rows.proofs.OrderLaws.{pair_not}
@@ -33,7 +32,7 @@ pub record Indexed (profile : ℕ) (f : List ℕ) (n : ℕ) : Type 0 where
   pub many : length (index_of f) ≡ n
   pub once : NoTwice (entries_in n (drop 24 f))
 
-pub indexed : (profile : ℕ) (f : List ℕ) (l n : ℕ) → read_of profile f ≡ Accepted l n → Indexed profile f n
+pub indexed : (profile : ℕ) (f : List ℕ) (l n : ℕ) → read_of profile f ≡ accepted_with l n → Indexed profile f n
 indexed profile f l n e =
     let a = accepted_is profile f l n e in
     let r = layout_is profile f l n e in

@@ -2,30 +2,44 @@
 use native.Mathlib.Omega.{arith}
 use mathlib.Core.Path.{refl, sym, ◌∙◌}
 use lib.ListN.{length}
+use Rattle.std.proofs.lemmas.Result.{err_from_is_err_and}
+use Rattle.table.specs.Answers.{build_of}
 use Rattle.table.proofs.FileLaws.{indexed}
-use Rattle.table.proofs.AnswerLaws.{build-refused, build_short, build-rows, build-numbers}
+use Rattle.table.proofs.AnswerLaws.{room_given, build-refused, build-rows, build-numbers}
 use Rattle.table.proofs.build.Goals as goal
 
-pub overflow_mul-count : goal.overflow_mul-count
-overflow_mul-count c = omega (arith, (indexed _ _ _ _ (sym c.read.ensures ∙ c.in-Accepted.is)).few)
+pub returns-in_err-accepted : goal.returns-in_err-accepted
+returns-in_err-accepted c =
+    let p = err_from_is_err_and c.from_residual.result c.from_residual.ensures.1 in
+    rw (p.1, p.2) (build-refused _ _ _ _ _ (sym c.in_err-accepted.ensures), refl)
 
-pub returns-then-table-count : goal.returns-then-table-count
-returns-then-table-count c = (build_short _ _ _ _ _ (sym c.read.ensures ∙ c.in-Accepted.is) c.if-table-count.true, refl)
+pub room-requires : goal.room-requires
+room-requires c = let e = sym c.read.ensures ∙ c.in_ok-accepted.was in omega (arith, (indexed _ _ _ _ e).few)
 
-pub fill-requires : goal.fill-requires
-fill-requires c =
-    let i = indexed _ _ _ _ (sym c.read.ensures ∙ c.in-Accepted.is) in
-    (i.few, i.room, c.if-table-count.false, i.once)
+pub returns-in_err-count : goal.returns-in_err-count
+unfolding build_of
+returns-in_err-count c =
+    let r = c.from_residual-in_err-count in
+    let p = err_from_is_err_and r.result r.ensures.1 in
+    let e = sym c.read.ensures ∙ c.in_ok-accepted.was in
+    rw (p.1, p.2) (rw e c.in_err-count.ensures, refl)
 
-pub returns-in-Refused : goal.returns-in-Refused
-returns-in-Refused c = (build-refused _ _ _ _ _ (sym c.read.ensures ∙ c.in-Refused.is), refl)
+pub invariant_of-fill : goal.invariant_of-fill
+invariant_of-fill c =
+    let e = sym c.read.ensures ∙ c.in_ok-accepted.was in
+    let i = indexed _ _ _ _ e in
+    let q = room_given _ _ _ (sym c.room.ensures ∙ c.in_ok-count.was) in
+    record { few = omega (arith, q.0, i.few); room = omega (arith, q.0, i.room) }
 
-pub returns-else-table-count : goal.returns-else-table-count
-returns-else-table-count c =
-    let e = sym c.read.ensures ∙
-    c.in-Accepted.is in (
-      build-rows _ _ _ _ _ e c.if-table-count.false,
-      build-numbers _ _ _ _
-          (length c.args.table.now) e _ _
-          c.fill.ensures,
-    )
+pub fill-requires-clause-once : goal.fill-requires-clause-once
+fill-requires-clause-once c =
+    let e = sym c.read.ensures ∙ c.in_ok-accepted.was in
+    let q = room_given _ _ _ (sym c.room.ensures ∙ c.in_ok-count.was) in
+    rw q.0 (indexed _ _ _ _ e).once
+
+pub returns : goal.returns
+returns c =
+    let e = sym c.read.ensures ∙ c.in_ok-accepted.was in
+    let q = room_given _ _ _ (sym c.room.ensures ∙ c.in_ok-count.was) in
+    let f = rw q.0 at c.fill.ensures in
+    (rw q.0 (build-rows _ _ _ _ _ e q.1), build-numbers _ _ _ _ (length c.args.table.now) e _ _ f)

@@ -10,17 +10,15 @@ use Rattle.table.proofs.fill.Goals as goal
 
 pub returns-then-rises : goal.returns-then-rises
 returns-then-rises c =
-    let a = c.args in
-    let p = c.requires in
-    fill-risen (entries_in a.count (drop 24 a.file.now)) p.3 a.count (length-entries_in a.count (drop 24 a.file.now)) a.t.now
-    p.2 _ c.put_entries.ensures (c.rises.ensures c.if-rises.true)
+    let x = c.args.index.now in
+    fill-risen (entries_in x.count (drop 24 x.file.now)) c.requires.once x.count (length-entries_in x.count (drop 24 x.file.now)) c.args.t.now
+    c.requires.room _ c.put_entries.ensures (c.rises.ensures c.if-rises.true)
 
 pub returns : goal.returns
 returns c =
-    let a = c.args in
-    let p = c.requires in
+    let x = c.args.index.now in
     let s = c.sort in
     let q = c.put_entries in
     let n : length s.new.t ≡ length q.new.t = search rules in
-    fill-sorted (entries_in a.count (drop 24 a.file.now)) p.3 a.count (length-entries_in a.count (drop 24 a.file.now)) a.t.now
-    p.2 q.new.t q.ensures s.new.t n s.ensures.0 s.ensures.1 (λ k. omega (arith, c.type_inv.t k))
+    fill-sorted (entries_in x.count (drop 24 x.file.now)) c.requires.once x.count (length-entries_in x.count (drop 24 x.file.now)) c.args.t.now
+    c.requires.room q.new.t q.ensures s.new.t n s.ensures.0 s.ensures.1 (λ k. omega (arith, c.type_inv.t k))

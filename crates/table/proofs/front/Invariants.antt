@@ -12,12 +12,13 @@ use Rattle.rows.specs.Bridging.{upto}
 use Rattle.table.proofs.CheckLaws.{Held}
 use Rattle.table.proofs.front.Given as goal
 
-abbrev pub invariant-entries : goal.invariant-entries
-invariant-entries l = (l.j ≤ l.count) × (l.n ≤ l.j) ×
-    (l.n + upto (get_or l.t ((l.i - 1) * l.step) 0) (get_or l.t ((l.i - 1) * l.step + l.gap) 0) (drop l.j (entries_in l.count (drop 24 l.file))) ≡ upto
-    (get_or l.t ((l.i - 1) * l.step) 0) (get_or l.t ((l.i - 1) * l.step + l.gap) 0) (entries_in l.count (drop 24 l.file))) ×
-    ((m : ℕ) → m < l.j → before (get_or l.t ((l.i - 1) * l.step) 0) (get_or l.t ((l.i - 1) * l.step + l.gap) 0) (rd32 (drop (24 + 12 * m) l.file))
-    (rd32 (drop (24 + 12 * m + 4) l.file)) ≡ false → Held l.file (rows_by l.t l.i l.step l.gap) m)
-
-abbrev pub decreases-entries : goal.decreases-entries
-decreases-entries l = l.count - l.j
+abbrev pub invariant-loop-j : goal.invariant-loop-j
+invariant-loop-j l = record {
+  few : l.n ≤ l.j;
+  count : l.n + upto (get_or l.fn.t.numbers.now ((l.i - 1) * l.fn.t.step) 0) (get_or l.fn.t.numbers.now ((l.i - 1) * l.fn.t.step + l.fn.t.gap) 0)
+      (drop l.j (entries_in l.index.count (drop 24 l.index.file.now))) ≡ upto (get_or l.fn.t.numbers.now ((l.i - 1) * l.fn.t.step) 0)
+      (get_or l.fn.t.numbers.now ((l.i - 1) * l.fn.t.step + l.fn.t.gap) 0) (entries_in l.index.count (drop 24 l.index.file.now));
+  held : (m : ℕ) → m < l.j → before (get_or l.fn.t.numbers.now ((l.i - 1) * l.fn.t.step) 0) (get_or l.fn.t.numbers.now ((l.i - 1) * l.fn.t.step + l.fn.t.gap) 0)
+      (rd32 (drop (24 + 12 * m) l.index.file.now)) (rd32 (drop (24 + 12 * m + 4) l.index.file.now)) ≡ false
+      → Held l.index.file.now (rows_by l.fn.t.numbers.now l.i l.fn.t.step l.fn.t.gap) m;
+}

@@ -1,30 +1,40 @@
 use native.Mathlib.Omega.{arith}
-use mathlib.Core.Path.{refl}
+use lib.Dec.{ltb}
+use Prim.Native.Nat.{◌+◌, ◌≤◌}
+use mathlib.Core.Path.{refl, ◌∙◌}
+use Rattle.rows.proofs.OrderLaws.{counted, one_small}
 use Rattle.table.proofs.CheckLaws.{rank-turn, held-turn, ranked_end}
 use Rattle.table.proofs.ranked.Goals as goal
 
+pub overflow_add-below : goal.overflow_add-below
+overflow_add-below c =
+    let o = c.from-below.ensures ∙ counted (ltb c.key-k.result c.key-sought.result) in
+    let l = c.loop-j.invariant.few in
+    let h : c.loop-j.below + c.from-below.result ≤ c.args.index.now.count = omega (arith, o, one_small (ltb c.key-k.result c.key-sought.result)) in
+    omega (arith, c.args.index.now.few)
+
 pub loop-j-init : goal.loop-j-init
-loop-j-init c = (omega arith, omega arith, omega arith, refl)
+loop-j-init c = record { few = omega arith; rank = omega arith; held = refl }
 
 pub loop-j-preserved : goal.loop-j-preserved
 loop-j-preserved c =
     let a = c.args in
-    let l = c.loop-j in (
-      omega arith,
-      omega (arith, c.one-below.ensures.1),
-      rank-turn a.file.now a.count a.usage a.number a.start l.j
-          c.loop-j-test.true c.entry_key-k.result c.key-sought.result
-          c.entry_key-k.ensures.0 c.entry_key-k.ensures.1 c.key-sought.ensures.0
-          c.key-sought.ensures.1 l.below c.one-below.result c.one-below.ensures.0 l.invariant.2,
-      held-turn a.file.now
-          a.count a.usage a.number a.start l.j c.loop-j-test.true c.entry_key-k.result
-          c.key-sought.result c.entry_key-k.ensures.0 c.entry_key-k.ensures.1
-          c.key-sought.ensures.0 c.key-sought.ensures.1 l.there
-          c.be32_at-s.result c.be32_at-s.ensures.0 l.invariant.3,
-    )
+    let x = a.index.now in
+    let l = c.loop-j in
+    let k = c.key-k in
+    let s = c.key-sought in
+    let o = c.from-below.ensures ∙ counted (ltb c.key-k.result c.key-sought.result) in
+    record {
+      few = omega (arith, o, one_small (ltb c.key-k.result c.key-sought.result));
+      rank = rank-turn x.file.now x.count a.usage a.number a.start l.j c.loop-j-test.true k.result s.result k.ensures.0 k.ensures.1 s.ensures.0
+          s.ensures.1 l.below c.from-below.result o l.invariant.rank;
+      held = held-turn x.file.now x.count a.usage a.number a.start l.j c.loop-j-test.true k.result s.result k.ensures.0 k.ensures.1 s.ensures.0
+          s.ensures.1 l.there c.start-s.result c.start-s.ensures l.invariant.held;
+    }
 
 pub returns : goal.returns
 returns c =
     let a = c.args in
+    let x = a.index.now in
     let l = c.loop-j in
-    ranked_end a.file.now a.count a.usage a.number a.start a.at l.j l.below l.there (omega arith) l.invariant.2 l.invariant.3
+    ranked_end x.file.now x.count a.usage a.number a.start a.at l.j l.below l.there (omega arith) l.invariant.rank l.invariant.held
