@@ -1,4 +1,6 @@
 -- Samples of 02's P8, links, in one table: the place and record of a link, what it reads back, what it is refused for, and its undo.
+use Rattle.std.specs.Prelude.{Ok}
+use Rattle.reader.specs.Reading.{accepted_with, found_with}
 use mathlib.Core.Path.{refl}
 use Prim.Native.Nat.{ℕ}
 use mathlib.Core.List.{List, [], ◌∷◌, ◌++◌}
@@ -10,9 +12,6 @@ use Rattle.blorb.specs.All.{All}
 use Rattle.blorb.specs.Verdict.{refuse}
 use Rattle.edits.specs.Edit.{replace, remove, link}
 use Rattle.edits.specs.Run.{edit, undo}
-use Rattle.reader.specs.declared.Reading.TheVariants.{Accepted}
-use Rattle.reader.specs.declared.Asked.TheVariants.{Given}
-use Rattle.reader.specs.declared.Looked.TheVariants.{Found}
 use Rattle.samples.specs.Files.{A, B, eel, sides, entry, text, kind_of, fronted}
 use Rattle.samples.specs.Rows.{Row, reads, asks, looks, edits, refuses, undoes, runs, RowHolds}
 use Rattle.samples.proofs.Table.{computed}
@@ -53,11 +52,11 @@ unfoldable pub table : List Row
 table =
     -- 02's own: place 2, start 72 in the new file
     edits 0 B (link Pict 1 Pict 2) two_pictures (bare 5 Pict 2 2 72) ∷ (
-    reads 0 two_pictures (Accepted 88 3) ∷ (
-    asks 0 two_pictures 2 (Given (record { usage = usage.Pict; number = 2; start = 72 })) ∷ (
-    looks 0 two_pictures Pict 2 (Found Rect 80 8) sides ∷ (
-    looks 0 two_pictures Pict 1 (Found Rect 80 8) sides ∷ (
-    looks 0 two_pictures Data 7 (Found TEXT 68 3) eel ∷ (
+    reads 0 two_pictures (accepted_with 88 3) ∷ (
+    asks 0 two_pictures 2 (Ok (record { usage = usage.Pict; number = 2; start = 72 })) ∷ (
+    looks 0 two_pictures Pict 2 (found_with Rect 80 8) sides ∷ (
+    looks 0 two_pictures Pict 1 (found_with Rect 80 8) sides ∷ (
+    looks 0 two_pictures Data 7 (found_with TEXT 68 3) eel ∷ (
     undoes 0 two_pictures (bare 5 Pict 2 2 72) B ∷ (
     -- the chunk is shared now
     refuses 0 two_pictures (replace Pict 1 Rect sides) 23 0 ∷ (

@@ -1,4 +1,8 @@
 -- Samples of 02's P4, scaled pictures, in one table. What the code does follows by its contract, which is an equation with scaled_of.
+use Rattle.std.specs.Prelude.{Result}
+use Rattle.blorb.specs.declared.refusal.Refusal.{Refusal}
+use Rattle.blorb.specs.Refusals.{Refused}
+use Rattle.scaling.specs.declared.Sides.{Sides}
 use mathlib.Core.Path.{◌≡◌, refl}
 use Prim.Native.Nat.{ℕ}
 use mathlib.Core.List.{List, [], ◌∷◌, ◌++◌}
@@ -10,9 +14,7 @@ use Rattle.locate.specs.Located.{of_type, located_of}
 use Rattle.ratio.specs.Ratio.{over, smaller, times, raised, lowered, ratio_by, side_by}
 use Rattle.reso.specs.Reso.{Row, listed, rows_from, shaped, row_good_of, rows_good_of, distinct, window_good_of, reso_good, row_of}
 use Rattle.scaling.specs.declared.Asking.{Asking}
-use Rattle.scaling.specs.declared.Scaling.{Scaling}
-use Rattle.scaling.specs.declared.Scaling.TheVariants.{Sides, Refused}
-use Rattle.scaling.specs.Scaled.{Reso, asking, sides_fit_of, reso_scaled, unscaled, scaled_of}
+use Rattle.scaling.specs.Scaled.{Reso, sides, asking, sides_fit_of, reso_scaled, unscaled, scaled_of}
 use Rattle.scaling.proofs.Promises.{Has, Between, between}
 use Rattle.samples.specs.Files.{B}
 use Rattle.samples.proofs.Table.{computed}
@@ -22,9 +24,9 @@ pub record ScaledRow : Type 0 where
   pub profile : ℕ
   pub file : List ℕ
   pub asked : Asking
-  pub answer : Scaling
+  pub answer : Result Sides Refusal
 
-abbrev scales : ℕ → List ℕ → Asking → Scaling → ScaledRow
+abbrev scales : ℕ → List ℕ → Asking → Result Sides Refusal → ScaledRow
 scales p f a s = record { profile = p; file = f; asked = a; answer = s }
 
 abbrev pub ScaledRowHolds : ScaledRow → Type 0
@@ -63,17 +65,17 @@ twice = with_chunks 156 (reso (limited 0 0 0 0 ++ words (1 ∷ (1 ∷ (2 ∷ (0 
 unfoldable pub scaled_samples : List ScaledRow
 scaled_samples =
     -- no 'Reso': the size is kept, and 33 still holds for the caller's sides
-    scales 0 B (asking 1200 800 1 320 0) (Sides 320 0) ∷ (
+    scales 0 B (asking 1200 800 1 320 0) (sides 320 0) ∷ (
     scales 0 B (asking 1200 800 1 320 65536) (Refused 33 0) ∷ (
     -- the standard window gives the picture's own size; a side is rounded down; the smaller of both factors counts
-    scales 0 (scalable 0 0 0 0) (asking 600 400 1 120 90) (Sides 120 90) ∷ (
-    scales 0 (scalable 0 0 0 0) (asking 599 4000 1 3 600) (Sides 2 599) ∷ (
+    scales 0 (scalable 0 0 0 0) (asking 600 400 1 120 90) (sides 120 90) ∷ (
+    scales 0 (scalable 0 0 0 0) (asking 599 4000 1 3 600) (sides 2 599) ∷ (
     -- raised to a least ratio, lowered to a greatest one; the least over the greatest
-    scales 0 (scalable 1 2 0 0) (asking 0 0 1 120 90) (Sides 60 45) ∷ (
-    scales 1 (scalable 1 2 3 2) (asking 6000 4000 1 120 90) (Sides 180 135) ∷ (
+    scales 0 (scalable 1 2 0 0) (asking 0 0 1 120 90) (sides 60 45) ∷ (
+    scales 1 (scalable 1 2 3 2) (asking 6000 4000 1 120 90) (sides 180 135) ∷ (
     scales 0 (scalable 3 2 1 2) (asking 600 400 1 120 90) (Refused 33 0) ∷ (
     -- 65,535 times 65,535 times 65,535
-    scales 0 largest (asking 65535 65535 1 65535 1) (Sides 281462092005375 4294836225) ∷ (
+    scales 0 largest (asking 65535 65535 1 65535 1) (sides 281462092005375 4294836225) ∷ (
     -- a picture twice, though another one is asked for
     scales 0 twice (asking 600 400 2 120 90) (Refused 33 0) ∷ (
     -- a byte too few; the same with a second 'Reso', which goes first; an unknown profile, which goes before all

@@ -1,4 +1,8 @@
 -- Samples of 02's P11, sound lengths, in one table. What the code answers follows by its contract, an equation with the definition that these rows compute.
+use Rattle.std.specs.Prelude.{Result}
+use Rattle.blorb.specs.declared.refusal.Refusal.{Refusal}
+use Rattle.blorb.specs.Refusals.{Refused}
+use Rattle.aiff.specs.declared.Sound.{Sound}
 use mathlib.Core.Path.{◌≡◌, refl}
 use Prim.Native.Nat.{ℕ, ◌+◌}
 use mathlib.Core.List.{List, [], ◌∷◌, ◌++◌}
@@ -10,9 +14,7 @@ use Rattle.blorb.specs.Format.{sized, chunk_in, chunks_in, chunks_of}
 use Rattle.blorb.specs.Verdict.{◌then◌, check, chunk_fault, walk_fault}
 use Rattle.aiff.specs.Rate.{rd16, sign_in, exponent_in, significand_in, numerator, denominator, whole_of, rate_of, rate_in}
 use Rattle.aiff.specs.Common.{COMM, is_form_of, is_filled, is_aiff_of, comms, single, common_of}
-use Rattle.aiff.specs.Length.{sound_of, length_of}
-use Rattle.aiff.specs.declared.Measured.{Measured}
-use Rattle.aiff.specs.declared.Measured.TheVariants.{Sound, Refused}
+use Rattle.aiff.specs.Length.{sound, sound_of, length_of}
 
 -- opens every definition that a row computes with
 computed : ℕ
@@ -38,19 +40,19 @@ name pad = be32 (tag 78 65 77 69) ++ (be32 1 ++ (65 ∷ (pad ∷ [])))
 
 pub record SoundRow : Type 0 where
   pub bytes : List ℕ
-  pub answer : Measured
+  pub answer : Result Sound Refusal
 
-abbrev is : List ℕ → Measured → SoundRow
+abbrev is : List ℕ → Result Sound Refusal → SoundRow
 is b a = record { bytes = b; answer = a }
 
 unfoldable pub sounds : List SoundRow
 sounds =
     -- 44,100 exactly, behind another chunk and alone; the same of a significand that is not normalised
-    is (aiff (name 0 ++ cd)) (Sound 2 88200 16 44100 2) ∷ (
-    is (aiff (common 88200 64 62 0 44100)) (Sound 2 88200 16 44100 2) ∷ (
+    is (aiff (name 0 ++ cd)) (sound 2 88200 16 44100 2) ∷ (
+    is (aiff (common 88200 64 62 0 44100)) (sound 2 88200 16 44100 2) ∷ (
     -- the greatest number of frames at the least rate, and at the greatest; 2^32
-    is (aiff (common 4294967295 63 255 2147483648 0)) (Sound 2 4294967295 16 1 4294967295) ∷ (
-    is (aiff (common 4294967295 64 30 4294967295 0)) (Sound 2 4294967295 16 4294967295 1) ∷ (
+    is (aiff (common 4294967295 63 255 2147483648 0)) (sound 2 4294967295 16 1 4294967295) ∷ (
+    is (aiff (common 4294967295 64 30 4294967295 0)) (sound 2 4294967295 16 4294967295 1) ∷ (
     is (aiff (common 4294967295 64 31 2147483648 0)) (Refused 51 0) ∷ (
     -- 22,254.54.., zero, minus zero, minus 44,100, and the exponent 32,767
     is (aiff (common 88200 64 13 2916947782 264506478)) (Refused 51 0) ∷ (

@@ -1,5 +1,8 @@
 -- The samples of 01, and of 02's requests, proved in one table under a single statement. The rows marked with a star in 01 are all here, one of them as P1
 -- has it; what the code does with these files follows by its contracts, which are equations with the definitions that the rows compute.
+use Rattle.std.specs.Prelude.{Ok}
+use Rattle.blorb.specs.Refusals.{Refused}
+use Rattle.reader.specs.Reading.{accepted_with, found_with}
 use mathlib.Core.Path.{refl}
 use Prim.Native.Nat.{ℕ}
 use mathlib.Core.List.{List, [], ◌∷◌, ◌++◌}
@@ -51,9 +54,6 @@ use Rattle.edits.specs.Run.{
   run,
   answers,
 }
-use Rattle.reader.specs.declared.Reading.TheVariants.{Accepted, Refused}
-use Rattle.reader.specs.declared.Asked.TheVariants.{Given, Refused as NotGiven}
-use Rattle.reader.specs.declared.Looked.TheVariants.{Found, Refused as NotFound}
 use Rattle.samples.specs.Files.{
   blank,
   A,
@@ -150,34 +150,34 @@ unfoldable pub table : List Row
 table =
     -- A: blank, then add Data 7 'TEXT' "eel"
     edits 0 blank (add Data 7 TEXT eel) A added_eel ∷ (
-    reads 0 A (Accepted 48 1) ∷ (
+    reads 0 A (accepted_with 48 1) ∷ (
     -- B: A, then add Pict 1 'Rect' 320 by 0
     edits 0 A (add Pict 1 Rect sides) B added_rect ∷ (
-    reads 0 B (Accepted 76 2) ∷ (
-    asks 0 B 0 (Given (record { usage = usage.Data; number = 7; start = 48 })) ∷ (
-    asks 0 B 1 (Given (record { usage = usage.Pict; number = 1; start = 60 })) ∷ (
+    reads 0 B (accepted_with 76 2) ∷ (
+    asks 0 B 0 (Ok (record { usage = usage.Data; number = 7; start = 48 })) ∷ (
+    asks 0 B 1 (Ok (record { usage = usage.Pict; number = 1; start = 60 })) ∷ (
     -- undo gives A
     undoes 0 B (added_eel ++ added_rect) A ∷ (
     -- B without Data 7, and back
     edits 0 B (remove Data 7) without_eel removed_eel ∷ (
-    reads 0 without_eel (Accepted 52 1) ∷ (
-    asks 0 without_eel 0 (Given (record { usage = usage.Pict; number = 1; start = 36 })) ∷ (
+    reads 0 without_eel (accepted_with 52 1) ∷ (
+    asks 0 without_eel 0 (Ok (record { usage = usage.Pict; number = 1; start = 36 })) ∷ (
     undoes 0 without_eel removed_eel B ∷ (
     -- B with Data 7 as 'BINA', no data, and back
     edits 0 B (replace Data 7 BINA []) binary replaced_eel ∷ (
-    reads 0 binary (Accepted 72 2) ∷ (
-    asks 0 binary 1 (Given (record { usage = usage.Pict; number = 1; start = 56 })) ∷ (
+    reads 0 binary (accepted_with 72 2) ∷ (
+    asks 0 binary 1 (Ok (record { usage = usage.Pict; number = 1; start = 56 })) ∷ (
     undoes 0 binary replaced_eel B ∷ (
     -- 11 bytes; 'FORM' 4 'IFRS'; blank
     reads 0 (take 11 blank) (Refused 2 0) ∷ (
     reads 0 (be32 FORM ++ (be32 4 ++ be32 IFRS)) (Refused 8 12) ∷ (
-    reads 0 blank (Accepted 24 0) ∷ (
+    reads 0 blank (accepted_with 24 0) ∷ (
     -- A with padding byte 1
     reads 0 (set A 47 1) (Refused 7 47) ∷ (
     -- where a chunk broke off (02, P1). A less its last byte, FORM length 39
     reads 0 no_padding (Refused 29 47) ∷ (
-    asks 0 no_padding 0 (NotGiven 29 47) ∷ (
-    looks 0 no_padding Data 7 (NotFound 29 47) [] ∷ (
+    asks 0 no_padding 0 (Refused 29 47) ∷ (
+    looks 0 no_padding Data 7 (Refused 29 47) [] ∷ (
     runs 0 (record { buffer = no_padding ++ replicate 50 9; L = 47; journal = replicate 60 7; U = 0 })
     (edit (add Pict 1 Rect sides) ∷ (edit (replace Data 7 TEXT eel) ∷ (edit (remove Data 7) ∷ (undo ∷ []))))
     (replicate 4 (record { result = refuse 29 47; L = 47; U = 0 }))
@@ -199,12 +199,12 @@ table =
     -- A with count 1,073,741,825 and index length 16
     reads 0 (set (set A 20 64) 23 1) (Refused 10 16) ∷ (
     -- an entry, and one too far
-    asks 0 A 0 (Given (record { usage = usage.Data; number = 7; start = 36 })) ∷ (
-    asks 0 A 1 (NotGiven 22 0) ∷ (
+    asks 0 A 0 (Ok (record { usage = usage.Data; number = 7; start = 36 })) ∷ (
+    asks 0 A 1 (Refused 22 0) ∷ (
     -- lookups
-    looks 0 A Data 7 (Found TEXT 44 3) eel ∷ (
-    looks 0 B Pict 1 (Found Rect 68 8) sides ∷ (
-    looks 0 B Pict 7 (NotFound 22 0) [] ∷ (
+    looks 0 A Data 7 (found_with TEXT 44 3) eel ∷ (
+    looks 0 B Pict 1 (found_with Rect 68 8) sides ∷ (
+    looks 0 B Pict 7 (Refused 22 0) [] ∷ (
     -- a blank file in a buffer of 26 bytes, and in one of 23
     blanks (replicate 26 9) (blank ++ (9 ∷ (9 ∷ []))) ∷ (
     blanks (replicate 23 9) (replicate 23 9) ∷ (
@@ -217,7 +217,7 @@ table =
     (record { buffer = blank ++ (replicate 24 0 ++ (9 ∷ (9 ∷ []))); L = 24; journal = added_eel ++ replicate 31 7; U = 0 }) ∷ (
     -- 02, P5: B with its two entries turned; two entries on one start; 16 and 27 in one entry; entry 1 with 27 and entry 2 with 12
     reads 0 turned (Refused 27 44) ∷ (
-    reads 0 two_names (Accepted 60 2) ∷ (
+    reads 0 two_names (accepted_with 60 2) ∷ (
     reads 0 same_twice (Refused 16 36) ∷ (
     reads 0 low_then_unknown (Refused 27 44) ∷ (
     -- the removal of Data 7 with place 1 in its record: its chunk would go in front of that of the entry before it
@@ -225,31 +225,31 @@ table =
     (record { buffer = without_eel; L = 52; journal = set removed_eel 12 1; U = 32 }) ∷ (
     -- 02, P12. 'GIF ' under Pict: 14 as plain, accepted under ADRIFT; under Snd neither. 'WAV ', 'MIDI' and 'MP3 ' under Snd, and not under Pict
     reads 0 (kind_of Pict GIF) (Refused 14 24) ∷ (
-    reads 1 (kind_of Pict GIF) (Accepted 48 1) ∷ (
-    asks 1 (kind_of Pict GIF) 0 (Given (record { usage = usage.Pict; number = 7; start = 36 })) ∷ (
-    looks 0 (kind_of Pict GIF) Pict 7 (NotFound 14 24) [] ∷ (
-    looks 1 (kind_of Pict GIF) Pict 7 (Found GIF 44 3) eel ∷ (
+    reads 1 (kind_of Pict GIF) (accepted_with 48 1) ∷ (
+    asks 1 (kind_of Pict GIF) 0 (Ok (record { usage = usage.Pict; number = 7; start = 36 })) ∷ (
+    looks 0 (kind_of Pict GIF) Pict 7 (Refused 14 24) [] ∷ (
+    looks 1 (kind_of Pict GIF) Pict 7 (found_with GIF 44 3) eel ∷ (
     reads 1 (kind_of Snd GIF) (Refused 14 24) ∷ (
     reads 0 (kind_of Snd WAV) (Refused 14 24) ∷ (
-    reads 1 (kind_of Snd WAV) (Accepted 48 1) ∷ (
-    reads 1 (kind_of Snd MIDI) (Accepted 48 1) ∷ (
-    reads 1 (kind_of Snd MP3) (Accepted 48 1) ∷ (
+    reads 1 (kind_of Snd WAV) (accepted_with 48 1) ∷ (
+    reads 1 (kind_of Snd MIDI) (accepted_with 48 1) ∷ (
+    reads 1 (kind_of Snd MP3) (accepted_with 48 1) ∷ (
     reads 1 (kind_of Pict WAV) (Refused 14 24) ∷ (
     reads 1 (kind_of Data GIF) (Refused 14 24) ∷ (
     -- a 'GIF ' as the frontispiece's picture
     reads 0 fronted (Refused 14 24) ∷ (
-    reads 1 fronted (Accepted 60 1) ∷ (
+    reads 1 fronted (accepted_with 60 1) ∷ (
     -- what is plain answers the same under ADRIFT, refusals too
-    reads 1 A (Accepted 48 1) ∷ (
-    looks 1 B Pict 1 (Found Rect 68 8) sides ∷ (
+    reads 1 A (accepted_with 48 1) ∷ (
+    looks 1 B Pict 1 (found_with Rect 68 8) sides ∷ (
     reads 1 no_padding (Refused 29 47) ∷ (
     reads 1 (take 11 blank) (Refused 2 0) ∷ (
     -- an unknown profile comes before all others: on 11 bytes, on A, and in a call with L past its buffer
     reads 2 (take 11 blank) (Refused 52 0) ∷ (
     reads 2 A (Refused 52 0) ∷ (
     reads 4294967295 A (Refused 52 0) ∷ (
-    asks 2 A 1 (NotGiven 52 0) ∷ (
-    looks 2 A Data 7 (NotFound 52 0) [] ∷ (
+    asks 2 A 1 (Refused 52 0) ∷ (
+    looks 2 A Data 7 (Refused 52 0) [] ∷ (
     runs 2 (record { buffer = A; L = 49; journal = added_eel; U = 29 })
     (edit (add Pict 1 Rect sides) ∷ (edit (replace Data 7 TEXT eel) ∷ (edit (remove Data 7) ∷ (undo ∷ []))))
     (replicate 4 (record { result = refuse 52 0; L = 49; U = 29 }))

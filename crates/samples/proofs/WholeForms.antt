@@ -1,4 +1,5 @@
 -- Samples of 02's P3, whole 'FORM' files, in one table: what goes in comes out, and where 30 stands in the order.
+use Rattle.reader.specs.Reading.{accepted_with, found_with}
 use mathlib.Core.Path.{refl}
 use Prim.Native.Nat.{ℕ}
 use mathlib.Core.List.{List, [], ◌∷◌, ◌++◌}
@@ -7,8 +8,6 @@ use Rattle.blorb.specs.Bytes.{be32}
 use Rattle.blorb.specs.Tags.{FORM, Pict, Snd, Data, MOD}
 use Rattle.blorb.specs.All.{All}
 use Rattle.edits.specs.Edit.{add, replace, remove}
-use Rattle.reader.specs.declared.Reading.TheVariants.{Accepted}
-use Rattle.reader.specs.declared.Looked.TheVariants.{Found}
 use Rattle.samples.specs.Files.{blank, A, eel, added_eel, two_names, entry, aiff, sound}
 use Rattle.samples.specs.Rows.{Row, reads, looks, edits, refuses, undoes, RowHolds}
 use Rattle.samples.proofs.Table.{computed}
@@ -28,14 +27,14 @@ unfoldable pub table : List Row
 table =
     -- an AIFF of 13 bytes goes in, and the same 13 come out; its chunk has 5 data bytes and a padding byte
     edits 0 blank (add Snd 3 FORM aiff) sound added_sound ∷ (
-    reads 0 sound (Accepted 50 1) ∷ (
-    looks 0 sound Snd 3 (Found FORM 36 13) aiff ∷ (
+    reads 0 sound (accepted_with 50 1) ∷ (
+    looks 0 sound Snd 3 (found_with FORM 36 13) aiff ∷ (
     -- records keep the data only
     edits 0 sound (replace Snd 3 MOD eel) tune (kept_sound 2) ∷ (
     undoes 0 tune (kept_sound 2) sound ∷ (
     edits 0 sound (remove Snd 3) blank (kept_sound 3) ∷ (
     undoes 0 blank (kept_sound 3) sound ∷ (
-    looks 0 tune Snd 3 (Found MOD 44 3) eel ∷ (
+    looks 0 tune Snd 3 (found_with MOD 44 3) eel ∷ (
     -- 7 bytes; 8 good bytes
     refuses 0 blank (add Snd 3 FORM (take 7 aiff)) 30 0 ∷ (
     refuses 0 blank (add Snd 3 FORM (be32 FORM ++ be32 0)) 114 24 ∷ (

@@ -1,17 +1,17 @@
 -- What a row of the group files' samples says, and the pieces that their files are made of.
-use Rattle.std.specs.Prelude.{◌≡◌, ℕ, zero, suc, List, [], ◌∷◌, ◌++◌, length}
+use Rattle.blorb.specs.declared.refusal.Refusal.{Refusal}
+use Rattle.groups.specs.declared.Picked.{Picked}
+use Rattle.std.specs.Prelude.{◌≡◌, ℕ, zero, suc, List, [], ◌∷◌, ◌++◌, length, Result}
 use Rattle.blorb.specs.Bytes.{be32}
 use Rattle.blorb.specs.Tags.{tag, FORM}
 use Rattle.members.specs.Kinds.{CAT}
 use Rattle.groups.specs.Files.{list_of, listed, pick_of}
-use Rattle.groups.specs.declared.Listing.{Listing}
-use Rattle.groups.specs.declared.Picking.{Picking}
 
 pub data FormRow : Type 0 where
   -- a file, a slice, the answer of listing the file's FORMs there, and the slice afterwards
-  lists : List ℕ → List ℕ → Listing → List ℕ → FormRow
+  lists : List ℕ → List ℕ → Result ℕ Refusal → List ℕ → FormRow
   -- a file, a row, and the answer of picking it
-  picks : List ℕ → ℕ → Picking → FormRow
+  picks : List ℕ → ℕ → Result Picked Refusal → FormRow
 
 abbrev pub FormRowHolds : FormRow → Type 0
 FormRowHolds (lists f t answer after) = (list_of f (length t) ≡ answer) × (listed f t ≡ after)

@@ -1,5 +1,9 @@
 -- What a row of the sample table says. Each row but that of a blank file names the profile first (02, P12).
-use Rattle.std.specs.Prelude.{◌≡◌, ℕ, ◌-◌, List, [], ◌++◌, length, replicate}
+use Rattle.blorb.specs.declared.refusal.Refusal.{Refusal}
+use Rattle.blorb.specs.declared.Entry.{Entry}
+use Rattle.reader.specs.declared.Accepted.{Accepted}
+use Rattle.reader.specs.declared.Resource.{Resource}
+use Rattle.std.specs.Prelude.{◌≡◌, ℕ, ◌-◌, List, [], ◌++◌, length, replicate, Result}
 use Rattle.blorb.specs.Verdict.{accept, refuse}
 use Rattle.blorb.specs.Rules.{rules_of}
 use Rattle.edits.specs.Edit.{Edit}
@@ -7,18 +11,15 @@ use Rattle.edits.specs.Blank.{blanked}
 use Rattle.edits.specs.Run.{State, state, file_in, Call, edit, undo, Answer, fault, edited_file, edit_record, undone_file, answers, run}
 use Rattle.edits.specs.Demand3.{list_after}
 use Rattle.edits.specs.TwoEditors.{grown, shrunk}
-use Rattle.reader.specs.declared.Reading.{Reading}
-use Rattle.reader.specs.declared.Asked.{Asked}
-use Rattle.reader.specs.declared.Looked.{Looked}
 use Rattle.reader.specs.Reading.{read_of, asked_of, lookup_of, part_of}
 
 pub data Row : Type 0 where
   -- a file and what the reader answers
-  reads : (profile : ℕ) → List ℕ → Reading → Row
+  reads : (profile : ℕ) → List ℕ → Result Accepted Refusal → Row
   -- a file, an entry's place and the answer
-  asks : (profile : ℕ) → List ℕ → ℕ → Asked → Row
+  asks : (profile : ℕ) → List ℕ → ℕ → Result Entry Refusal → Row
   -- a file, a usage and number, the lookup's answer and the part it names
-  looks : (profile : ℕ) → List ℕ → ℕ → ℕ → Looked → List ℕ → Row
+  looks : (profile : ℕ) → List ℕ → ℕ → ℕ → Result Resource Refusal → List ℕ → Row
   -- a file, an edit, the file after it and its journal record; both buffers have 100 bytes
   edits : (profile : ℕ) → List ℕ → Edit → List ℕ → List ℕ → Row
   -- a file, an edit, and the number and place of its refusal; both buffers have 100 bytes

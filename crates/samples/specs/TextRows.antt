@@ -1,5 +1,6 @@
 -- What a row of the samples of texts says (02, P7).
-use Rattle.std.specs.Prelude.{◌≡◌, ℕ, List}
+use Rattle.blorb.specs.declared.refusal.Refusal.{Refusal}
+use Rattle.std.specs.Prelude.{◌≡◌, ℕ, List, Result}
 use Rattle.utf8.specs.Utf8.{good_length_of}
 use Rattle.descriptions.specs.Texts.{described_of, told_of}
 use Rattle.descriptions.specs.declared.Described.{Described}
@@ -9,9 +10,9 @@ pub data TextRow : Type 0 where
   -- a text, and how many bytes its longest good beginning has
   good : List ℕ → ℕ → TextRow
   -- a profile, a file, an entry's number, and what reading it answers
-  describes : (profile : ℕ) → List ℕ → ℕ → Described → TextRow
+  describes : (profile : ℕ) → List ℕ → ℕ → Result Described Refusal → TextRow
   -- a profile, a file, a usage and number, and what looking the text up answers
-  tells : (profile : ℕ) → List ℕ → ℕ → ℕ → Told → TextRow
+  tells : (profile : ℕ) → List ℕ → ℕ → ℕ → Result Told Refusal → TextRow
 
 abbrev pub TextRowHolds : TextRow → Type 0
 TextRowHolds (good s n) = good_length_of s ≡ n
