@@ -16,25 +16,26 @@ use Rattle.utf8.specs.Utf8.{good_length_of}
 use Rattle.utf8.proofs.Longest.{longest}
 use Rattle.rdes.specs.Rdes.{usage_at, number_at, size_at, text_at, next_at, offset_of, fills_from, fills, good_text, descs_from, entries_fault, chunk_fault}
 use Rattle.rdes.proofs.EntryLaws.{Room, room_at, text-length, fills-all}
-use Rattle.descriptions.specs.Texts.{pick_told, tell_from_of}
-use Rattle.descriptions.specs.Opened.{GoodTo, BadAt}
-use Rattle.descriptions.specs.declared.Told.TheVariants.{Text, Refused}
+use Rattle.std.specs.Prelude.{Some, None, cond}
+use Rattle.descriptions.specs.Texts.{told_with, tell_from_of}
+use Rattle.descriptions.specs.Faults.{GoodTo, BadAt}
+use Rattle.descriptions.specs.declared.entries.BadText.{BadText}
 
 -- the search for a pair
 module _ (u k : ℕ) (d : List ℕ) (base n : ℕ) where
   pub tell-start : (at : ℕ) → tell_from_of u k d base (n - 0) at ≡ tell_from_of u k d base n at
   tell-start at = let e : n - 0 ≡ n = omega arith in rw e
 
-  pub tell_end : (i at : ℕ) → n ≤ i → Refused 22 0 ≡ tell_from_of u k d base (n - i) at
+  pub tell_end : (i at : ℕ) → n ≤ i → None ≡ tell_from_of u k d base (n - i) at
   unfolding tell_from_of
   tell_end i at h = let e : n - i ≡ 0 = omega arith in rw e
 
   module _ (i at : ℕ) (h : i < n) (b : Bool) (eb : b ≡ (eqb (usage_at d at) u && eqb (number_at d at) k)) where
-    tell-is : tell_from_of u k d base (n - i) at ≡ pick_told b (Text (base + at + 12) (size_at d at)) (tell_from_of u k d base (n - (i + 1)) (next_at d at))
+    tell-is : tell_from_of u k d base (n - i) at ≡ cond b (Some (told_with (base + at + 12) (size_at d at))) (tell_from_of u k d base (n - (i + 1)) (next_at d at))
     unfolding tell_from_of
     tell-is = let e : n - i ≡ suc (n - (i + 1)) = omega arith in rw (e, eb)
 
-    pub tell_hit : b ≡ true → (m : ℕ) → m ≡ size_at d at → Text (base + at + 12) m ≡ tell_from_of u k d base (n - i) at
+    pub tell_hit : b ≡ true → (m : ℕ) → m ≡ size_at d at → Some (told_with (base + at + 12) m) ≡ tell_from_of u k d base (n - i) at
     tell_hit t m e = rw e (sym (tell-is ∙ rw t))
 
     pub tell-next : b ≡ false → (x : ℕ) → x ≡ next_at d at → tell_from_of u k d base (n - (i + 1)) x ≡ tell_from_of u k d base (n - i) at
@@ -69,10 +70,10 @@ good_more d i at e g f j h = go (eq-or-lt_of_le h)
     go (inr q) = f j (omega arith)
 
 -- the good beginning of the first bad text lies in the data
-pub bad_within : (d : List ℕ) (count t at g : ℕ) → fills_from d count 4 ≡ true → BadAt d count t at g → at + 12 + g ≤ length d
-bad_within d count t at g e b =
-    let r : Room d at = room_at d count t 4 at b.inside e b.place in
-    omega (arith, (longest (text_at d at)).1, b.measured, text-length d at r.text, r.text)
+pub bad_within : (d : List ℕ) (count : ℕ) (t : BadText) → fills_from d count 4 ≡ true → BadAt d count t → t.at + 12 + t.good ≤ length d
+bad_within d count t e b =
+    let r : Room d t.at = room_at d count t.entry 4 t.at b.inside e b.place in
+    omega (arith, (longest (text_at d t.at)).1, b.measured, text-length d t.at r.text, r.text)
 
 -- 37 to 39 of a chunk, by the test whether its entries fill the data
 module _ (d : List ℕ) (x : ℕ) (b : Bool) (e : b ≡ fills d) where

@@ -20,10 +20,10 @@ use Rattle.rdes.proofs.EntryLaws.{offset-none, offset-next, descs_length, entry_
 use Rattle.rdes.proofs.FaultLaws.{span, none, Clean, clean_all, clean_38, clean_39, offset-span}
 use Rattle.repeats.specs.Keys.{pair_key_of, entry_at, entry_key_of, EntriesInside}
 use Rattle.repeats.specs.Repeats.{among, first_repeat_of, Apart}
-use Rattle.repeats.specs.declared.First.{First}
-use Rattle.repeats.specs.declared.First.TheVariants.{At, Nothing}
+use Rattle.std.specs.Prelude.{Option, Some, None}
+use Rattle.descriptions.specs.declared.entries.BadText.{BadText}
 use Rattle.repeats.proofs.Answers.{among_none, answer_at, answer_nothing}
-use Rattle.descriptions.specs.Opened.{GoodTo, BadAt, repeated_by, repeat_fault}
+use Rattle.descriptions.specs.Faults.{GoodTo, BadAt, repeated_by, repeat_fault}
 
 module _ (d : List ℕ) where
   -- the entries stand where the search for a repeat finds them
@@ -36,11 +36,11 @@ module _ (d : List ℕ) where
 
   -- 38 by the answer of the search
   module _ (base n : ℕ) where
-    pub repeat_none : first_repeat_of (entry_key_of d 4) n ≡ Nothing → accept ≡ repeat_fault d base n
+    pub repeat_none : first_repeat_of (entry_key_of d 4) n ≡ None → accept ≡ repeat_fault d base n
     unfolding repeat_fault
     repeat_none e = rw e
 
-    pub repeat_at : (j x : ℕ) → first_repeat_of (entry_key_of d 4) n ≡ At j → x ≡ offset_of d j 4 → refuse 38 (base + x) ≡ repeat_fault d base n
+    pub repeat_at : (j x : ℕ) → first_repeat_of (entry_key_of d 4) n ≡ Some j → x ≡ offset_of d j 4 → refuse 38 (base + x) ≡ repeat_fault d base n
     unfolding repeat_fault
     repeat_at j x e s = rw (e, s)
 
@@ -92,7 +92,7 @@ module _ (d : List ℕ) where
       place_is : (n : ℕ) → n ≤ count → base + 4 + span (take n ds) ≡ base + offset_of d n 4
       place_is n h = omega (arith, offset-span d count n 4 h filled)
 
-      fault_38 : (n j : ℕ) → n ≤ count → first_repeat_of (entry_key_of d 4) n ≡ At j → GoodTo d j → entries_fault [] (base + 4) ds ≡ refuse 38 (base + offset_of d j 4)
+      fault_38 : (n j : ℕ) → n ≤ count → first_repeat_of (entry_key_of d 4) n ≡ Some j → GoodTo d j → entries_fault [] (base + 4) ds ≡ refuse 38 (base + offset_of d j 4)
       fault_38 n j h e g =
           let a = answer_at (entry_key_of d 4) n j e in
           let l : j < count = omega (arith, a.0) in
@@ -107,40 +107,43 @@ module _ (d : List ℕ) where
       unfolding repeat_fault
       entries-good g = go (first_repeat_of (entry_key_of d 4) count) refl
         where
-          go : (r : First) → first_repeat_of (entry_key_of d 4) count ≡ r → repeated_by d base r ≡ entries_fault [] (base + 4) ds
-          go (At j) e =
+          go : (r : Option ℕ) → first_repeat_of (entry_key_of d 4) count ≡ r → repeated_by d base r ≡ entries_fault [] (base + 4) ds
+          go (Some j) e =
               let a = answer_at (entry_key_of d 4) count j e in
               sym (fault_38 count j (omega arith) e (good_fewer count j (omega (arith, a.0)) g))
-          go Nothing e =
+          go None e =
               sym (clean_all ds (base + 4) count (clean count (omega arith) (answer_nothing (entry_key_of d 4) count e) g) (descs_length d count 4))
 
       -- the text of entry t is the first bad one, and n entries were asked for a repeat: one up to t comes before it; if there is none, and t is among
       -- them, the bad text decides
-      module _ (t at g : ℕ) (b : BadAt d count t at g) (n : ℕ) where
+      module _ (w : BadText) (b : BadAt d count w) (n : ℕ) where
+        abbrev t : ℕ
+        t = w.entry
+
         pub entries-again : (k p : ℕ) → repeat_fault d base n ≡ refuse k p → n ≤ t + 1 → refuse k p ≡ entries_fault [] (base + 4) ds
         unfolding repeat_fault
         entries-again k p e h = go (first_repeat_of (entry_key_of d 4) n) refl e
           where
-            go : (r : First) → first_repeat_of (entry_key_of d 4) n ≡ r → repeated_by d base r ≡ refuse k p → refuse k p ≡ entries_fault [] (base + 4) ds
-            go (At j) f q =
+            go : (r : Option ℕ) → first_repeat_of (entry_key_of d 4) n ≡ r → repeated_by d base r ≡ refuse k p → refuse k p ≡ entries_fault [] (base + 4) ds
+            go (Some j) f q =
                 let a = answer_at (entry_key_of d 4) n j f in
                 sym q ∙ sym (fault_38 n j (omega (arith, b.inside)) f (good_fewer t j (omega (arith, a.0)) b.before))
-            go Nothing f q = let z : ◌≡◌ {A = ℕ} 0 1 = cc in absurd (omega arith)
+            go None f q = let z : ◌≡◌ {A = ℕ} 0 1 = cc in absurd (omega arith)
 
-        pub entries_bad : repeat_fault d base n ≡ accept → n ≤ count → t < n → refuse 39 (base + at + 12 + g) ≡ entries_fault [] (base + 4) ds
+        pub entries_bad : repeat_fault d base n ≡ accept → n ≤ count → t < n → refuse 39 (base + w.at + 12 + w.good) ≡ entries_fault [] (base + 4) ds
         unfolding repeat_fault Apart
         entries_bad e h m = go (first_repeat_of (entry_key_of d 4) n) refl e
           where
-            go : (r : First) → first_repeat_of (entry_key_of d 4) n ≡ r → repeated_by d base r ≡ accept
-                → refuse 39 (base + at + 12 + g) ≡ entries_fault [] (base + 4) ds
-            go (At j) f q = let z : ◌≡◌ {A = ℕ} 0 1 = cc in absurd (omega arith)
-            go Nothing f q =
+            go : (r : Option ℕ) → first_repeat_of (entry_key_of d 4) n ≡ r → repeated_by d base r ≡ accept
+                → refuse 39 (base + w.at + 12 + w.good) ≡ entries_fault [] (base + 4) ds
+            go (Some j) f q = let z : ◌≡◌ {A = ℕ} 0 1 = cc in absurd (omega arith)
+            go None f q =
                 let a = answer_nothing (entry_key_of d 4) n f in
                 let l : t < count = b.inside in
                 let i : t < length ds = rw (descs_length d count 4) l in
-                let x : (entry t).text ≡ text_at d at = rw (entry_of_lem d count t 4 none l, b.place) in
+                let x : (entry t).text ≡ text_at d w.at = rw (entry_of_lem d count t 4 none l, b.place) in
                 let c : Clean ds t = clean t (omega arith) (λ i j z k o. a i j z k (omega arith)) b.before in
-                let w = fresh_at n t h a m in
-                let v : base + 4 + span (take t ds) + 12 + good_length_of (entry t).text ≡ base + at + 12 + g
+                let new = fresh_at n t h a m in
+                let v : base + 4 + span (take t ds) + 12 + good_length_of (entry t).text ≡ base + w.at + 12 + w.good
                 = rw (x, ← b.measured, b.place) (omega (arith, place_is t (omega arith))) in
-                sym (clean_39 ds (base + 4) t c i w (ap good_text x ∙ b.bad) ∙ ap (refuse 39) v)
+                sym (clean_39 ds (base + 4) t c i new (ap good_text x ∙ b.bad) ∙ ap (refuse 39) v)

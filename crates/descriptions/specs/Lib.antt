@@ -1,2 +1,4 @@
+pub mod Placed
 pub mod Texts
+pub mod Faults
 pub mod Opened
