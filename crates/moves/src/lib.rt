@@ -50,10 +50,11 @@ pub fn put32(buf: &mut [u8], at: usize, v: u64)
     ensures { buf.new ≡ noted buf.old at (be32 v) }
 {
     let low = (v % 0x1_0000_0000) as u32;
-    copy_in(buf, at, &low.to_be_bytes());
+    buf[at..at + 4].copy_from_slice(&low.to_be_bytes());
 }
 
-// The data at `at`.
+// The data at `at`. Its code is some 300 bytes, so it stands once.
+#[inline(never)]
 pub fn copy_in(buf: &mut [u8], at: usize, d: &[u8])
     requires { at + length d.now ≤ length buf.old }
     ensures { buf.new ≡ noted buf.old at d.now }

@@ -17,6 +17,7 @@ fn move_part(buf: &mut [u8], to: usize, from: usize, n: usize)
 }
 
 // The bytes from `at` up to `len` go `k` further right, the last part first. All others stay.
+#[inline(never)]
 pub fn shift_right(buf: &mut [u8], at: usize, len: usize, k: usize)
     requires { (at ≤ len) × (len + k ≤ length buf.old) }
     ensures { buf.new ≡ slid buf.old (at + k) at (len - at) }
@@ -28,6 +29,7 @@ pub fn shift_right(buf: &mut [u8], at: usize, len: usize, k: usize)
 }
 
 // The bytes from `at` up to `len` go `k` further left, the first part first. All others stay.
+#[inline(never)]
 pub fn shift_left(buf: &mut [u8], at: usize, len: usize, k: usize)
     requires { (k ≤ at) × ((at ≤ len) × (len ≤ length buf.old)) }
     ensures { buf.new ≡ slid buf.old (at - k) at (len - at) }
