@@ -22,24 +22,24 @@ tag_is f from to bytes e h =
     let n : to - from ≡ 4 = omega arith in
     rw n (sym (again (drop from f) (all_drop Byte from f bytes) (simp length-drop (omega arith))))
 
-module _ (out : List ℕ) (a b e : ℕ) (o1 o2 o3 : List ℕ) where
-  pub head_line_lem : (size count : ℕ) → Wrote out 0 (text "blorb " ++ decimal size) a o1 → Wrote o1 a (text " bytes " ++ decimal count) b o2
+module _ (out : List ℕ) (at a b e : ℕ) (o1 o2 o3 : List ℕ) where
+  pub head_line_lem : (size count : ℕ) → Wrote out at (text "blorb " ++ decimal size) a o1 → Wrote o1 a (text " bytes " ++ decimal count) b o2
       → Wrote o2 b (text " resources\n") e o3
-      → Wrote out 0 (head_line size count) e o3 × (e ≤ 64)
+      → Wrote out at (head_line size count) e o3 × (e ≤ at + 64)
   unfolding head_line
   head_line_lem size count w1 w2 w3 =
-      let v = more_two out 0 (text "blorb " ++ decimal size) a o1 w1 (text " bytes ") (decimal count) b o2 w2 in (
-        more out 0 (text "blorb " ++ decimal size ++ text " bytes " ++ decimal count) b o2 v (text " resources\n") e o3 w3,
+      let v = more_two out at (text "blorb " ++ decimal size) a o1 w1 (text " bytes ") (decimal count) b o2 w2 in (
+        more out at (text "blorb " ++ decimal size ++ text " bytes " ++ decimal count) b o2 v (text " resources\n") e o3 w3,
         omega (arith, w1.0, w2.0, w3.0, decimal_20 size, decimal_20 count),
       )
 
-  pub refused_line_lem : (number place : ℕ) → Wrote out 0 (text "refused " ++ decimal number) a o1 → Wrote o1 a (text " at " ++ decimal place) b o2
+  pub refused_line_lem : (number place : ℕ) → Wrote out at (text "refused " ++ decimal number) a o1 → Wrote o1 a (text " at " ++ decimal place) b o2
       → Wrote o2 b (text "\n") e o3
-      → Wrote out 0 (refused_line number place) e o3 × (e ≤ 64)
+      → Wrote out at (refused_line number place) e o3 × (e ≤ at + 64)
   unfolding refused_line
   refused_line_lem number place w1 w2 w3 =
-      let v = more_two out 0 (text "refused " ++ decimal number) a o1 w1 (text " at ") (decimal place) b o2 w2 in (
-        more out 0 (text "refused " ++ decimal number ++ text " at " ++ decimal place) b o2 v (text "\n") e o3 w3,
+      let v = more_two out at (text "refused " ++ decimal number) a o1 w1 (text " at ") (decimal place) b o2 w2 in (
+        more out at (text "refused " ++ decimal number ++ text " at " ++ decimal place) b o2 v (text "\n") e o3 w3,
         omega (arith, w1.0, w2.0, w3.0, decimal_20 number, decimal_20 place),
       )
 

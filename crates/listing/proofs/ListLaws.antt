@@ -61,12 +61,13 @@ module _ (out : List ℕ) (room : ℕ) (t : List ℕ) where
   unfolding listed_in
   no_room h = (rw (lt-leb room (length out) h), refl)
 
-  pub written : (to : ℕ) (after : List ℕ) → room ≤ length out → to ≤ room → Wrote out 0 t to after → (Some to ≡ listed_in (length out) room t)
-      × (after ≡ out_by (Some to) t out)
+  -- `after` is what the page leaves, and the buffer ends as that
+  pub written : (to : ℕ) (after last : List ℕ) → last ≡ after → room ≤ length out → to ≤ room → Wrote out 0 t to after
+      → (Some to ≡ listed_in (length out) room t) × (last ≡ out_by (Some to) t out)
   unfolding listed_in
-  written to after h l w =
+  written to after last e h l w =
       let s = from_start out t to after (omega (arith, w.0)) w in
-      (rw (le-leb room (length out) h) (ap Some s.0), s.1 ∙ ap (λ (k : ℕ). t ++ drop k out) (sym s.0))
+      (rw (le-leb room (length out) h) (ap Some s.0), e ∙ s.1 ∙ ap (λ (k : ℕ). t ++ drop k out) (sym s.0))
 
 -- by the reader's answer
 module _ (f out after : List ℕ) (r : Option ℕ) (v : Result Accepted Refusal) where

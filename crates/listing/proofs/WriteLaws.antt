@@ -1,11 +1,11 @@
 -- Text written piece by piece.
-use mathlib.Core.Path.{◌≡◌, refl, sym, ap, ◌∙◌}
+use mathlib.Core.Path.{◌≡◌, sym, ap, ◌∙◌}
 use Prim.Native.Nat.{ℕ, suc, ◌+◌, ◌-◌, ◌/◌, ◌%◌, ◌^◌, ◌≤◌, ◌<◌}
 use mathlib.Core.List.{List, [], ◌∷◌, ◌++◌, append_assoc}
 use native.Mathlib.Omega.{arith}
 use native.Mathlib.Nat.{add-zero, zero-add}
 use lib.ListN.{length, take, drop, set, length-append}
-use lib.Seq.{sets, sets-eq, drop-drop}
+use lib.Seq.{sets, sets-eq, length-sets, drop-drop}
 use borrow.Rule.Slice.PartMut.{put_mid}
 use Rattle.listing.specs.Text.{digit, decimal}
 use Rattle.listing.specs.InPlace.{Wrote}
@@ -16,6 +16,10 @@ sets_append [] l b i = ap (λ (k : ℕ). sets l k b) (sym (add-zero i))
 sets_append (x ∷ a) l b i =
     let e : suc i + length a ≡ i + suc (length a) = omega arith in
     sets_append a (set l i x) b (suc i) ∙ ap (λ (k : ℕ). sets (sets (set l i x) (suc i) a) k b) e
+
+-- the buffer keeps its length
+pub kept : (out : List ℕ) (at : ℕ) (t : List ℕ) (to : ℕ) (after : List ℕ) → Wrote out at t to after → length after ≡ length out
+kept out at t to after w = ap length w.1 ∙ length-sets out at t
 
 -- a piece, and another one behind it
 module _ (out : List ℕ) (at : ℕ) (p : List ℕ) (to : ℕ) (mid : List ℕ) (w : Wrote out at p to mid) (q : List ℕ) (end : ℕ) (after : List ℕ) where
@@ -40,13 +44,13 @@ text_in out t at to s e h same =
     )
 
 -- a number, its last digit last
-pub one-digit : (out : List ℕ) (at n : ℕ) → n < 10 → Wrote out at (decimal n) (at + 1) (set out at (48 + n))
-one-digit out at n h = rw (decimal-one n h) (refl, refl)
+pub one-digit : (out : List ℕ) (at n to : ℕ) (after : List ℕ) → n < 10 → Wrote out at ((48 + n) ∷ []) to after → Wrote out at (decimal n) to after
+one-digit out at n to after h w = rw (decimal-one n h) w
 
-pub last_digit_lem : (out : List ℕ) (at n to : ℕ) (mid : List ℕ) → 10 ≤ n → n < 2 ^ 64 → Wrote out at (decimal (n / 10)) to mid → Wrote out at (decimal n)
-    (to + 1) (set mid to (48 + n % 10))
-last_digit_lem out at n to mid h l w = rw (decimal_on n h l) (more out at (decimal (n / 10)) to mid w (digit (n % 10) ∷ []) (to + 1)
-    (set mid to (48 + n % 10)) (refl, refl))
+pub last_digit_lem : (out : List ℕ) (at n to : ℕ) (mid : List ℕ) → 10 ≤ n → n < 2 ^ 64 → Wrote out at (decimal (n / 10)) to mid → (end : ℕ) (after : List ℕ)
+    → Wrote mid to ((48 + n % 10) ∷ []) end after
+    → Wrote out at (decimal n) end after
+last_digit_lem out at n to mid h l w end after v = rw (decimal_on n h l) (more out at (decimal (n / 10)) to mid w (digit (n % 10) ∷ []) end after v)
 
 -- what is left from the buffer's beginning on
 pub from_start : (out t : List ℕ) (to : ℕ) (after : List ℕ) → length t ≤ length out → Wrote out 0 t to after

@@ -5,10 +5,15 @@ use Rattle.blorb.specs.Bytes.{be32, rd32}
 use Rattle.blorb.specs.Lookup.{left_out_of}
 use Rattle.index.specs.Entries.{usage_at, number_at, start_at}
 use Rattle.listing.specs.Text.{text, decimal}
+use Rattle.listing.specs.declared.Page.{Page}
 
 -- the buffer `out` with t written into it from `from` on is `after`, and t ends at `to`
 abbrev pub Wrote : List ℕ → ℕ → List ℕ → ℕ → List ℕ → Type 0
 Wrote out from t to after = (to ≡ from + length t) × (after ≡ sets out from t)
+
+-- a page with t written behind what it had, in the same buffer
+abbrev pub Writes : Page → List ℕ → Page → Type 0
+Writes before t after = Wrote before.out.now before.at t after.at after.out.now × (after.out.ghost_name ≡ before.out.ghost_name)
 
 -- the line of the entry at p: its fields, then type of the chunk that starts where it says and length of what a lookup gives of it
 unfoldable pub fields_at : List ℕ → ℕ → List ℕ

@@ -8,13 +8,12 @@ use Rattle.blorb.proofs.ByteLaws.{length-be32}
 use Rattle.blorb.specs.All.{All}
 use Rattle.blorb.proofs.Accept.{bytes-all}
 use Rattle.listing.proofs.LineLaws.{tag_is}
-use Rattle.listing.proofs.put_tag.Goals as goal
+use Rattle.listing.proofs.Page.tag.Goals as goal
 
 pub returns : goal.returns
 returns c =
     let a = c.args in
     let f = a.file.now in
     let bytes : All Byte f = bytes-all f (λ i. omega (arith, c.type_inv.file i)) in
-    let w = rw (tag_is f a.from (a.from + 4) bytes refl c.requires.0) at
-    c.put_text.ensures in
-    (w, omega (arith, w.0, length-be32 (rd32 (drop a.from f))))
+    let w = rw (tag_is f a.from (a.from + 4) bytes refl c.requires.0) at c.text.ensures.0 in
+    ((w, c.text.ensures.1), omega (arith, w.0, length-be32 (rd32 (drop a.from f))))

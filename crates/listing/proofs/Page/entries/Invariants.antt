@@ -3,8 +3,8 @@ use Prim.Native.Nat.{◌+◌, ◌*◌, ◌≤◌}
 use lib.ListN.{take}
 use Rattle.reader.specs.Reading.{index_of}
 use Rattle.listing.specs.Listing.{lines_of}
-use Rattle.listing.specs.InPlace.{Wrote}
-use Rattle.listing.proofs.put_entries.Given as goal
+use Rattle.listing.specs.InPlace.{Writes}
+use Rattle.listing.proofs.Page.entries.Given as goal
 
 abbrev pub invariant-loop-i : goal.invariant-loop-i
-invariant-loop-i l = (l.to ≤ l.at + 48 * l.i) × Wrote l.initial.out l.at (lines_of l.file (take l.i (index_of l.file))) l.to l.out
+invariant-loop-i l = Writes l.initial.self (lines_of l.file (take l.i (index_of l.file))) l.self × (l.self.at ≤ l.initial.self.at + 48 * l.i)
