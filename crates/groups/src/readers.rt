@@ -31,13 +31,13 @@ pub enum Member {
     },
 }
 
-// The members of a PROP, plain chunks only.
-fn prop_in(first: Spot) -> Result<(), Refusal>
-    requires { first.place ≡ InProp }
+// The members of a PROP whose data ends at `close`, plain chunks only.
+fn prop_in(prop: &Spot, close: usize) -> Result<(), Refusal>
+    requires { (prop.now.at ≤ length prop.now.file.now) × (close ≤ length prop.now.file.now) × (prop.now.depth ≤ 17) }
     ensures { verdict_of result
-        ≡ first_fault (members first.entry.file.now InProp first.entry.depth first.entry.end first.entry.at) }
+        ≡ first_fault (members prop.now.file.now InProp (prop.now.depth + 1) close (prop.now.at + 12)) }
 {
-    let mut spot = first;
+    let mut spot = prop.within(Place::InProp, close);
     while spot.at < spot.end {
         spot.fault()?;
         spot = spot.moved_to(spot.next(), Place::InProp);
@@ -46,10 +46,10 @@ fn prop_in(first: Spot) -> Result<(), Refusal>
 }
 
 // One member, with all that a PROP holds.
-fn member_at(spot: Spot) -> Result<Member, Refusal>
-    requires { spot.depth ≤ 17 }
+fn member_at(spot: &Spot) -> Result<Member, Refusal>
+    requires { spot.now.depth ≤ 17 }
     ensures { result
-        ≡ member_at_of spot.entry.file.now spot.entry.place spot.entry.depth spot.entry.end spot.entry.at }
+        ≡ member_at_of spot.now.file.now spot.now.place spot.now.depth spot.now.end spot.now.at }
 {
     spot.fault()?;
     let close = spot.close();
@@ -71,7 +71,7 @@ fn member_at(spot: Spot) -> Result<Member, Refusal>
             after,
         }),
         Kind::Prop => {
-            prop_in(spot.within(Place::InProp, close))?;
+            prop_in(spot, close)?;
             Ok(Member::Passed { next, after })
         }
         Kind::Plain => Ok(Member::Passed { next, after }),
@@ -79,10 +79,10 @@ fn member_at(spot: Spot) -> Result<Member, Refusal>
 }
 
 // Most members are FORMs and, in a FORM, plain chunks: those without a fault are found with one look at the header. None: it tells too little.
-fn quick_look(spot: Spot) -> Option<Member>
-    requires { spot.at ≤ spot.end }
+fn quick_look(spot: &Spot) -> Option<Member>
+    requires { spot.now.at ≤ spot.now.end }
     ensures { IfSome result
-        (λ m. member_at_of spot.entry.file.now spot.entry.place spot.entry.depth spot.entry.end spot.entry.at ≡ Ok m) }
+        (λ m. member_at_of spot.now.file.now spot.now.place spot.now.depth spot.now.end spot.now.at ≡ Ok m) }
 {
     if spot.end - spot.at < 8 {
         return None;
@@ -109,10 +109,10 @@ fn quick_look(spot: Spot) -> Option<Member>
 }
 
 // The member at a spot, by a quick look where that tells enough.
-fn next_member(spot: Spot) -> Result<Member, Refusal>
-    requires { (spot.at ≤ spot.end) × (spot.depth ≤ 17) }
+fn next_member(spot: &Spot) -> Result<Member, Refusal>
+    requires { (spot.now.at ≤ spot.now.end) × (spot.now.depth ≤ 17) }
     ensures { result
-        ≡ member_at_of spot.entry.file.now spot.entry.place spot.entry.depth spot.entry.end spot.entry.at }
+        ≡ member_at_of spot.now.file.now spot.now.place spot.now.depth spot.now.end spot.now.at }
 {
     match quick_look(spot) {
         Some(member) => Ok(member),
@@ -120,16 +120,16 @@ fn next_member(spot: Spot) -> Result<Member, Refusal>
     }
 }
 
-// The FORM reader: the row of a FORM, whose data ends at `close`, then its members.
+// The FORM reader: the row of a FORM whose data ends at `close`, then its members.
 #[cycle(form_in_members_in)]
-fn form_in(form: Spot, close: usize, rows: &mut Rows) -> Result<(), Refusal>
-    requires { (form.at + 12 ≤ close) × (close ≤ length form.file.now) × (length form.file.now ≤ 16777216)
-        × (form.depth ≤ 16) × (rows.old.count ≤ form.at) }
+fn form_in(form: &Spot, close: usize, rows: &mut Rows) -> Result<(), Refusal>
+    requires { (form.now.at + 12 ≤ close) × (close ≤ length form.now.file.now) × (length form.now.file.now ≤ 16777216)
+        × (form.now.depth ≤ 16) × (rows.old.count ≤ form.now.at) }
     ensures same_slice { rows.new.slice.ghost_name ≡ rows.old.slice.ghost_name }
     ensures same_base { rows.new.base ≡ rows.old.base }
     ensures shown { left result rows.new.count rows.new.slice.now
         ≡ scan rows.old.base rows.old.count rows.old.slice.now
-        (form_shows form.entry.file.now form.entry.depth close form.entry.at) }
+        (form_shows form.now.file.now form.now.depth close form.now.at) }
 {
     let kind = blorb::be32_at(form.file, form.at + 8);
     rows.put(
@@ -138,27 +138,28 @@ fn form_in(form: Spot, close: usize, rows: &mut Rows) -> Result<(), Refusal>
         form.size() as u32,
         form.depth as u32,
     );
-    members_in(form.within(Place::InForm, close), rows)
+    members_in(form, Place::InForm, close, rows)
 }
 
-// The group reader: the members of a FORM, LIST or CAT from `first` on.
+// The group reader: the members of a FORM, LIST or CAT whose data ends at `close`. One spot on each level: the stack has to hold 16 of them.
 #[cycle(form_in_members_in)]
-fn members_in(first: Spot, rows: &mut Rows) -> Result<(), Refusal>
-    requires { (length first.file.now ≤ 16777216) × (first.depth ≤ 17) × (rows.old.count ≤ first.at) }
+fn members_in(holder: &Spot, inside: Place, close: usize, rows: &mut Rows) -> Result<(), Refusal>
+    requires { (holder.now.at + 12 ≤ length holder.now.file.now) × (close ≤ length holder.now.file.now)
+        × (length holder.now.file.now ≤ 16777216) × (holder.now.depth ≤ 16) × (rows.old.count ≤ holder.now.at + 12) }
     ensures same_slice { rows.new.slice.ghost_name ≡ rows.old.slice.ghost_name }
     ensures same_base { rows.new.base ≡ rows.old.base }
     ensures shown { left result rows.new.count rows.new.slice.now
         ≡ scan rows.old.base rows.old.count rows.old.slice.now
-        (members first.entry.file.now first.entry.place first.entry.depth first.entry.end first.entry.at) }
+        (members holder.now.file.now inside (holder.now.depth + 1) close (holder.now.at + 12)) }
 {
-    let mut spot = first;
+    let mut spot = holder.within(inside, close);
     while spot.at < spot.end {
-        match next_member(spot)? {
+        match next_member(&spot)? {
             Member::Passed { next, after } => {
                 spot = spot.moved_to(next, after);
             }
             Member::Form { close, next, after } => {
-                form_in(spot, close, rows)?;
+                form_in(&spot, close, rows)?;
                 spot = spot.moved_to(next, after);
             }
             Member::Group {
@@ -167,7 +168,7 @@ fn members_in(first: Spot, rows: &mut Rows) -> Result<(), Refusal>
                 next,
                 after,
             } => {
-                members_in(spot.within(inside, close), rows)?;
+                members_in(&spot, inside, close, rows)?;
                 spot = spot.moved_to(next, after);
             }
         }
@@ -176,18 +177,18 @@ fn members_in(first: Spot, rows: &mut Rows) -> Result<(), Refusal>
 }
 
 // The one FORM or group of a file.
-fn top_in(top: Spot, rows: &mut Rows) -> Result<(), Refusal>
-    requires { (length top.file.now ≤ 16777216) × (top.depth ≤ 16) × (rows.old.count ≤ top.at) }
+fn top_in(top: &Spot, rows: &mut Rows) -> Result<(), Refusal>
+    requires { (length top.now.file.now ≤ 16777216) × (top.now.depth ≤ 16) × (rows.old.count ≤ top.now.at) }
     ensures same_slice { rows.new.slice.ghost_name ≡ rows.old.slice.ghost_name }
     ensures same_base { rows.new.base ≡ rows.old.base }
     ensures shown { left result rows.new.count rows.new.slice.now
         ≡ scan rows.old.base rows.old.count rows.old.slice.now
-        (chunk top.entry.file.now top.entry.place top.entry.depth top.entry.end top.entry.at) }
+        (chunk top.now.file.now top.now.place top.now.depth top.now.end top.now.at) }
 {
     match member_at(top)? {
         Member::Passed { .. } => Ok(()),
         Member::Form { close, .. } => form_in(top, close, rows),
-        Member::Group { inside, close, .. } => members_in(top.within(inside, close), rows),
+        Member::Group { inside, close, .. } => members_in(top, inside, close, rows),
     }
 }
 
@@ -213,7 +214,7 @@ pub fn scan_file(file: &[u8], slice: &mut [u32], base: usize) -> Result<usize, R
         base,
         count: 0,
     };
-    top_in(top, &mut rows)?;
+    top_in(&top, &mut rows)?;
     let next = top.next();
     if next != file.len() {
         return Err(Refusal {

@@ -19,40 +19,40 @@ pub struct Spot<'a> {
 }
 
 impl<'a> Spot<'a> {
-    pub fn kind(self) -> Kind
-        requires { self.at + 8 ≤ length self.file.now }
-        ensures { result ≡ kind_at self.entry.file.now self.entry.at }
+    pub fn kind(&self) -> Kind
+        requires { self.now.at + 8 ≤ length self.now.file.now }
+        ensures { result ≡ kind_at self.now.file.now self.now.at }
     {
         Kind::from(blorb::be32_at(self.file, self.at))
     }
 
-    pub fn size(self) -> usize
-        requires { self.at + 8 ≤ length self.file.now }
-        ensures { (result ≡ size_at self.entry.file.now self.entry.at) × (result < 2 ^ 32) }
+    pub fn size(&self) -> usize
+        requires { self.now.at + 8 ≤ length self.now.file.now }
+        ensures { (result ≡ size_at self.now.file.now self.now.at) × (result < 2 ^ 32) }
     {
         blorb::be32_at(self.file, self.at + 4) as usize
     }
 
     // Where its data ends.
-    pub fn close(self) -> usize
-        requires { self.at + 8 ≤ length self.file.now }
-        ensures { result ≡ end_at self.entry.file.now self.entry.at }
+    pub fn close(&self) -> usize
+        requires { self.now.at + 8 ≤ length self.now.file.now }
+        ensures { result ≡ end_at self.now.file.now self.now.at }
     {
         self.at + 8 + self.size()
     }
 
     // Where the next member begins.
-    pub fn next(self) -> usize
-        requires { self.at + 8 ≤ length self.file.now }
-        ensures { result ≡ next_at self.entry.file.now self.entry.at }
+    pub fn next(&self) -> usize
+        requires { self.now.at + 8 ≤ length self.now.file.now }
+        ensures { result ≡ next_at self.now.file.now self.now.at }
     {
         let m = self.size();
         self.at + 8 + m + m % 2
     }
 
     // 41 for the header and the sizes.
-    fn fits(self) -> bool
-        ensures { result ≡ fits self.entry.file.now self.entry.end self.entry.at }
+    fn fits(&self) -> bool
+        ensures { result ≡ fits self.now.file.now self.now.end self.now.at }
     {
         if self.end < 8 || self.end - 8 < self.at {
             return false;
@@ -64,16 +64,16 @@ impl<'a> Spot<'a> {
     }
 
     // 42: FORMs and groups have 16 levels.
-    fn is_too_deep(self, kind: Kind) -> bool
-        ensures { result ≡ (nests kind && ltb 16 self.entry.depth) }
+    fn is_too_deep(&self, kind: Kind) -> bool
+        ensures { result ≡ (nests kind && ltb 16 self.now.depth) }
     {
         kind.is_nest() && 16 < self.depth
     }
 
     // 44: the padding byte is there and zero.
-    pub fn is_padded(self) -> bool
-        requires { self.at + 8 ≤ self.end }
-        ensures { result ≡ padded self.entry.file.now self.entry.end self.entry.at }
+    pub fn is_padded(&self) -> bool
+        requires { self.now.at + 8 ≤ self.now.end }
+        ensures { result ≡ padded self.now.file.now self.now.end self.now.at }
     {
         if self.size() % 2 == 0 {
             return true;
@@ -83,9 +83,9 @@ impl<'a> Spot<'a> {
     }
 
     // The refusals of one chunk.
-    pub fn fault(self) -> Result<(), Refusal>
+    pub fn fault(&self) -> Result<(), Refusal>
         ensures { verdict_of result
-            ≡ member_fault_of self.entry.file.now self.entry.place self.entry.depth self.entry.end self.entry.at }
+            ≡ member_fault_of self.now.file.now self.now.place self.now.depth self.now.end self.now.at }
     {
         if !self.fits() {
             return Err(Refusal {
@@ -116,10 +116,10 @@ impl<'a> Spot<'a> {
     }
 
     // Where the members begin of what stands here, whose data ends at `close`.
-    pub fn within(self, inside: Place, close: usize) -> Spot<'a>
-        requires { (self.at ≤ length self.file.now) × (close ≤ length self.file.now) × (self.depth ≤ 17) }
-        ensures { (result.file ≡ self.entry.file) × (result.place ≡ inside) × (result.depth ≡ self.entry.depth + 1)
-            × (result.end ≡ close) × (result.at ≡ self.entry.at + 12) }
+    pub fn within(&self, inside: Place, close: usize) -> Spot<'a>
+        requires { (self.now.at ≤ length self.now.file.now) × (close ≤ length self.now.file.now) × (self.now.depth ≤ 17) }
+        ensures { (result.file ≡ self.now.file) × (result.place ≡ inside) × (result.depth ≡ self.now.depth + 1)
+            × (result.end ≡ close) × (result.at ≡ self.now.at + 12) }
     {
         Spot {
             file: self.file,
@@ -131,9 +131,9 @@ impl<'a> Spot<'a> {
     }
 
     // A place further on in the same FORM, group or PROP.
-    pub fn moved_to(self, at: usize, place: Place) -> Spot<'a>
-        ensures { (result.file ≡ self.entry.file) × (result.place ≡ place) × (result.depth ≡ self.entry.depth)
-            × (result.end ≡ self.entry.end) × (result.at ≡ at) }
+    pub fn moved_to(&self, at: usize, place: Place) -> Spot<'a>
+        ensures { (result.file ≡ self.now.file) × (result.place ≡ place) × (result.depth ≡ self.now.depth)
+            × (result.end ≡ self.now.end) × (result.at ≡ at) }
     {
         Spot {
             file: self.file,

@@ -28,6 +28,11 @@ turn t c =
       counted = c.loop-spot.invariant.5;
     }
 
+pub members_in-loop-spot-init : goal.members_in-loop-spot-init
+members_in-loop-spot-init t c =
+    let h = c.within-spot.ensures in
+    (h.0, h.2, h.3, refl, refl, omega (arith, h.4, c.requires.4), rw (h.0, h.1, h.2, h.3, h.4) refl)
+
 pub members_in-returns-in_err-next-clause-shown : goal.members_in-returns-in_err-next-clause-shown
 members_in-returns-in_err-next-clause-shown t c =
     let u = turn t (goal.at.members_in-returns-in_err-next-clause-shown t c).After-next_member in
@@ -54,8 +59,8 @@ members_in-form_in-requires t c =
     let u = turn t (goal.at.members_in-form_in-requires t c).After-next_member in
     let o = opens_form u _ _ _ (sym c.in_ok-next.ensures ∙ ap Ok c.in-Form.is) in
     let i = c.loop-spot.invariant in
-    let same : length c.loop-spot.spot.file.now ≡ length c.args.first.file.now = rw i.0 refl in
-    omega (arith, o.low, o.high, o.shallow, i.1, i.5, same, c.loop-spot.spot.inside, c.requires.0)
+    let same : length c.loop-spot.spot.file.now ≡ length c.args.holder.now.file.now = rw i.0 refl in
+    omega (arith, o.low, o.high, o.shallow, i.1, i.5, same, c.loop-spot.spot.inside, c.requires.2)
 
 pub members_in-returns-in_err-form_in-in-Form-clause-shown : goal.members_in-returns-in_err-form_in-in-Form-clause-shown
 members_in-returns-in_err-form_in-in-Form-clause-shown t c =
@@ -92,44 +97,29 @@ members_in-loop-spot-preserved-in-Form t c =
       rw (m.0, m.1, m.2, m.3, m.4, w.ensures.same_base) (n.same ∙ i.6),
     )
 
-pub members_in-within-requires : goal.members_in-within-requires
-members_in-within-requires t c =
-    let u = turn t (goal.at.members_in-within-requires t c).After-next_member in
-    let o = opens_group u _ _ _ _ (sym c.in_ok-next.ensures ∙ ap Ok c.in-Group.is) in
-    let s = c.loop-spot.spot in
-    (omega (arith, c.loop-spot-test.true, s.inside), omega (arith, o.high, s.inside), omega (arith, o.shallow))
-
 pub members_in-members_in-requires : goal.members_in-members_in-requires
 members_in-members_in-requires t c =
     let u = turn t (goal.at.members_in-members_in-requires t c).After-next_member in
     let o = opens_group u _ _ _ _ (sym c.in_ok-next.ensures ∙ ap Ok c.in-Group.is) in
     let i = c.loop-spot.invariant in
-    let h = c.within.ensures in
-    let same : length c.within.result.file.now ≡ length c.args.first.file.now = rw (h.0, i.0) refl in
-    omega (arith, o.low, o.high, o.shallow, i.1, i.5, same, h.2, h.3, h.4, c.requires.0)
+    let same : length c.loop-spot.spot.file.now ≡ length c.args.holder.now.file.now = rw i.0 refl in
+    omega (arith, o.low, o.high, o.shallow, i.1, i.5, same, c.loop-spot.spot.inside, c.requires.2)
 
--- what the group's own reader answers, in the turn's terms
 pub members_in-returns-in_err-members_in-in-Group-clause-shown : goal.members_in-returns-in_err-members_in-in-Group-clause-shown
 members_in-returns-in_err-members_in-in-Group-clause-shown t c =
     let u = turn t (goal.at.members_in-returns-in_err-members_in-in-Group-clause-shown t c).After-next_member in
     let r = c.from_residual-in_err-members_in-in-Group in
     let p = err_from_is_err_and r.result r.ensures.1 in
     let w = c.members_in in
-    let h = c.within.ensures in
-    let e = w.ensures.shown in
-    let shown = rw (h.0, h.1, h.2, h.3, h.4) at e in
     let told = sym c.in_ok-next.ensures ∙ ap Ok c.in-Group.is in
-    rw (p.1, p.2) (group_stops u w.result w.new.rows.count w.new.rows.slice.now _ _ _ _ told shown _ c.in_err-members_in-in-Group.was ∙ c.loop-spot.invariant.6)
+    rw (p.1, p.2) (group_stops u w.result w.new.rows.count w.new.rows.slice.now _ _ _ _ told w.ensures.shown _ c.in_err-members_in-in-Group.was ∙ c.loop-spot.invariant.6)
 
 pub members_in-loop-spot-smaller : goal.members_in-loop-spot-smaller
 members_in-loop-spot-smaller t c =
     let u = turn t (goal.at.members_in-loop-spot-smaller t c).After-next_member in
     let w = c.members_in in
-    let h = c.within.ensures in
-    let e = w.ensures.shown in
-    let shown = rw (h.0, h.1, h.2, h.3, h.4) at e in
     let told = sym c.in_ok-next.ensures ∙ ap Ok c.in-Group.is in
-    let n = group_goes u w.result w.new.rows.count w.new.rows.slice.now _ _ _ _ told shown _ c.in_ok-members_in-in-Group.was in
+    let n = group_goes u w.result w.new.rows.count w.new.rows.slice.now _ _ _ _ told w.ensures.shown _ c.in_ok-members_in-in-Group.was in
     let m = c.moved_to-spot-in-Group.ensures in
     omega (arith, n.on, m.3, m.4, c.loop-spot-test.true)
 
@@ -137,11 +127,8 @@ pub members_in-loop-spot-preserved : goal.members_in-loop-spot-preserved
 members_in-loop-spot-preserved t c =
     let u = turn t (goal.at.members_in-loop-spot-preserved t c).After-next_member in
     let w = c.members_in in
-    let h = c.within.ensures in
-    let e = w.ensures.shown in
-    let shown = rw (h.0, h.1, h.2, h.3, h.4) at e in
     let told = sym c.in_ok-next.ensures ∙ ap Ok c.in-Group.is in
-    let n = group_goes u w.result w.new.rows.count w.new.rows.slice.now _ _ _ _ told shown _ c.in_ok-members_in-in-Group.was in
+    let n = group_goes u w.result w.new.rows.count w.new.rows.slice.now _ _ _ _ told w.ensures.shown _ c.in_ok-members_in-in-Group.was in
     let m = c.moved_to-spot-in-Group.ensures in
     let i = c.loop-spot.invariant in (
       m.0 ∙ i.0,
@@ -161,12 +148,11 @@ members_in-returns-clause-shown t c =
 
 pub form_in-returns-clause-shown : goal.form_in-returns-clause-shown
 form_in-returns-clause-shown t c =
-    let f = c.args.form in
+    let f = c.args.form.now in
     let r = c.args.rows.now in
-    let h = c.within.ensures in
     let put = c.put.ensures in
     let stored = put.stored in
     let row = rw (c.be32_at-kind.ensures.0, c.size.ensures.0) at stored in
     let shown = c.members_in.ensures.shown in
-    let told = rw (h.0, h.1, h.2, h.3, h.4, put.counted.0, put.counted.1) at shown in
+    let told = rw (put.counted.0, put.counted.1) at shown in
     told ∙ form_first f.file.now r.base r.count f.depth c.args.close f.at r.slice.now _ row

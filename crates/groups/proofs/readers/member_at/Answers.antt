@@ -18,14 +18,14 @@ use Rattle.groups.proofs.readers.member_at.Goals as goal
 use Rattle.groups.proofs.readers.member_at.Goals.{In_ok-fault, After-prop_in}
 
 -- the member has no fault
-no_fault : (c : In_ok-fault) → let s = c.args.spot in member_fault_of s.file.now s.place s.depth s.end s.at ≡ accept
+no_fault : (c : In_ok-fault) → let s = c.args.spot.now in member_fault_of s.file.now s.place s.depth s.end s.at ≡ accept
 no_fault c = sym c.in_ok-fault.ensures
 
-facts : (c : In_ok-fault) → let s = c.args.spot in Good s.file.now s.place s.depth s.end s.at
+facts : (c : In_ok-fault) → let s = c.args.spot.now in Good s.file.now s.place s.depth s.end s.at
 facts c = good-facts _ _ _ _ _ (no_fault c)
 
 -- what the definition tells of a member of a kind
-by_kind : (c : In_ok-fault) (k : Kind) → let s = c.args.spot in
+by_kind : (c : In_ok-fault) (k : Kind) → let s = c.args.spot.now in
     k ≡ kind_at s.file.now s.at
     → member_by accept k (end_at s.file.now s.at) (next_at s.file.now s.at) (behind s.place k)
     (first_fault (members s.file.now InProp (s.depth + 1) (end_at s.file.now s.at) (s.at + 12)))
@@ -40,27 +40,24 @@ returns-in_err-fault c =
     rw (p.1, p.2, ← c.in_err-fault.ensures) refl
 
 pub close-close-requires : goal.close-close-requires
-close-close-requires c = omega (arith, (facts (goal.at.close-close-requires c).In_ok-fault).head, c.args.spot.inside)
+close-close-requires c = omega (arith, (facts (goal.at.close-close-requires c).In_ok-fault).head, c.args.spot.now.inside)
 
 pub next-next-requires : goal.next-next-requires
-next-next-requires c = omega (arith, (facts (goal.at.next-next-requires c).In_ok-fault).head, c.args.spot.inside)
+next-next-requires c = omega (arith, (facts (goal.at.next-next-requires c).In_ok-fault).head, c.args.spot.now.inside)
 
 pub kind-kind-requires : goal.kind-kind-requires
-kind-kind-requires c = omega (arith, (facts (goal.at.kind-kind-requires c).In_ok-fault).head, c.args.spot.inside)
+kind-kind-requires c = omega (arith, (facts (goal.at.kind-kind-requires c).In_ok-fault).head, c.args.spot.now.inside)
 
-pub within-requires : goal.within-requires
-within-requires c =
-    let s = c.args.spot in
-    let g = facts (goal.at.within-requires c).In_ok-fault in
+pub prop_in-requires : goal.prop_in-requires
+prop_in-requires c =
+    let s = c.args.spot.now in
+    let g = facts (goal.at.prop_in-requires c).In_ok-fault in
     (omega (arith, g.head, s.inside), omega (arith, g.body, s.inside, c.close-close.ensures), c.requires)
 
 -- the verdict on all that a PROP holds
-held : (c : After-prop_in) → let s = c.args.spot in
+held : (c : After-prop_in) → let s = c.args.spot.now in
     verdict_of c.prop_in.result ≡ first_fault (members s.file.now InProp (s.depth + 1) (end_at s.file.now s.at) (s.at + 12))
-held c =
-    let w = c.within.ensures in
-    let e = c.prop_in.ensures in
-    rw (w.0, w.2, w.3, w.4, c.close-close.ensures) at e
+held c = let e = c.prop_in.ensures in rw c.close-close.ensures at e
 
 pub returns-in_err-prop_in-in-Prop : goal.returns-in_err-prop_in-in-Prop
 returns-in_err-prop_in-in-Prop c =

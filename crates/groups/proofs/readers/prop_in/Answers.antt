@@ -15,7 +15,7 @@ no_fault : (c : In_ok-fault) → let s = c.loop-spot.spot in member_fault_of s.f
 no_fault c = let e = sym c.in_ok-fault.ensures in rw c.loop-spot.invariant.1 at e
 
 pub loop-spot-init : goal.loop-spot-init
-loop-spot-init c = (refl, c.requires, refl, refl, refl)
+loop-spot-init c = let h = c.within-spot.ensures in (h.0, h.1, h.2, h.3, rw (h.0, h.2, h.3, h.4) refl)
 
 pub returns-in_err-fault : goal.returns-in_err-fault
 returns-in_err-fault c =

@@ -10,7 +10,7 @@ use Rattle.groups.proofs.readers.quick_look.Goals as goal
 
 pub returns-in-Plain : goal.returns-in-Plain
 returns-in-Plain c =
-    let a = c.args.spot in
+    let a = c.args.spot.now in
     let size = c.size-m.ensures.0 in
     let pad = sym c.is_padded.ensures ∙ c.if-not-is_padded.false in
     let look = looked a.file.now a.end a.at _ size c.if-spot-lt8.false c.if-spot-close.false pad in
@@ -21,7 +21,7 @@ returns-in-Plain c =
 
 pub returns-in-Form : goal.returns-in-Form
 returns-in-Form c =
-    let a = c.args.spot in
+    let a = c.args.spot.now in
     let size = c.size-m.ensures.0 in
     let pad = sym c.is_padded.ensures ∙ c.if-not-is_padded.false in
     let look = looked a.file.now a.end a.at _ size c.if-spot-lt8.false c.if-spot-close.false pad in

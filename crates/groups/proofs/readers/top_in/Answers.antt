@@ -9,22 +9,22 @@ use Rattle.groups.proofs.readers.top_in.Goals as goal
 
 pub returns-in_err-member_at-clause-shown : goal.returns-in_err-member_at-clause-shown
 returns-in_err-member_at-clause-shown c =
-    let s = c.args.top in
+    let s = c.args.top.now in
     let r = c.args.rows.now in
     let p = err_from_is_err_and c.from_residual.result c.from_residual.ensures.1 in
     rw (p.1, p.2) (member_bad s.file.now s.place s.depth s.end s.at r.base r.count r.slice.now _ _ (sym c.in_err-member_at.ensures))
 
 pub form_in-requires : goal.form_in-requires
 form_in-requires c =
-    let s = c.args.top in
+    let s = c.args.top.now in
     let r = c.args.rows.now in
     let told = sym c.in_ok-member_at.ensures ∙ ap Ok c.in-Form.is in
     let o = (member_form s.file.now s.place s.depth s.end s.at r.base r.count r.slice.now _ _ _ told).1 in
     omega (arith, o.low, o.high, s.inside, c.requires)
 
-pub within-requires : goal.within-requires
-within-requires c =
-    let s = c.args.top in
+pub members_in-requires : goal.members_in-requires
+members_in-requires c =
+    let s = c.args.top.now in
     let r = c.args.rows.now in
     let told = sym c.in_ok-member_at.ensures ∙ ap Ok c.in-Group.is in
     let o = (member_group s.file.now s.place s.depth s.end s.at r.base r.count r.slice.now _ _ _ _ told).1 in
@@ -32,7 +32,7 @@ within-requires c =
 
 pub returns-in-Passed-clause-shown : goal.returns-in-Passed-clause-shown
 returns-in-Passed-clause-shown c =
-    let s = c.args.top in
+    let s = c.args.top.now in
     let r = c.args.rows.now in
     let told = sym c.in_ok-member_at.ensures ∙ ap Ok c.in-Passed.is in
     (member_passed s.file.now s.place s.depth s.end s.at r.base r.count r.slice.now _ _ told).0
@@ -40,7 +40,7 @@ returns-in-Passed-clause-shown c =
 pub returns-in-Form-clause-shown : goal.returns-in-Form-clause-shown
 unfolding scan
 returns-in-Form-clause-shown c =
-    let s = c.args.top in
+    let s = c.args.top.now in
     let r = c.args.rows.now in
     let told = sym c.in_ok-member_at.ensures ∙ ap Ok c.in-Form.is in
     let g = member_form s.file.now s.place s.depth s.end s.at r.base r.count r.slice.now _ _ _ told in
@@ -48,11 +48,8 @@ returns-in-Form-clause-shown c =
 
 pub returns-in-Group-clause-shown : goal.returns-in-Group-clause-shown
 returns-in-Group-clause-shown c =
-    let s = c.args.top in
+    let s = c.args.top.now in
     let r = c.args.rows.now in
-    let h = c.within.ensures in
     let told = sym c.in_ok-member_at.ensures ∙ ap Ok c.in-Group.is in
     let g = member_group s.file.now s.place s.depth s.end s.at r.base r.count r.slice.now _ _ _ _ told in
-    let shown = c.members_in.ensures.shown in
-    let e = rw (h.0, h.1, h.2, h.3, h.4) at shown in
-    e ∙ rw g.1.closes g.0
+    c.members_in.ensures.shown ∙ rw g.1.closes g.0

@@ -16,7 +16,7 @@ kind-kind-requires c = omega (arith, (fits-facts _ _ _ (sym c.fits.ensures ∙ c
 
 pub returns-then-is_too_deep : goal.returns-then-is_too_deep
 returns-then-is_too_deep c =
-    let a = c.args.self in
+    let a = c.args.self.now in
     let fit = sym c.fits.ensures ∙ c.if-not-fits.false in
     let k = c.kind-kind.ensures in
     let deep : nests (kind_at a.file.now a.at) && ltb 16 a.depth ≡ c.is_too_deep.result =
@@ -25,7 +25,7 @@ returns-then-is_too_deep c =
 
 pub returns-then-not-may_hold : goal.returns-then-not-may_hold
 returns-then-not-may_hold c =
-    let a = c.args.self in
+    let a = c.args.self.now in
     let fit = sym c.fits.ensures ∙ c.if-not-fits.false in
     let k = c.kind-kind.ensures in
     let deep : nests (kind_at a.file.now a.at) && ltb 16 a.depth ≡ c.is_too_deep.result =
@@ -40,7 +40,7 @@ is_padded-requires c =
 
 pub returns-then-not-is_padded : goal.returns-then-not-is_padded
 returns-then-not-is_padded c =
-    let a = c.args.self in
+    let a = c.args.self.now in
     let fit = sym c.fits.ensures ∙ c.if-not-fits.false in
     let k = c.kind-kind.ensures in
     let deep : nests (kind_at a.file.now a.at) && ltb 16 a.depth ≡ c.is_too_deep.result =
@@ -52,7 +52,7 @@ returns-then-not-is_padded c =
 
 pub returns : goal.returns
 returns c =
-    let a = c.args.self in
+    let a = c.args.self.now in
     let fit = sym c.fits.ensures ∙ c.if-not-fits.false in
     let k = c.kind-kind.ensures in
     let deep : nests (kind_at a.file.now a.at) && ltb 16 a.depth ≡ c.is_too_deep.result =
