@@ -8,9 +8,8 @@ use native.Mathlib.Omega.{arith}
 use lib.ListN.{length, take, drop}
 use lib.Seq.{get_or-take, drop-drop}
 use lib.Dec.{eqb}
-use borrow.Author.Tests.{le-leb, lt-leb, eq-eqb, ne_eqb}
+use borrow.Author.Tests.{ne_eqb}
 use Rattle.blorb.specs.Bytes.{rd32}
-use Rattle.blorb.specs.Tags.{FORM, AIFF}
 use Rattle.blorb.specs.Format.{Chunk, sized, size, chunk_in, chunks_of}
 use Rattle.blorb.specs.Verdict.{Verdict, accept, refuse}
 use Rattle.blorb.proofs.ByteLaws.{rd32-at}
@@ -21,8 +20,10 @@ use Rattle.aiff.specs.Common.{COMM, comms, single, is_form_of, is_filled, is_aif
 use Rattle.aiff.specs.Seeing.{one_more, seen_next_of, seen_with, ChunkThere, SeenIn, Seeking, Sees, Told}
 use Rattle.aiff.specs.Rate.{rd16, rate_of, rate_in, sign_in, exponent_in, significand_in}
 use Rattle.aiff.specs.Length.{sound_of, sound_by, length_of}
-use Rattle.std.specs.Prelude.{Option, Some, None}
-use Rattle.blorb.specs.Refusals.{Refused}
+use Rattle.std.specs.Prelude.{Some, None, Result, Ok}
+use Rattle.blorb.specs.declared.refusal.Refusal.{Refusal}
+use Rattle.blorb.specs.Refusals.{Refused, verdict_of}
+use Rattle.std.specs.Result.{is_ok}
 use Rattle.aiff.specs.declared.common.Seen.{Seen}
 use Rattle.aiff.specs.declared.common.Seen.TheVariants.{Nothing, One, Many}
 use Rattle.aiff.proofs.RateLaws.{rd16-at}
@@ -40,6 +41,11 @@ module _ (f : List ℕ) where
   pub not_filled : (k p : ℕ) → is_form_of f ≡ true → walk_from f 12 ≡ refuse k p → false ≡ is_aiff_of f
   unfolding is_aiff_of is_filled walk_from
   not_filled k p e w = rw (e, w)
+
+  -- by the walk's answer
+  pub form_filled : (b : Bool) (r : Result Bool Refusal) → is_form_of f ≡ true → verdict_of r ≡ walk_from f 12 → b ≡ is_ok r → b ≡ is_aiff_of f
+  form_filled b (Ok x) e w h = h ∙ filled e (sym w)
+  form_filled b (Refused k p) e w h = h ∙ not_filled k p e (sym w)
 
   pub aiff_walked : is_aiff_of f ≡ true → walk_from f 12 ≡ accept
   unfolding is_aiff_of
@@ -88,12 +94,11 @@ sees f at seen h s = let g = s.found in (rw (chunks_end f at h) at g, s.there)
 
 -- 50
 module _ (f : List ℕ) where
-  pub told-nothing : Sees f Nothing → Told f None
+  pub told_none : (seen : Seen) → ((x : ℕ) → seen ≡ One x → ⊥) → Sees f seen → Told f None
   unfolding single
-  told-nothing s = sym s.0
-
-  pub told_many : Sees f Many → Told f None
-  told_many s = sym s.0
+  told_none Nothing n s = sym s.0
+  told_none Many n s = sym s.0
+  told_none (One x) n s = absurd (n x refl)
 
   module _ (x : ℕ) (s : Sees f (One x)) where
     one : common_of f ≡ cond (eqb (rd32 (drop (x + 4) f)) 18) (Some (take (rd32 (drop (x + 4) f)) (drop (x + 8) f))) None

@@ -17,8 +17,10 @@ use Rattle.blorb.specs.All.{All}
 use Rattle.blorb.specs.Sound.{W, ChunkOk}
 use Rattle.blorb.specs.Format.{Chunk, sized, size, total, chunk_bytes, chunks_bytes, chunks_of}
 use Rattle.blorb.specs.Verdict.{accept, check, ◌then◌, no_chunk, walk_fault}
+use Rattle.blorb.specs.declared.refusal.Refusal.{Refusal}
+use Rattle.aiff.specs.declared.Sound.{Sound}
 use Rattle.blorb.specs.Refusals.{Refused, verdict_of}
-use Rattle.std.specs.Prelude.{Option, Some, None}
+use Rattle.std.specs.Prelude.{Option, Some, None, Result, Ok}
 use Rattle.std.specs.Option.{is_some}
 use Rattle.blorb.specs.Rules.{plain_allows_of, one_of}
 use Rattle.blorb.specs.Lookup.{shown}
@@ -58,6 +60,9 @@ in_order b = go (is_aiff_of b) (comms (chunks_of b))
     go true (c ∷ []) = one (eqb (length c.body) 18) c.body
     go true (c ∷ (d ∷ cs)) = rw (ne_eqb (length (c ∷ (d ∷ cs))) 1 (omega arith))
 
+same_sound : (x y : Sound) → ◌≡◌ {A = Result Sound Refusal} (Ok x) (Ok y) → x ≡ y
+same_sound x y e = cc
+
 -- the 18 bytes: all that is given, exactly if they say it
 module _ (d : List ℕ) (channels frames sampleSize rate seconds : ℕ) where
   pub says_sound : Says d channels frames sampleSize rate seconds → sound_of d ≡ sound channels frames sampleSize rate seconds
@@ -73,18 +78,19 @@ module _ (d : List ℕ) (channels frames sampleSize rate seconds : ℕ) where
       go : (r : Option ℕ) → rate_in (drop 8 d) ≡ r → sound_by r (rd16 d) (rd32 (drop 2 d)) (rd16 (drop 6 d)) ≡ sound channels frames sampleSize rate seconds
           → Says d channels frames sampleSize rate seconds
       go (Some r) q h =
-          let k : r ≡ rate = cc in
-          let f : rd32 (drop 2 d) ≡ frames = cc in
-          let s : rd32 (drop 2 d) / r ≡ seconds = cc in
+          let i = same_sound _ _ h in
+          let k : r ≡ rate = ap (λ (s : Sound). s.rate) i in
+          let f : rd32 (drop 2 d) ≡ frames = ap (λ (s : Sound). s.frames) i in
+          let s : rd32 (drop 2 d) / r ≡ seconds = ap (λ (s : Sound). s.seconds) i in
           let t : frames / rate ≡ seconds = sym (λ i. f i / k i) ∙ s in
           let x : Exactly _ _ _ rate = rate_exactly _ _ _ rate (q ∙ ap Some k) in
           let o : frames / rate * rate ≤ frames = div-mul-le_self frames rate in
           let u : frames < frames / rate * rate + rate = lt-div-mul-add x.least in
           let v : frames < seconds * rate + rate = rw t at u in
           record {
-            channels_are = cc;
+            channels_are = ap (λ (s : Sound). s.channels) i;
             frames_are = f;
-            sample_size_is = cc;
+            sample_size_is = ap (λ (s : Sound). s.sample_size) i;
             rate_is = x;
             not_over = rw t at o;
             not_under = omega (arith, v);

@@ -140,7 +140,7 @@ kept_none : (r : ℕ) → None ≡ kept r 0
 kept_none r = by (eqb r 0)
   where
     by : (b : Bool) → ◌≡◌ {A = Option ℕ} None (cond (b && leb 1 0 && leb 0 4294967295) (Some 0) None)
-    by true = rw (lt-leb 1 0 (omega arith))
+    by true = refl
     by false = refl
 
 kept_large : (r q : ℕ) → 4294967295 < q → None ≡ kept r q
