@@ -16,8 +16,8 @@ use lib.Seq.{get_or-drop}
 use lib.Dec.{eqb, leb}
 use borrow.Author.Tests.{le-leb, lt-leb, eq-eqb, ne_eqb, leb-true, eqb-true}
 use Rattle.blorb.proofs.Checks.{and_both}
-use Rattle.std.specs.Prelude.{Option, Some, None, Result, Ok, Err}
-use Rattle.std.specs.Result.{result_ok, OkIff}
+use Rattle.std.specs.Prelude.{Option, Some, None}
+use Rattle.std.specs.Option.{SomeIff}
 use Rattle.aiff.specs.Rate.{rd16, numerator, denominator, whole_of, rate_of, rate_in}
 use Rattle.aiff.specs.Meaning.{Exactly}
 
@@ -149,10 +149,10 @@ kept_large r q h = rw (lt-leb q 4294967295 h, last_false (eqb r 0) (leb 1 q))
 kept-fit : (q : ℕ) → 1 ≤ q → q ≤ 4294967295 → Some q ≡ kept 0 q
 kept-fit q l h = rw (le-leb 1 q l, le-leb q 4294967295 h)
 
--- whether it fits into 32 bits, as the conversion answers it
-kept_tried : {E : Type 0} (r q : ℕ) (t : Result ℕ E) → r ≡ 0 → 1 ≤ q → OkIff t (q < 4294967296) q → result_ok t ≡ kept r q
-kept_tried r q (Ok x) z l o = rw (z, o.1) (kept-fit q l (omega (arith, o.0)))
-kept_tried r q (Err e) z l o = rw z (kept_large 0 q (omega arith))
+-- whether it fits into 32 bits, as the code answers it
+kept_if : (r q : ℕ) (t : Option ℕ) → r ≡ 0 → 1 ≤ q → SomeIff t (q ≤ 4294967295) q → t ≡ kept r q
+kept_if r q (Some x) z l o = rw (z, o.1) (kept-fit q l o.0)
+kept_if r q None z l o = rw z (kept_large 0 q (omega arith))
 
 -- The code's ways out: k is how far the field is from 16,446, and u the power of two as the code has it.
 power : (k u : ℕ) → k < 64 → u ≡ (1 * 2 ^ k) % 2 ^ 64 → u ≡ 2 ^ k
@@ -176,11 +176,11 @@ module _ (m e : ℕ) where
       pub none_of_left : (m % u ≡ 0 → ⊥) → None ≡ whole_of (numerator m e)
       none_of_left h = rw parted (kept_left (m % u) (m / u) h)
 
-      pub part_tried : {E : Type 0} (t : Result ℕ E) → m % u ≡ 0 → (m ≡ 0 → ⊥) → OkIff t (m / u < 4294967296) (m / u) → result_ok t ≡ whole_of (numerator m e)
-      part_tried t z n o =
+      pub part_if : (t : Option ℕ) → m % u ≡ 0 → (m ≡ 0 → ⊥) → SomeIff t (m / u ≤ 4294967295) (m / u) → t ≡ whole_of (numerator m e)
+      part_if t z n o =
           let d : m / u * u + m % u ≡ m = div-add-mod' m u in
           let q : (m / u ≡ 0 → ⊥) = λ y. n (sym d ∙ rw (y, z) (add-zero (0 * u) ∙ zero-mul u)) in
-          rw parted (kept_tried (m % u) (m / u) t z (omega arith) o)
+          rw parted (kept_if (m % u) (m / u) t z (omega arith) o)
 
   module _ (g : 16446 ≤ e) (n : m ≡ 0 → ⊥) where
     pub none_of_many : (e - 16446 < 64 → ⊥) → None ≡ whole_of (numerator m e)
@@ -199,11 +199,11 @@ module _ (m e : ℕ) where
       pub none_of_large : (m * u < 2 ^ 64 → ⊥) → None ≡ whole_of (numerator m e)
       none_of_large h = rw timed (kept_large 0 (m * u) (omega arith))
 
-      pub times_tried : {E : Type 0} (t : Result ℕ E) (q : ℕ) → q ≡ m * u → OkIff t (q < 4294967296) q → result_ok t ≡ whole_of (numerator m e)
-      times_tried t q eq o =
+      pub times_if : (t : Option ℕ) (q : ℕ) → q ≡ m * u → SomeIff t (q ≤ 4294967295) q → t ≡ whole_of (numerator m e)
+      times_if t q eq o =
           let a : 0 < u = rw (power (e - 16446) u s eu) (pow_pos (e - 16446)) in
           let b : 0 < m * u = mul-pos (omega arith) a in
-          rw (timed, ← eq) (kept_tried 0 q t refl (omega arith) o)
+          rw (timed, ← eq) (kept_if 0 q t refl (omega arith) o)
 
 -- the code's loops keep the numerator
 pub halve : (m e : ℕ) → m % 2 ≡ 0 → numerator (m / 2) (e + 1) ≡ numerator m e

@@ -1,5 +1,5 @@
 // The rate of an AIFF, an 80-bit number, where it is a whole number of 32 bits.
-ghost use Rattle.std.specs.Prelude.{◌≡◌, ◌+◌, ◌≤◌, length, drop};
+ghost use Rattle.std.specs.Prelude.{◌≡◌, ◌+◌, ◌≤◌, length, drop, SomeIff};
 ghost use Rattle.aiff.specs.Rate.{rd16, numerator, whole_of, rate_of, rate_in};
 
 // The exponent field, bias and 63 bits together, of which the value is the significand itself.
@@ -11,6 +11,12 @@ pub(crate) fn be16_at(s: &[u8], at: usize) -> u16
     ensures { result ≡ rd16 (drop at s.now) }
 {
     u16::from_be_bytes([s[at], s[at + 1]])
+}
+
+fn in_range(value: u64) -> Option<u32>
+    ensures { SomeIff result (value ≤ 4294967295) value }
+{
+    u32::try_from(value).ok()
 }
 
 // The significand times 2 to the power (exponent less UNIT). A significand that is not 0 is no multiple of 2^64, and times that it is too large.
@@ -25,10 +31,10 @@ fn whole(significand: u64, exponent: u32) -> Option<u32>
         if significand % parts != 0 {
             return None;
         }
-        return u32::try_from(significand / parts).ok();
+        return in_range(significand / parts);
     }
     let times = 1u64.checked_shl(exponent - UNIT)?;
-    u32::try_from(significand.checked_mul(times)?).ok()
+    in_range(significand.checked_mul(times)?)
 }
 
 fn value(sign: u16, exponent: u16, significand: u64) -> Option<u32>

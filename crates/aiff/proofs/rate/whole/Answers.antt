@@ -1,5 +1,5 @@
 -- Each way out is one of the definition's: what is left over, or does not fit, gives no rate.
-use Rattle.aiff.proofs.RateLaws.{none_of_zero, none_of_few, none_of_left, part_tried, none_of_many, none_of_large, times_tried}
+use Rattle.aiff.proofs.RateLaws.{none_of_zero, none_of_few, none_of_left, part_if, none_of_many, none_of_large, times_if}
 use native.Mathlib.Omega.{arith}
 use Rattle.aiff.proofs.rate.whole.Goals as goal
 
@@ -19,9 +19,7 @@ returns-then-significand-parts-ne0 c =
 pub returns-then-exponent-lt-UNIT : goal.returns-then-exponent-lt-UNIT
 returns-then-exponent-lt-UNIT c =
     let p = c.in_ok-parts.ensures in
-    rw c.ok.ensures.value
-    (part_tried c.args.significand c.args.exponent c.if-exponent-lt-UNIT.true _ p.0 p.1 _ c.if-significand-parts-ne0.false
-    c.if-significand-eq0.false c.try_from.ensures)
+    part_if _ _ c.if-exponent-lt-UNIT.true _ p.0 p.1 _ c.if-significand-parts-ne0.false c.if-significand-eq0.false c.in_range.ensures
 
 pub returns-in_err-times : goal.returns-in_err-times
 returns-in_err-times c =
@@ -38,5 +36,4 @@ pub returns : goal.returns
 returns c =
     let p = c.in_ok-times.ensures in
     let q = c.in_ok-checked_mul.ensures in
-    rw c.ok-2.ensures.value
-    (times_tried c.args.significand c.args.exponent c.if-exponent-lt-UNIT.false c.if-significand-eq0.false _ p.0 p.1 _ _ q.1 c.try_from-2.ensures)
+    times_if _ _ c.if-exponent-lt-UNIT.false c.if-significand-eq0.false _ p.0 p.1 _ _ q.1 c.in_range-2.ensures
