@@ -53,13 +53,14 @@ impl Asking {
 fn keep_sides(a: Asking) -> Result<Sides, Refusal>
     ensures { result ≡ unscaled a }
 {
-    if !a.sides_fit() {
-        return Err(Refusal {
+    if a.sides_fit() {
+        Ok(a.sides())
+    } else {
+        Err(Refusal {
             fault: Fault::ResoNumber,
             place: 0,
-        });
+        })
     }
-    Ok(a.sides())
 }
 
 // The ratio of the row at `at` in this window.
@@ -96,6 +97,7 @@ fn sides_by(reso: &Reso, a: Asking) -> Sides
 }
 
 // Refusals 32 and 33 of the only 'Reso', which stands at `start` and has the data d; and the sides.
+#[tactic(auto, unfolding(crate::specs::Scaled::reso_scaled))]
 fn by_reso(d: &[u8], start: usize, a: Asking) -> Result<Sides, Refusal>
     ensures { result ≡ reso_scaled d.now start a }
 {
@@ -105,13 +107,14 @@ fn by_reso(d: &[u8], start: usize, a: Asking) -> Result<Sides, Refusal>
             place: start,
         });
     };
-    if !(reso.is_good() && a.sides_fit()) {
-        return Err(Refusal {
+    if reso.is_good() && a.sides_fit() {
+        Ok(sides_by(&reso, a))
+    } else {
+        Err(Refusal {
             fault: Fault::ResoNumber,
             place: 0,
-        });
+        })
     }
-    Ok(sides_by(&reso, a))
 }
 
 // The sides of a picture in a window, or the first refusal: the reader's own, 31, 32, 33.
@@ -133,7 +136,8 @@ pub fn scaled(
         width,
         height,
     };
-    match locate::by_type(file, profile, RESO)? {
+    let located = locate::by_type(file, profile, RESO)?;
+    match located {
         Located::More { second, .. } => Err(Refusal {
             fault: Fault::SecondReso,
             place: second,
