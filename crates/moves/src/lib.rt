@@ -82,7 +82,7 @@ impl Move {
     }
 }
 
-// The starts of the `n` entries from `at` on move.
+// The starts of the `n` entries from `at` on move. By their places: `chunks_exact_mut` says nothing of the buffer after the loop.
 pub fn move_starts(buf: &mut [u8], at: usize, n: usize, m: Move)
     requires { at + 12 * n ≤ length buf.old }
     ensures { buf.new ≡ starts_moved (relocated m) n at buf.old }

@@ -1,4 +1,4 @@
-// Overlapping moves of bytes within one lent buffer, by parts.
+// Overlapping moves of bytes within one lent buffer, by parts. The code of each stands once in the archive.
 ghost use Rattle.std.specs.Prelude.{◌≡◌, ◌+◌, ◌-◌, ◌≤◌, length};
 ghost use Rattle.moves.specs.Shift.{slid};
 
