@@ -32,7 +32,8 @@ use Rattle.rewrite.proofs.Writes.{entries-append, entries-cons, length-entry, en
 use Rattle.rewrite.proofs.Writes.{stands_length}
 
 -- starts at or behind s: behind s - 1
-pub relocated-risen : (m : Move) (s a : ℕ) → 1 ≤ s → m.limit ≡ s - 1 → m.behind.up ≡ 12 + a → m.behind.down ≡ 0 → m.others.up ≡ 12 → m.others.down ≡ 0 → relocated m ≡ risen s a
+pub relocated-risen : (m : Move) (s a : ℕ) → 1 ≤ s → m.limit ≡ s - 1 → m.behind.up ≡ 12 + a → m.behind.down ≡ 0 → m.others.up ≡ 12 → m.others.down ≡ 0
+    → relocated m ≡ risen s a
 unfolding relocated
 relocated-risen m s a h p q r t w = λ i x. all x i
   where
@@ -71,7 +72,8 @@ module _ (F : List ℕ) (es : List Entry) (f : ℕ → ℕ) (i n e : ℕ) (lF : 
       ∙ ap (λ (z : List ℕ). F ++ (z ++ s)) cut ∙ simp append_assoc
 
   pub entry_leaves : (s r x F' : List ℕ) (l : ℕ) → length s + (24 + 12 * n) ≡ l → 12 ≤ length r → length x ≡ 12 → length F' ≡ 24
-      → noted (noted (slid (starts_moved f n 24 (F ++ (entries_bytes es ++ (s ++ r)))) (e + 12) e (l - e)) e x) 0 F' ≡ F' ++ ((A ++ (x ++ B)) ++ (s ++ drop 12 r))
+      → noted (noted (slid (starts_moved f n 24 (F ++ (entries_bytes es ++ (s ++ r)))) (e + 12) e (l - e)) e x) 0 F'
+      ≡ F' ++ ((A ++ (x ++ B)) ++ (s ++ drop 12 r))
   entry_leaves s r x F' l el hr lx lF' =
       let X : List ℕ = B ++ s in
       let G : List ℕ = take 12 (X ++ r) in
@@ -123,7 +125,8 @@ module _ (F : List ℕ) (es : List Entry) (f : ℕ → ℕ) (i n e : ℕ) (lF : 
       ∙ noted-over [] F (A ++ (x ++ (X ++ (y ++ T)))) F' 0 refl (lF ∙ sym lF') ∙ simp append_assoc
 
 -- one element more, in bytes
-entries_with : (es : List Entry) (i : ℕ) (x : Entry) → entries_bytes (with_at i x es) ≡ entries_bytes (take i es) ++ (entry_bytes x ++ entries_bytes (drop i es))
+entries_with : (es : List Entry) (i : ℕ) (x : Entry)
+    → entries_bytes (with_at i x es) ≡ entries_bytes (take i es) ++ (entry_bytes x ++ entries_bytes (drop i es))
 unfolding with_at
 entries_with es i x = entries-append (take i es) (x ∷ drop i es) ∙ ap (λ (z : List ℕ). entries_bytes (take i es) ++ z) (entries-cons x (drop i es))
 

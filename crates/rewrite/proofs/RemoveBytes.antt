@@ -31,7 +31,8 @@ use Rattle.moves.specs.Shift.{slid}
 use Rattle.rewrite.specs.Rewriting.{Stands}
 use Rattle.rewrite.proofs.Writes.{entries-append, entries-cons, length-entry, left_behind, slid_left, starts_moved_lem, written-shorter, stands_length}
 
-pub relocated-fallen : (m : Move) (s a : ℕ) → m.limit ≡ s → m.behind.up ≡ 0 → m.behind.down ≡ 12 + a → m.others.up ≡ 0 → m.others.down ≡ 12 → relocated m ≡ fallen s a
+pub relocated-fallen : (m : Move) (s a : ℕ) → m.limit ≡ s → m.behind.up ≡ 0 → m.behind.down ≡ 12 + a → m.others.up ≡ 0 → m.others.down ≡ 12
+    → relocated m ≡ fallen s a
 unfolding relocated
 relocated-fallen m s a p q r t w = λ i x. all x i
   where
@@ -46,7 +47,8 @@ no_entry : Entry
 no_entry = record { usage = 0; number = 0; start = 0 }
 
 -- a list of entries around one of them
-entries_around : (es : List Entry) (i : ℕ) → i < length es → entries_bytes es ≡ entries_bytes (take i es) ++ (entry_bytes (get_or es i no_entry) ++ entries_bytes
+entries_around : (es : List Entry) (i : ℕ) → i < length es
+    → entries_bytes es ≡ entries_bytes (take i es) ++ (entry_bytes (get_or es i no_entry) ++ entries_bytes
     (drop (suc i) es))
 entries_around es i h =
     ap entries_bytes (split_at es i no_entry h) ∙ entries-append (take i es) (get_or es i no_entry ∷ drop (suc i) es)

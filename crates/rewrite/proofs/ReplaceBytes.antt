@@ -34,7 +34,8 @@ use Rattle.moves.proofs.MoveLaws.{starts_stay}
 use Rattle.rewrite.proofs.Content.{written-first, put_written, starts_written, Resized, resized-written}
 use Rattle.rewrite.proofs.Writes.{last_apart}
 
-pub relocated-behind : (m : Move) (s a b : ℕ) → m.limit ≡ s → m.behind.up ≡ b → m.behind.down ≡ a → m.others.up ≡ 0 → m.others.down ≡ 0 → relocated m ≡ behind s a b
+pub relocated-behind : (m : Move) (s a b : ℕ) → m.limit ≡ s → m.behind.up ≡ b → m.behind.down ≡ a → m.others.up ≡ 0 → m.others.down ≡ 0
+    → relocated m ≡ behind s a b
 unfolding relocated
 relocated-behind m s a b p q r t w = λ i x. all x i
   where
@@ -84,7 +85,8 @@ chunks-replaced m k c h = chunks-set m.chunks k c h
 
 pub replace-written : (b : List ℕ) (l k i st old new t : ℕ) (d : List ℕ) → Stands b l k → Replaceable b l k i st old
     → new ≡ size (chunk_of t d) → l + (new - old) ≤ length b
-    → noted (noted (starts_moved (behind st old new) k 24 (resized b st l old new)) 0 (heading k (l - (24 + 12 * k) - old + new))) st (chunk_bytes (chunk_of t d))
+    → noted (noted (starts_moved (behind st old new) k 24 (resized b st l old new)) 0 (heading k (l - (24 + 12 * k) - old + new))) st
+    (chunk_bytes (chunk_of t d))
     ≡ written b l (file (replaced (model (take l b)) (ref_at (model (take l b)) i).chunk (chunk_of t d)))
 replace-written b l k i st old new t d stands rp en room =
     let m : Model = model (take l b) in
