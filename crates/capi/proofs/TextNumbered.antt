@@ -1,15 +1,13 @@
 -- `refusal` is 0 exactly where a text was given: 22, 36 to 39 and the reader's numbers are none of them 0.
-use Rattle.std.specs.Prelude.{Result, Ok}
+use Rattle.std.specs.Prelude.{Result, Ok, Option, Some, None}
 use Rattle.blorb.specs.declared.refusal.Refusal.{Refusal}
-use Rattle.blorb.specs.Refusals.{Refused}
+use Rattle.blorb.specs.Refusals.{Refused, verdict_of}
 use mathlib.Core.Path.{◌≡◌, refl}
 use Prim.Native.Nat.{ℕ, zero, suc, ◌+◌}
 use mathlib.Core.List.{List, [], ◌∷◌, ◌++◌}
-use mathlib.Core.Bool.{Bool, true, false, not, ◌&&◌}
+use mathlib.Core.Bool.{Bool, true, false, not, cond}
 use native.Mathlib.Omega.{arith}
 use lib.ListN.{length}
-use lib.Dec.{eqb, ltb}
-use Rattle.blorb.specs.Bytes.{rd32}
 use Rattle.blorb.specs.Verdict.{Verdict, accept, refuse, ◌then◌, pair_in}
 use Rattle.blorb.specs.Rules.{profile_verdict}
 use Rattle.blorb.specs.Model.{base, model}
@@ -18,11 +16,10 @@ use Rattle.locate.specs.Located.{Spot, of_type, located_in, located_by, located_
 use Rattle.locate.specs.declared.Located.{Located}
 use Rattle.locate.specs.declared.Located.TheVariants as located
 use Rattle.utf8.specs.Utf8.{good_length_of}
-use Rattle.rdes.specs.Rdes.{RDes, Desc, usage_at, number_at, size_at, next_at, offset_of, pair_among, good_text, entries_fault, fills, descs_of, chunk_fault}
+use Rattle.rdes.specs.Rdes.{RDes, Desc, pair_among, good_text, entries_fault, fills, descs_of, chunk_fault}
 use Rattle.descriptions.specs.declared.Described.{Described}
 use Rattle.descriptions.specs.declared.Told.{Told}
-use Rattle.descriptions.specs.Texts.{located_fault, rdes_verdict, given_at, pick_described, entry_by, described_by, described_of}
-use Rattle.descriptions.specs.Texts.{pick_told, tell_from_of, look_by, told_by, told_of}
+use Rattle.descriptions.specs.Texts.{located_fault, rdes_verdict, answered_by, or_22, of_one, described_of, told_of}
 use Rattle.capi.specs.Numbered.{Numbered}
 use Rattle.capi.specs.TextNumbers.{text_numbers, told_numbers}
 use Rattle.capi.proofs.Numbered.{one, both, positive}
@@ -54,68 +51,56 @@ rdes_numbered profile f = go (profile_verdict profile f) (λ k p r. not_zero pro
     go (refuse zero p) h = absurd (h 0 p refl refl)
     go (refuse (suc k) p) h = unfold Numbered in omega arith
 
+-- an answer whose verdict has a number has one too
+answered-numbered : {A : Type 0} (v : Verdict) (r : Result A Refusal) → Numbered v → Numbered (verdict_of r) → Numbered (verdict_of (answered_by v r))
+answered-numbered accept r n h = h
+answered-numbered (refuse k p) r n h = n
+
+or-numbered : {A : Type 0} (o : Option A) → Numbered (verdict_of (or_22 o))
+unfolding Numbered
+or-numbered (Some a) = tt
+or-numbered None = omega arith
+
+one-numbered : {A : Type 0} (f : List ℕ) (g : ℕ → ℕ → Option A) (l : Result Located Refusal) → Numbered (located_fault f l) → Numbered (verdict_of (of_one g l))
+one-numbered f g (Ok located.Nothing) n = unfold Numbered in omega arith
+one-numbered f g (Ok (located.One x m)) n = or-numbered (g x m)
+one-numbered f g (Ok (located.More x m y)) n = unfold Numbered in omega arith
+one-numbered f g (Refused k p) n = n
+
 -- a text given by entry, and one told by pair
 abbrev IsGiven : Result Described Refusal → Type 0
-IsGiven r = (u : ℕ) × (n : ℕ) × (a : ℕ) × (m : ℕ) × (r ≡ given u n a m)
+IsGiven r = (d : Described) × (r ≡ Ok d)
 
 abbrev IsTold : Result Told Refusal → Type 0
-IsTold r = (a : ℕ) × (m : ℕ) × (r ≡ text a m)
+IsTold r = (t : Told) × (r ≡ Ok t)
+
+given-by : (r : Result Described Refusal) → Numbered (verdict_of r) → (text_numbers r).refusal ≡ 0 → IsGiven r
+given-by (Ok d) n e = (d, refl)
+given-by (Refused k p) n e = absurd (omega (arith, positive k p n, e))
+
+told-by : (u k : ℕ) (r : Result Told Refusal) → Numbered (verdict_of r) → (told_numbers u k r).refusal ≡ 0 → IsTold r
+told-by u k (Ok t) n e = (t, refl)
+told-by u k (Refused j p) n e = absurd (omega (arith, positive j p n, e))
 
 pub zero-text : (profile : ℕ) (f : List ℕ) (i : ℕ) → (text_numbers (described_of profile f i)).refusal ≡ 0 → IsGiven (described_of profile f i)
-unfolding described_of rdes_verdict
-zero-text profile f i e = go (located_of profile f RDes) (unfold rdes_verdict in rdes_numbered profile f) e
+zero-text profile f i e = given-by (described_of profile f i) numbered e
   where
-    entry : (b : Bool) (d : List ℕ) (x at : ℕ) → (text_numbers (pick_described b (given_at d x at) (Refused 22 0))).refusal ≡ 0
-        → IsGiven (pick_described b (given_at d x at) (Refused 22 0))
-    entry true d x at e = (usage_at d at, number_at d at, x + 8 + at + 12, size_at d at, refl)
-    entry false d x at e = absurd (omega (arith, e))
-
-    judged : (v : Verdict) → Numbered v → (r : Result Described Refusal) → ((text_numbers r).refusal ≡ 0 → IsGiven r)
-        → (text_numbers (described_by v r)).refusal ≡ 0 → IsGiven (described_by v r)
-    judged accept n r h e = h e
-    judged (refuse k p) n r h e = absurd (omega (arith, positive k p n, e))
-
-    go : (l : Result Located Refusal) → Numbered (located_fault f l) → (text_numbers (described_by (located_fault f l) (entry_by f i l))).refusal ≡ 0
-        → IsGiven (described_by (located_fault f l) (entry_by f i l))
-    go (Ok located.Nothing) n e = absurd (omega (arith, e))
-    go (Ok (located.One x m)) n e =
-        judged (chunk_fault (data_at f x m) x) n _ (entry (ltb i (rd32 (data_at f x m))) (data_at f x m) x (offset_of (data_at f x m) i 4)) e
-    go (Ok (located.More x m y)) n e = judged (chunk_fault (data_at f x m) x then refuse 36 y) n (Refused 36 y) (λ z. absurd (omega (arith, z))) e
-    go (Refused k p) n e = absurd (omega (arith, positive k p n, e))
-
-told_or : (u k : ℕ) (x : Bool) (a m : ℕ) (r : Result Told Refusal) → ((told_numbers u k r).refusal ≡ 0 → IsTold r)
-    → (told_numbers u k (pick_told x (text a m) r)).refusal ≡ 0 → IsTold (pick_told x (text a m) r)
-told_or u k true a m r h e = (a, m, refl)
-told_or u k false a m r h e = h e
-
-tells : (u k : ℕ) (d : List ℕ) (b n at : ℕ) → (told_numbers u k (tell_from_of u k d b n at)).refusal ≡ 0 → IsTold (tell_from_of u k d b n at)
-unfolding tell_from_of
-tells u k d b zero at e = absurd (omega (arith, e))
-tells u k d b (suc n) at e =
-    told_or u k (eqb (usage_at d at) u && eqb (number_at d at) k) (b + at + 12) (size_at d at) (tell_from_of u k d b n (next_at d at))
-    (λ z. tells u k d b n (next_at d at) z) e
+    numbered : Numbered (verdict_of (described_of profile f i))
+    unfolding described_of rdes_verdict
+    numbered =
+        let n = unfold rdes_verdict in rdes_numbered profile f in
+        answered-numbered (located_fault f (located_of profile f RDes)) _ n (one-numbered f _ (located_of profile f RDes) n)
 
 pub zero-told : (profile : ℕ) (f : List ℕ) (u k : ℕ) → (told_numbers u k (told_of profile f u k)).refusal ≡ 0 → IsTold (told_of profile f u k)
-unfolding told_of rdes_verdict
-zero-told profile f u k e = go (located_of profile f RDes) (unfold rdes_verdict in rdes_numbered profile f) e
+zero-told profile f u k e = told-by u k (told_of profile f u k) numbered e
   where
-    listed : (b : Bool) (r : Result Told Refusal) → ((told_numbers u k r).refusal ≡ 0 → IsTold r) → (told_numbers u k (pick_told b r (Refused 22 0))).refusal ≡ 0
-        → IsTold (pick_told b r (Refused 22 0))
-    listed true r h e = h e
-    listed false r h e = absurd (omega (arith, e))
+    listed : (b : Bool) (r : Result Told Refusal) → Numbered (verdict_of r) → Numbered (verdict_of (cond b r (Refused 22 0)))
+    listed true r n = n
+    listed false r n = unfold Numbered in omega arith
 
-    judged : (v : Verdict) → Numbered v → (r : Result Told Refusal) → ((told_numbers u k r).refusal ≡ 0 → IsTold r)
-        → (told_numbers u k (told_by v r)).refusal ≡ 0 → IsTold (told_by v r)
-    judged accept n r h e = h e
-    judged (refuse j p) n r h e = absurd (omega (arith, positive j p n, e))
-
-    go : (l : Result Located Refusal) → Numbered (located_fault f l)
-        → (told_numbers u k (told_by (located_fault f l) (pick_told (pair_in u k (model f).refs) (look_by f u k l) (Refused 22 0)))).refusal ≡ 0
-        → IsTold (told_by (located_fault f l) (pick_told (pair_in u k (model f).refs) (look_by f u k l) (Refused 22 0)))
-    go (Ok located.Nothing) n e = listed (pair_in u k (model f).refs) (Refused 22 0) (λ z. absurd (omega (arith, z))) e
-    go (Ok (located.One x m)) n e =
-        judged (chunk_fault (data_at f x m) x) n _
-        (listed (pair_in u k (model f).refs) _ (tells u k (data_at f x m) (x + 8) (rd32 (data_at f x m)) 4)) e
-    go (Ok (located.More x m y)) n e =
-        judged (chunk_fault (data_at f x m) x then refuse 36 y) n _ (listed (pair_in u k (model f).refs) (Refused 36 y) (λ z. absurd (omega (arith, z)))) e
-    go (Refused j p) n e = absurd (omega (arith, positive j p n, e))
+    numbered : Numbered (verdict_of (told_of profile f u k))
+    unfolding told_of rdes_verdict
+    numbered =
+        let n = unfold rdes_verdict in rdes_numbered profile f in
+        answered-numbered (located_fault f (located_of profile f RDes)) _ n
+        (listed (pair_in u k (model f).refs) _ (one-numbered f _ (located_of profile f RDes) n))

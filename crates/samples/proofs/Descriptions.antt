@@ -1,4 +1,7 @@
 -- Texts (02, P7): the examples of RFC 3629, and files that hold an 'RDes', proved in one table. What the code answers follows by its contracts.
+use Rattle.std.specs.Prelude.{Ok}
+use Rattle.blorb.specs.Refusals.{Refused}
+use Rattle.descriptions.specs.Texts.{described_with, told_with}
 use mathlib.Core.Path.{refl}
 use Prim.Native.Nat.{ℕ}
 use mathlib.Core.List.{List, [], ◌∷◌, ◌++◌}
@@ -12,8 +15,6 @@ use Rattle.rdes.specs.Rdes.{RDes, offset_of, fills_from, fills, descs_from, pair
 use Rattle.rdes.specs.Rdes as rdes
 use Rattle.locate.specs.Located.{of_type, located_of}
 use Rattle.descriptions.specs.Texts.{rdes_verdict, described_of, tell_from_of, told_of}
-use Rattle.descriptions.specs.declared.Described.TheVariants.{Given, Refused}
-use Rattle.descriptions.specs.declared.Told.TheVariants.{Text, Refused as Untold}
 use Rattle.samples.specs.Files.{A, eel}
 use Rattle.samples.specs.TextRows.{TextRow, good, describes, tells, TextRowHolds}
 use Rattle.samples.proofs.Parts.{parts}
@@ -50,16 +51,16 @@ texts =
     good (244 ∷ (144 ∷ (128 ∷ (128 ∷ [])))) 0 ∷ (
     good (226 ∷ (130 ∷ [])) 0 ∷ (
     -- the text of Data 7, at 72; no other entry, no other pair
-    describes 0 spoken 0 (Given Data 7 72 3) ∷ (
+    describes 0 spoken 0 (Ok (described_with Data 7 72 3)) ∷ (
     describes 0 spoken 1 (Refused 22 0) ∷ (
-    tells 0 spoken Data 7 (Text 72 3) ∷ (
-    tells 1 spoken Data 7 (Text 72 3) ∷ (
-    tells 0 spoken Pict 1 (Untold 22 0) ∷ (
+    tells 0 spoken Data 7 (Ok (told_with 72 3)) ∷ (
+    tells 1 spoken Data 7 (Ok (told_with 72 3)) ∷ (
+    tells 0 spoken Pict 1 (Refused 22 0) ∷ (
     -- no 'RDes'
     describes 0 A 0 (Refused 22 0) ∷ (
     -- a resource that is not in the index: by entry, not by pair
-    describes 0 (described 68 (body (entry Snd 3 eel))) 0 (Given Snd 3 72 3) ∷ (
-    tells 0 (described 68 (body (entry Snd 3 eel))) Snd 3 (Untold 22 0) ∷ (
+    describes 0 (described 68 (body (entry Snd 3 eel))) 0 (Ok (described_with Snd 3 72 3)) ∷ (
+    tells 0 (described 68 (body (entry Snd 3 eel))) Snd 3 (Refused 22 0) ∷ (
     -- 52; the reader's own
     describes 2 spoken 0 (Refused 52 0) ∷ (
     describes 0 (take 75 spoken) 0 (Refused 5 4) ∷ (
