@@ -95,15 +95,19 @@ fn quick_look(spot: &Spot) -> Option<Member>
     if !spot.is_padded() {
         return None;
     }
-    let kind = spot.kind();
-    if !spot.place.may_hold(kind) {
-        return None;
-    }
     let next = close + m % 2;
-    let after = spot.place.behind(kind);
-    match kind {
-        Kind::Plain => Some(Member::Passed { next, after }),
-        Kind::Form if 4 <= m && spot.depth <= 16 => Some(Member::Form { close, next, after }),
+    match spot.kind() {
+        Kind::Plain if spot.place.may_hold(Kind::Plain) => Some(Member::Passed {
+            next,
+            after: spot.place.behind(Kind::Plain),
+        }),
+        Kind::Form if 4 <= m && spot.depth <= 16 && spot.place.may_hold(Kind::Form) => {
+            Some(Member::Form {
+                close,
+                next,
+                after: spot.place.behind(Kind::Form),
+            })
+        }
         _ => None,
     }
 }

@@ -1,5 +1,5 @@
 -- The header is whole, the size and the padding stay in the parent, and the kind may stand there: no fault is left.
-use mathlib.Core.Path.{◌≡◌, ap, sym, ◌∙◌}
+use mathlib.Core.Path.{◌≡◌, sym, ◌∙◌}
 use mathlib.Core.Bool.{true}
 use Rattle.members.specs.declared.Kind.TheVariants.{Form, Plain}
 use Rattle.members.specs.Kinds.{may_hold_of}
@@ -14,10 +14,10 @@ returns-in-Plain c =
     let size = c.size-m.ensures.0 in
     let pad = sym c.is_padded.ensures ∙ c.if-not-is_padded.false in
     let look = looked a.file.now a.end a.at _ size c.if-spot-lt8.false c.if-spot-close.false pad in
-    let kind : kind_at a.file.now a.at ≡ Plain = sym c.kind-kind.ensures ∙ c.in-Plain.is in
-    let held : may_hold_of a.place Plain ≡ true = ap (may_hold_of a.place) (sym c.in-Plain.is) ∙ sym c.may_hold.ensures ∙ c.if-not-may_hold.false in
+    let kind : kind_at a.file.now a.at ≡ Plain = sym c.kind.ensures ∙ c.in-Plain.is in
+    let held : may_hold_of a.place Plain ≡ true = sym c.may_hold.ensures ∙ c.if-may_hold.true in
     let fine = plain_fine a.file.now a.place a.depth a.end a.at look kind held in
-    rw (c.behind-after.ensures, c.in-Plain.is) (quick-passed a.file.now a.place a.depth a.end a.at _ fine (rw size) kind)
+    rw c.behind.ensures (quick-passed a.file.now a.place a.depth a.end a.at _ fine (rw size) kind)
 
 pub returns-in-Form : goal.returns-in-Form
 returns-in-Form c =
@@ -25,7 +25,7 @@ returns-in-Form c =
     let size = c.size-m.ensures.0 in
     let pad = sym c.is_padded.ensures ∙ c.if-not-is_padded.false in
     let look = looked a.file.now a.end a.at _ size c.if-spot-lt8.false c.if-spot-close.false pad in
-    let kind : kind_at a.file.now a.at ≡ Form = sym c.kind-kind.ensures ∙ c.in-Form.is in
-    let held : may_hold_of a.place Form ≡ true = ap (may_hold_of a.place) (sym c.in-Form.is) ∙ sym c.may_hold.ensures ∙ c.if-not-may_hold.false in
+    let kind : kind_at a.file.now a.at ≡ Form = sym c.kind.ensures ∙ c.in-Form.is in
+    let held : may_hold_of a.place Form ≡ true = sym c.may_hold-then-spot-le16.ensures ∙ c.if-may_hold-2.true in
     let fine = form_fine a.file.now a.place a.depth a.end a.at look kind (rw size at c.if-m-ge4.true) c.if-spot-le16.true held in
-    rw (c.behind-after.ensures, c.in-Form.is) (quick_form a.file.now a.place a.depth a.end a.at _ fine (rw size) _ kind (rw size))
+    rw c.behind-in-Form.ensures (quick_form a.file.now a.place a.depth a.end a.at _ fine (rw size) _ kind (rw size))
