@@ -1,18 +1,19 @@
 -- The search for the 'COMM' chunk, and the fields in it. The search goes by one chunk of an accepted walk at a time: what was seen so far and the chunks
 -- still to come have the same answer as all of them (seen_found). The fields stand in the chunk's 18 bytes, so they can be read where these lie in the file.
-use Prim.Native.Nat.{ℕ, ◌+◌, ◌*◌, ◌/◌, ◌%◌, ◌≤◌, ◌<◌}
+use Prim.Native.Nat.{ℕ, ◌+◌, ◌*◌, ◌/◌, ◌%◌, ◌-◌, ◌≤◌, ◌<◌}
 use mathlib.Core.Path.{◌≡◌, refl, ap, sym, ◌∙◌}
 use mathlib.Core.List.{List, ◌∷◌}
 use mathlib.Core.Bool.{Bool, true, false, cond}
 use native.Mathlib.Omega.{arith}
 use lib.ListN.{length, take, drop}
+use Rattle.std.proofs.lemmas.List.{drop-take}
 use lib.Seq.{get_or-take, drop-drop}
 use lib.Dec.{eqb}
 use borrow.Author.Tests.{ne_eqb}
 use Rattle.blorb.specs.Bytes.{rd32}
 use Rattle.blorb.specs.Format.{Chunk, sized, size, chunk_in, chunks_of}
 use Rattle.blorb.specs.Verdict.{Verdict, accept, refuse}
-use Rattle.blorb.proofs.ByteLaws.{rd32-at}
+use Rattle.blorb.proofs.UsageLaws.{rd32-take}
 use Rattle.blorb.proofs.Checks.{and_both}
 use Rattle.chunks.specs.Walk.{chunk_from, skip_at, chunks_from, walk_from}
 use Rattle.chunks.proofs.ChunkLaws.{chunks_end, fine, walked}
@@ -114,16 +115,11 @@ module _ (f : List ℕ) where
     told_other e = one ∙ rw (ne_eqb (rd32 (drop (x + 4) f)) 18 e)
 
 -- the fields lie in the 18 bytes
-rd32-take : (n k : ℕ) (s : List ℕ) → k + 4 ≤ n → rd32 (drop k (take n s)) ≡ rd32 (drop k s)
-rd32-take n k s h =
-    let a : k < n = omega arith in
-    let b : k + 1 < n = omega arith in
-    let c : k + 2 < n = omega arith in
-    let d : k + 3 < n = omega arith in
-    rd32-at (take n s) k ∙ rw (get_or-take n s k 0 a, get_or-take n s (k + 1) 0 b, get_or-take n s (k + 2) 0 c, get_or-take n s (k + 3) 0 d) (sym (rd32-at s k))
+rd32_within : (n k : ℕ) (s : List ℕ) → k + 4 ≤ n → rd32 (drop k (take n s)) ≡ rd32 (drop k s)
+rd32_within n k s h = let e : n ≡ k + (n - k) = omega arith in rw e (ap rd32 (drop-take k (n - k) s) ∙ rd32-take (n - k) (drop k s) (omega arith))
 
-rd16-take : (n k : ℕ) (s : List ℕ) → k + 2 ≤ n → rd16 (drop k (take n s)) ≡ rd16 (drop k s)
-rd16-take n k s h =
+rd16_within : (n k : ℕ) (s : List ℕ) → k + 2 ≤ n → rd16 (drop k (take n s)) ≡ rd16 (drop k s)
+rd16_within n k s h =
     let a : k < n = omega arith in
     let b : k + 1 < n = omega arith in
     rd16-at (take n s) k ∙ rw (get_or-take n s k 0 a, get_or-take n s (k + 1) 0 b) (sym (rd16-at s k))
@@ -136,7 +132,7 @@ rate_at_lem f at = rw (drop-drop 2 at f, drop-drop 6 at f)
 
 rate_take : (s : List ℕ) → rate_in (drop 8 (take 18 s)) ≡ rate_in (drop 8 s)
 rate_take s =
-    rate_at_lem (take 18 s) 8 ∙ rw (rd16-take 18 8 s (omega arith), rd32-take 18 10 s (omega arith), rd32-take 18 14 s (omega arith)) (sym (rate_at_lem s 8))
+    rate_at_lem (take 18 s) 8 ∙ rw (rd16_within 18 8 s (omega arith), rd32_within 18 10 s (omega arith), rd32_within 18 14 s (omega arith)) (sym (rate_at_lem s 8))
 
 -- a 'COMM' chunk's fields, from the file's bytes
 pub sound-at : (f : List ℕ) (at : ℕ) → sound_of (take 18 (drop (at + 8) f))
@@ -147,9 +143,9 @@ sound-at f at =
     let p2 : at + 8 + 2 ≡ at + 10 = omega arith in
     let p6 : at + 8 + 6 ≡ at + 14 = omega arith in
     let p8 : at + 8 + 8 ≡ at + 16 = omega arith in
-    let e0 : rd16 (take 18 s) ≡ rd16 s = rd16-take 18 0 s (omega arith) in
-    let e2 : rd32 (drop 2 (take 18 s)) ≡ rd32 (drop (at + 10) f) = rd32-take 18 2 s (omega arith) ∙ rw (drop-drop 2 (at + 8) f, p2) in
-    let e6 : rd16 (drop 6 (take 18 s)) ≡ rd16 (drop (at + 14) f) = rd16-take 18 6 s (omega arith) ∙ rw (drop-drop 6 (at + 8) f, p6) in
+    let e0 : rd16 (take 18 s) ≡ rd16 s = rd16_within 18 0 s (omega arith) in
+    let e2 : rd32 (drop 2 (take 18 s)) ≡ rd32 (drop (at + 10) f) = rd32_within 18 2 s (omega arith) ∙ rw (drop-drop 2 (at + 8) f, p2) in
+    let e6 : rd16 (drop 6 (take 18 s)) ≡ rd16 (drop (at + 14) f) = rd16_within 18 6 s (omega arith) ∙ rw (drop-drop 6 (at + 8) f, p6) in
     let e8 : rate_in (drop 8 (take 18 s)) ≡ rate_in (drop (at + 16) f) = rate_take s ∙ rw (drop-drop 8 (at + 8) f, p8) in
     rw (e8, e0, e2, e6)
 

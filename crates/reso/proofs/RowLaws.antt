@@ -1,14 +1,15 @@
 -- The rows of a 'Reso' chunk one by one: what an iterator over them gives, and the row of a picture.
 use mathlib.Core.Path.{◌≡◌, refl, sym, ap, ◌∙◌}
-use Prim.Native.Nat.{ℕ, zero, suc, ◌+◌, ◌*◌, ◌-◌, ◌/◌, ◌≤◌, ◌<◌}
+use Prim.Native.Nat.{ℕ, zero, suc, ◌+◌, ◌*◌, ◌-◌, ◌/◌, ◌≤◌}
 use mathlib.Core.List.{List, [], ◌∷◌, ◌++◌}
 use mathlib.Core.Bool.{Bool, true, false, cond, not}
 use native.Mathlib.Omega.{arith}
 use lib.ListN.{length, take, drop, length-append, length-drop}
-use lib.Seq.{get_or-take, drop-drop, take-length, take-append_seam, drop-append_seam}
+use Rattle.std.proofs.lemmas.List.{drop-take}
+use lib.Seq.{drop-drop, take-length, take-append_seam, drop-append_seam}
 use Rattle.std.specs.declared.slice.ChunksExact.{ChunksExact}
 use Rattle.blorb.specs.Bytes.{rd32}
-use Rattle.blorb.proofs.ByteLaws.{rd32-at}
+use Rattle.blorb.proofs.UsageLaws.{rd32-take}
 use lib.Dec.{eqb, ltb}
 use borrow.Author.Tests.{ltb-true, ltb-false, lt-ltb, le-ltb}
 use denote.Ref.{Bor}
@@ -27,12 +28,7 @@ row_bytes d zero at = []
 row_bytes d (suc n) at = take 28 (drop at d) ∷ row_bytes d n (at + 28)
 
 four-take : (s : List ℕ) (k : ℕ) → k + 4 ≤ 28 → word_at (take 28 s) k ≡ word_at s k
-four-take s k h =
-    let a : k < 28 = omega arith in
-    let b : k + 1 < 28 = omega arith in
-    let c : k + 2 < 28 = omega arith in
-    let e : k + 3 < 28 = omega arith in
-    rd32-at (take 28 s) k ∙ rw (get_or-take 28 s k 0 a, get_or-take 28 s (k + 1) 0 b, get_or-take 28 s (k + 2) 0 c, get_or-take 28 s (k + 3) 0 e) (sym (rd32-at s k))
+four-take s k h = let e : 28 ≡ k + (28 - k) = omega arith in rw e (ap rd32 (drop-take k (28 - k) s) ∙ rd32-take (28 - k) (drop k s) (omega arith))
 
 -- a row's own bytes say what the chunk says of it
 word_there : (d : List ℕ) (at k : ℕ) → k + 4 ≤ 28 → word_at (take 28 (drop at d)) k ≡ word_at d (at + k)
