@@ -5,13 +5,11 @@ use mathlib.Core.List.{List}
 use native.Mathlib.Omega.{arith}
 use lib.ListN.{length, take, drop, length-drop}
 use lib.Seq.{length-take-le}
-use lib.Dec.{leb}
-use borrow.Author.Tests.{le-leb, lt-leb}
 use Rattle.blorb.specs.Verdict.{Verdict, accept, refuse}
 use Rattle.blorb.specs.Rules.{rules_of}
 use Rattle.edits.specs.Run.{State, Call, fault, after, step, answered}
 use Rattle.editor.specs.declared.Answer.{Answer}
-use Rattle.editor.specs.Called.{Called, blank_answer}
+use Rattle.editor.specs.Called.{Called}
 use Rattle.editor.specs.Post.{refused_with, done_with}
 
 -- a call's promise
@@ -45,20 +43,8 @@ pub called_as : (profile : ℕ) (s : State) (c c' : Call) (r : Answer) (b j : Li
 called_as profile s c c' r b j e h = subst (λ (z : Call). Called profile s z r b j) e h
 
 -- the same of an answer that a function gave
-pub gave_refused : (profile : ℕ) (s : State) (c : Call) (r : Answer) (n p : ℕ) → r ≡ refused_with n p s.L s.U → fault (rules_of profile) s c ≡ refuse n p
-    → Called profile s c r s.buffer s.journal
-gave_refused profile s c r n p e h = subst (λ (z : Answer). Called profile s c z s.buffer s.journal) (sym e) (called_refused profile s c n p h)
-
-pub gave_done : (profile : ℕ) (s : State) (c : Call) (r : Answer) (l u : ℕ) (b j : List ℕ) → r ≡ done_with l u → fault (rules_of profile) s c ≡ accept
-    → l ≡ (after s c).L → u ≡ (after s c).U → b ≡ (after s c).buffer → j ≡ (after s c).journal → Called profile s c r b j
-gave_done profile s c r l u b j e h el eu eb ej = subst (λ (z : Answer). Called profile s c z b j) (sym e) (called_done profile s c l u b j h el eu eb ej)
-
--- blank's two answers
-pub blank-refused : (N : ℕ) → N < 24 → refused_with 24 0 0 0 ≡ blank_answer (leb 24 N)
-blank-refused N h = rw (lt-leb 24 N h)
-
-pub blank-done : (N l u : ℕ) → 24 ≤ N → l ≡ 24 → u ≡ 0 → done_with l u ≡ blank_answer (leb 24 N)
-blank-done N l u h el eu = rw (le-leb 24 N h) (λ i. done_with (el i) (eu i))
+pub gave : (profile : ℕ) (s : State) (c : Call) (r r' : Answer) (b j : List ℕ) → r ≡ r' → Called profile s c r' b j → Called profile s c r b j
+gave profile s c r r' b j e h = subst (λ (z : Answer). Called profile s c z b j) (sym e) h
 
 -- a part of n bytes from x on
 pub part-size : (x n : ℕ) → x + n - x ≡ n

@@ -26,8 +26,10 @@ use Rattle.blorb.proofs.Profiles.{profile_known}
 use Rattle.blorb.proofs.VerdictLaws.{model_fault, file-judged}
 use Rattle.blorb.proofs.FindLaws.{pair_found, find-pair, look_missing, look_find}
 use Rattle.reader.specs.Reading.{found_at, lookup_of, part_of}
-use Rattle.reader.specs.declared.Looked.{Looked}
-use Rattle.reader.specs.declared.Looked.TheVariants.{Found, Refused}
+use Rattle.std.specs.Prelude.{Result, Ok}
+use Rattle.blorb.specs.declared.refusal.Refusal.{Refusal}
+use Rattle.blorb.specs.Refusals.{Refused}
+use Rattle.reader.specs.declared.Resource.{Resource}
 use Rattle.reader.proofs.Promises.{lookup_here, lookup_nowhere}
 use Rattle.edits.specs.Edit.{Edit, add, replace, remove, link, added, linked, edited, given_chunk}
 use Rattle.edits.specs.Run.{ArgsOk, whole_fault, target_fault, edited_file, edit_fault}
@@ -55,10 +57,10 @@ use Rattle.edits.proofs.ReadBack.{
 use Rattle.editor.specs.ReadsBack.{Content, nothing, holds, content_of, Holds, DataBytes, OwnPair, Apart, OtherPair}
 
 -- the two answers of a lookup
-content_found : (profile : ℕ) (f : List ℕ) (u n t x m : ℕ) → lookup_of profile f u n ≡ Found t x m
-    → content_of profile f u n ≡ holds t (part_of (lookup_of profile f u n) f)
+content_found : (profile : ℕ) (f : List ℕ) (u n : ℕ) (r : Resource) → lookup_of profile f u n ≡ Ok r
+    → content_of profile f u n ≡ holds r.kind (part_of (lookup_of profile f u n) f)
 unfolding content_of
-content_found profile f u n t x m e = rw e
+content_found profile f u n r e = rw e
 
 content_refused : (profile : ℕ) (f : List ℕ) (u n k p : ℕ) → lookup_of profile f u n ≡ Refused k p → content_of profile f u n ≡ nothing
 unfolding content_of
@@ -108,7 +110,7 @@ module _ (profile : ℕ) (f : List ℕ) (u n : ℕ) (o : Own profile f) where
         let left : ℕ = left_out_of c.type in
         let size : ℕ = 8 + length c.body - left in
         let small : length (file m) < W = omega (arith, ap length o.good.whole, o.good.short) in
-        ap (λ (a : Looked). part_of a f) (lookup_here profile f u n o.fine c there).0
+        ap (λ (a : Result Resource Refusal). part_of a f) (lookup_here profile f u n o.fine c there).0
         ∙ ap (take size) (sym (drop-drop left x f))
         ∙ ap (λ (g : List ℕ). take size (drop left (drop x g))) (sym o.good.whole)
         ∙ ap (λ (g : List ℕ). take size (drop left g)) (drop-start m k o.good.sound (chunk_in m i o.good.sound l) small)
@@ -138,7 +140,7 @@ content_is profile f u n o = go (lookup (model f) u n) refl
   where
     go : (l : Look) → lookup (model f) u n ≡ l → content_of profile f u n ≡ content_in l
     go missing e = content_refused profile f u n 22 0 (lookup_nowhere profile f u n o.fine e)
-    go (here c) e = content_found profile f u n _ _ _ (lookup_here profile f u n o.fine c e).0 ∙ ap (holds c.type) (part_here profile f u n o c e)
+    go (here c) e = content_found profile f u n _ (lookup_here profile f u n o.fine c e).0 ∙ ap (holds c.type) (part_here profile f u n o c e)
 
 -- of data that was given to an add or a replacement the lookup gives all again, the head of a 'FORM' included
 pub holds_given : (profile : ℕ) (f : List ℕ) (u n t : ℕ) (d : List ℕ) → Own profile f → (t ≡ FORM → All Byte d) → whole_fault t d ≡ accept
@@ -149,7 +151,7 @@ holds_given profile f u n t d o bytes w e =
     let back : shown c ≡ d = given-shown t d bytes w in
     let l : 8 + length c.body - left_out_of t ≡ length d = sym (shown-length c) ∙ ap length back in
     let x : ℕ = start (model f) (ref_at (model f) (find u n (model f).refs)).chunk + left_out_of t in
-    record { start = x; found = p ∙ ap (Found t x) l; content = content_found profile f u n _ _ _ p ∙ ap (holds t) (part_here profile f u n o c e ∙ back) }
+    record { start = x; found = p ∙ ap (λ (z : ℕ). Ok (record { kind = t; start = x; length = z })) l; content = content_found profile f u n _ p ∙ ap (holds t) (part_here profile f u n o c e ∙ back) }
 
 -- a successful edit of the file f: both files are accepted, and the new one's model is the edited model
 pub record Told (profile : ℕ) (f : List ℕ) (e : Edit) : Type 0 where

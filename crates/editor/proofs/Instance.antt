@@ -35,7 +35,8 @@ use Rattle.edits.specs.Run.{undo_fault}
 use Rattle.edits.specs.Run.{written, noted, after_edit, after_undo, after}
 use Rattle.edits.specs.Demand3.{Begins}
 use Rattle.editor.specs.declared.Answer.{Answer}
-use Rattle.editor.specs.declared.Outcome.TheVariants.{Done, Refused}
+use Rattle.std.specs.Prelude.{Ok}
+use Rattle.blorb.specs.Refusals.{Refused}
 use Rattle.edits.specs.Run.{state}
 use Rattle.editor.specs.Called.{Called}
 use Rattle.editor.specs.Runs.{AsLedger}
@@ -160,7 +161,7 @@ add_rect = edit (add (rd32 (be32 Pict)) 1 (rd32 (be32 Rect)) (replicate 8 0))
 
 -- the answers
 abbrev done : ℕ → ℕ → Answer
-done l u = record { outcome = Done; len = l; used = u }
+done l u = record { outcome = Ok tt; len = l; used = u }
 
 abbrev refused : ℕ → ℕ → ℕ → Answer
 refused k l u = record { outcome = Refused k 0; len = l; used = u }

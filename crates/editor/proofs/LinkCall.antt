@@ -17,10 +17,9 @@ use Rattle.moves.specs.Moves.{record_of}
 use Rattle.rewrite.specs.Rewriting.{Stands, Insertable}
 use Rattle.planning.proofs.PlanLaws.{stands_as}
 use Rattle.planning.proofs.LinkPlan.{Ready, record_29, link-length}
-use Rattle.editor.specs.declared.Answer.{Answer}
 use Rattle.editor.specs.Called.{Called}
 use Rattle.editor.specs.Post.{done_with}
-use Rattle.editor.proofs.CallLaws.{gave_done}
+use Rattle.editor.proofs.CallLaws.{called_done}
 
 module _ (profile : ℕ) (b : List ℕ) (l J U v o u n : ℕ) (bytes : All Byte (take l b)) where
   abbrev m : Model
@@ -55,7 +54,7 @@ module _ (profile : ℕ) (b : List ℕ) (l J U v o u n : ℕ) (bytes : All Byte 
     unfolding edited_file edited linked
     file_is = λ z. file (entered m (r.place_is z) (its_number z) u n)
 
-    record_is : record_of 5 (record { usage = u; number = n; start = x + 12 }) y 0 [] ≡ rec_of m (link v o u n)
+    record_is : record_of 5 (record { name = record { usage = u; number = n }; start = x + 12 }) y 0 [] ≡ rec_of m (link v o u n)
     unfolding record_of rec_of
     record_is =
         let s : x + 12 ≡ start (linked m kc u n) kc = ap (λ (z : ℕ). z + 12) r.start_is ∙ sym (linked-start m u n kc) in
@@ -63,12 +62,12 @@ module _ (profile : ℕ) (b : List ℕ) (l J U v o u n : ℕ) (bytes : All Byte 
 
 -- the call, once its plan goes on
 pub made : (profile : ℕ) (b j : List ℕ) (l U v o u n : ℕ) (bytes : All Byte (take l b)) (k y x : ℕ) → Ready profile b l (length j) U v o u n bytes k y x
-    → (c : Answer) (b' j' : List ℕ) → c ≡ done_with (l + 12) (U + 29) → b' ≡ written b l (file (entered (model (take l b)) y (place_at (model (take l b)) x) u n))
-    → j' ≡ noted j U (rec_bytes (record_of 5 (record { usage = u; number = n; start = x + 12 }) y 0 []))
-    → Called profile (state b l j U) (edit (link v o u n)) c b' j'
+    → (b' j' : List ℕ) → b' ≡ written b l (file (entered (model (take l b)) y (place_at (model (take l b)) x) u n))
+    → j' ≡ noted j U (rec_bytes (record_of 5 (record { name = record { usage = u; number = n }; start = x + 12 }) y 0 []))
+    → Called profile (state b l j U) (edit (link v o u n)) (done_with (l + 12) (U + 29)) b' j'
 unfolding fault after after_edit edit_record
-made profile b j l U v o u n bytes k y x r c b' j' ec eb ej =
-    gave_done profile (state b l j U) (edit (link v o u n)) c _ _ b' j' ec r.fine (sym (link-length profile b l (length j) U v o u n bytes r.found))
+made profile b j l U v o u n bytes k y x r b' j' eb ej =
+    called_done profile (state b l j U) (edit (link v o u n)) _ _ b' j' r.fine (sym (link-length profile b l (length j) U v o u n bytes r.found))
     (ap (λ (z : ℕ). U + z) (sym (record_29 profile b l (length j) U v o u n bytes)))
     (eb ∙ ap (written b l) (file_is profile b l (length j) U v o u n bytes k y x r))
     (ej ∙ ap (λ (z : Rec). noted j U (rec_bytes z)) (record_is profile b l (length j) U v o u n bytes k y x r))

@@ -38,7 +38,8 @@ use Rattle.edits.specs.Run.{
   undone_file,
 }
 use Rattle.edits.proofs.RunLaws.{length-written, take-written, length-noted, take-noted, Good, Made, made}
-use Rattle.editor.specs.declared.Outcome.TheVariants.{Done, Refused}
+use Rattle.std.specs.Prelude.{Ok}
+use Rattle.blorb.specs.Refusals.{Refused}
 use Rattle.editor.specs.declared.Answer.{Answer}
 use Rattle.editor.specs.Called.{verdict_of, Called}
 use Rattle.editor.specs.ReadsBack.{content_of, file_of, file_after, DataBytes, ReadsBack}
@@ -125,7 +126,7 @@ undo_gives_back profile s e bytes args h =
 
 -- The same for the buffers and the answer of a call: this is what its contract (`Called`) and reader::lookup's tell together.
 pub call_reads_back : (profile : ℕ) (s : State) (e : Edit) (r : Answer) (b j : List ℕ) → All Byte s.buffer → ArgsOk e → DataBytes e
-    → Called profile s (edit e) r b j → r.outcome ≡ Done → ReadsBack profile e (file_of s) (take r.len b)
+    → Called profile s (edit e) r b j → r.outcome ≡ Ok tt → ReadsBack profile e (file_of s) (take r.len b)
 call_reads_back profile s e r b j bytes args given c done =
     subst (λ (g : List ℕ). ReadsBack profile e (file_of s) g) (λ i. take (sym c.len i) (sym c.file i))
     (reads_back profile s e bytes args given (sym c.outcome ∙ ap verdict_of done))

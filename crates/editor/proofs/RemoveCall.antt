@@ -22,10 +22,9 @@ use Rattle.judging.proofs.OpenLaws.{place_is, start_is, length-is}
 use Rattle.undoing.proofs.ChunkAt.{body_at}
 use Rattle.planning.proofs.PlanLaws.{stands_as}
 use Rattle.planning.proofs.RemovePlan.{Found, Ready, gone_sized, gone_now, body-sized, length_now, record_now}
-use Rattle.editor.specs.declared.Answer.{Answer}
 use Rattle.editor.specs.Called.{Called}
 use Rattle.editor.specs.Post.{done_with}
-use Rattle.editor.proofs.CallLaws.{gave_done, part-size, part_length}
+use Rattle.editor.proofs.CallLaws.{called_done, part-size, part_length}
 
 module _ (profile : ℕ) (b : List ℕ) (l J U u n : ℕ) (bytes : All Byte (take l b)) where
   abbrev m : Model
@@ -80,15 +79,15 @@ module _ (profile : ℕ) (b : List ℕ) (l J U u n : ℕ) (bytes : All Byte (tak
           },
         )
 
-    pub record_is : record_of (cond p.shared 4 3) (record { usage = u; number = n; start = p.start }) p.place (cond p.shared 0 p.kind)
+    pub record_is : record_of (cond p.shared 4 3) (record { name = record { usage = u; number = n }; start = p.start }) p.place (cond p.shared 0 p.kind)
         (take (cond p.shared 0 p.length) (drop (p.start + 8) b)) ≡ rec_of m (remove u n)
     unfolding record_of rec_of removal
     record_is =
-        ap (λ (z : Piece). record_of (cond z.shared 4 3) (record { usage = u; number = n; start = z.start }) z.place (cond z.shared 0 z.kind)
+        ap (λ (z : Piece). record_of (cond z.shared 4 3) (record { name = record { usage = u; number = n }; start = z.start }) z.place (cond z.shared 0 z.kind)
         (take (cond z.shared 0 z.length) (drop (z.start + 8) b))) r.piece_is
         ∙ go (shared m i)
       where
-        go : (y : Bool) → record_of (cond y 4 3) (record { usage = u; number = n; start = start m kc }) i (cond y 0 (chunk_at m kc).type)
+        go : (y : Bool) → record_of (cond y 4 3) (record { name = record { usage = u; number = n }; start = start m kc }) i (cond y 0 (chunk_at m kc).type)
             (take (cond y 0 (length (chunk_at m kc).body)) (drop (start m kc + 8) b)) ≡ removal y m u n i
         go true = refl
         go false = λ z. record { kind = 3; usage = u; number = n; place = i; start = start m kc; type = (chunk_at m kc).type; body = body_of r.found z }
@@ -105,19 +104,19 @@ module _ (profile : ℕ) (b j : List ℕ) (l U u n : ℕ) (bytes : All Byte (tak
   pub record_room : U + (29 + length (take (p.start + 8 + x - (p.start + 8)) (drop (p.start + 8) b))) ≤ length j
   record_room = let h = part_length b (p.start + 8) x part_in in omega (arith, used_room)
 
-  pub made : (a kd t : ℕ) (c : Answer) (b' j' : List ℕ) → a ≡ cond p.shared 0 (8 + (p.length + p.length % 2)) → kd ≡ cond p.shared 4 3
+  pub made : (a kd t : ℕ) (b' j' : List ℕ) → a ≡ cond p.shared 0 (8 + (p.length + p.length % 2)) → kd ≡ cond p.shared 4 3
       → t ≡ cond p.shared 0 p.kind
-      → c ≡ done_with (l - (12 + a)) (U + (29 + x)) → b' ≡ written b l (file (removed (model (take l b)) p.place))
-      → j' ≡ noted j U (rec_bytes (record_of kd (record { usage = u; number = n; start = p.start }) p.place t (take (p.start + 8 + x - (p.start + 8))
+      → b' ≡ written b l (file (removed (model (take l b)) p.place))
+      → j' ≡ noted j U (rec_bytes (record_of kd (record { name = record { usage = u; number = n }; start = p.start }) p.place t (take (p.start + 8 + x - (p.start + 8))
       (drop (p.start + 8) b))))
-      → Called profile (state b l j U) (edit (remove u n)) c b' j'
+      → Called profile (state b l j U) (edit (remove u n)) (done_with (l - (12 + a)) (U + (29 + x))) b' j'
   unfolding fault after after_edit edited_file edited edit_record
-  made a kd t c b' j' ea ek et ec eb ej =
+  made a kd t b' j' ea ek et eb ej =
       let px : p.start + 8 + x - (p.start + 8) ≡ cond p.shared 0 p.length = part-size (p.start + 8) x ∙ ex in
-      gave_done profile (state b l j U) (edit (remove u n)) c _ _ b' j' ec r.fine (length_now profile b l (length j) U u n bytes p r.found
+      called_done profile (state b l j U) (edit (remove u n)) _ _ b' j' r.fine (length_now profile b l (length j) U u n bytes p r.found
       r.piece_is a ea)
       (ap (λ (z : ℕ). U + (29 + z)) ex ∙ ap (λ (z : ℕ). U + z) (used_now profile b l (length j) U u n bytes k p r))
       (eb ∙ ap (λ (z : ℕ). written b l (file (removed (model (take l b)) z))) (place_is (model (take l b)) (find u n (model (take l b)).refs) p r.piece_is))
-      (ej ∙ (λ z. noted j U (rec_bytes (record_of (ek z) (record { usage = u; number = n; start = p.start }) p.place (et z)
+      (ej ∙ (λ z. noted j U (rec_bytes (record_of (ek z) (record { name = record { usage = u; number = n }; start = p.start }) p.place (et z)
       (take (px z) (drop (p.start + 8) b)))))
       ∙ ap (λ (z : Rec). noted j U (rec_bytes z)) (record_is profile b l (length j) U u n bytes k p r))

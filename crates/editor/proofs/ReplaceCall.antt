@@ -19,11 +19,10 @@ use Rattle.judging.proofs.OpenLaws.{place_is, start_is, length-is}
 use Rattle.planning.proofs.PlanLaws.{stands_as}
 use Rattle.planning.proofs.RemovePlan.{body-sized}
 use Rattle.planning.proofs.ReplacePlan.{Ready, size_now, length_now, record_now}
-use Rattle.editor.specs.declared.Answer.{Answer}
 use Rattle.editor.specs.Called.{Called}
 use Rattle.editor.specs.Post.{done_with}
 use Rattle.editor.proofs.RemoveCall.{body_of}
-use Rattle.editor.proofs.CallLaws.{gave_done, part-size, part_length}
+use Rattle.editor.proofs.CallLaws.{called_done, part-size, part_length}
 
 module _ (profile : ℕ) (b : List ℕ) (l J U u n t : ℕ) (d : List ℕ) (bytes : All Byte (take l b)) where
   abbrev m : Model
@@ -64,11 +63,11 @@ module _ (profile : ℕ) (b : List ℕ) (l J U u n t : ℕ) (d : List ℕ) (byte
           ),
         )
 
-    pub record_is : record_of 2 (record { usage = u; number = n; start = p.start }) p.place p.kind (take p.length (drop (p.start + 8) b))
+    pub record_is : record_of 2 (record { name = record { usage = u; number = n }; start = p.start }) p.place p.kind (take p.length (drop (p.start + 8) b))
         ≡ rec_of m (replace u n t d)
     unfolding record_of rec_of
     record_is =
-        ap (λ (z : Piece). record_of 2 (record { usage = u; number = n; start = z.start }) z.place z.kind (take z.length (drop (z.start + 8) b)))
+        ap (λ (z : Piece). record_of 2 (record { name = record { usage = u; number = n }; start = z.start }) z.place z.kind (take z.length (drop (z.start + 8) b)))
         r.piece_is
         ∙ (λ z. record {
           kind = 2;
@@ -93,20 +92,19 @@ module _ (profile : ℕ) (b j : List ℕ) (l U u n t : ℕ) (d : List ℕ) (byte
   pub record_room : U + (29 + length (take (p.start + 8 + p.length - (p.start + 8)) (drop (p.start + 8) b))) ≤ length j
   record_room = let h = part_length b (p.start + 8) p.length part_in in omega (arith, used_room)
 
-  pub made : (h : List ℕ) → h ≡ held t d → (a : ℕ) (c : Answer) (b' j' : List ℕ) → a ≡ 8 + (p.length + p.length % 2)
-      → c ≡ done_with (l - a + (8 + (length h + length h % 2))) (U + (29 + p.length))
+  pub made : (h : List ℕ) → h ≡ held t d → (a : ℕ) (b' j' : List ℕ) → a ≡ 8 + (p.length + p.length % 2)
       → b' ≡ written b l (file (replaced (model (take l b)) (ref_at (model (take l b)) p.place).chunk (chunk_of t h)))
-      → j' ≡ noted j U (rec_bytes (record_of 2 (record { usage = u; number = n; start = p.start }) p.place p.kind
+      → j' ≡ noted j U (rec_bytes (record_of 2 (record { name = record { usage = u; number = n }; start = p.start }) p.place p.kind
       (take (p.start + 8 + p.length - (p.start + 8)) (drop (p.start + 8) b))))
-      → Called profile (state b l j U) (edit (replace u n t d)) c b' j'
+      → Called profile (state b l j U) (edit (replace u n t d)) (done_with (l - a + (8 + (length h + length h % 2))) (U + (29 + p.length))) b' j'
   unfolding fault after after_edit edited_file edited edit_record
-  made h eh a c b' j' ea ec eb ej =
-      gave_done profile (state b l j U) (edit (replace u n t d)) c _ _ b' j' ec r.fine
+  made h eh a b' j' ea eb ej =
+      called_done profile (state b l j U) (edit (replace u n t d)) _ _ b' j' r.fine
       (length_now profile b l (length j) U u n t d bytes p r.found r.piece_is a ea h eh)
       (ap (λ (z : ℕ). U + z) (used_now profile b l (length j) U u n t d bytes k p r))
       (eb
       ∙ (λ z. written b l (file (replaced (model (take l b))
       (ref_at (model (take l b)) (place_is (model (take l b)) (find u n (model (take l b)).refs) p r.piece_is z)).chunk (chunk_of t (eh z))))))
-      (ej ∙ ap (λ (z : ℕ). noted j U (rec_bytes (record_of 2 (record { usage = u; number = n; start = p.start }) p.place p.kind
+      (ej ∙ ap (λ (z : ℕ). noted j U (rec_bytes (record_of 2 (record { name = record { usage = u; number = n }; start = p.start }) p.place p.kind
       (take z (drop (p.start + 8) b))))) (part-size (p.start + 8) p.length)
       ∙ ap (λ (z : Rec). noted j U (rec_bytes z)) (record_is profile b l (length j) U u n t d bytes k p r))

@@ -12,7 +12,7 @@ use Rattle.edits.specs.Run.{State, Call, edit, CallOk, fault, step, run}
 use Rattle.edits.specs.Demand3.{Begins, list_after}
 use Rattle.edits.specs.TwoEditors.{SameFile, NamesOther, LengthIs}
 use Rattle.edits.proofs.TwoEditors.{replacement_commutes, later_wins, length-after}
-use Rattle.editor.specs.declared.Outcome.TheVariants.{Done}
+use Rattle.std.specs.Prelude.{Ok}
 use Rattle.editor.specs.Called.{verdict_of}
 use Rattle.editor.specs.Runs as runs
 use Rattle.editor.specs.Runs.{Ran, end_of}
@@ -23,7 +23,7 @@ use Rattle.editor.proofs.DemandThree.{bounded, all_bounded, ran}
 -- the function was called with c, and carried it out
 pub record Made (c : Call) (x : Act) : Type 0 where
   pub asked : (turn_of x).call ≡ c
-  pub done : (turn_of x).answer.outcome ≡ Done
+  pub done : (turn_of x).answer.outcome ≡ Ok tt
 
 -- "in either order, where all four calls succeed": four calls of the code, a and b one after the other from s, and b and a from s
 pub record FourCalls (profile : ℕ) (s : State) (a b : Call) : Type 0 where

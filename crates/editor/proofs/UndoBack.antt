@@ -30,8 +30,12 @@ use Rattle.edits.proofs.UndoJudged.{AcceptedFile, accepted-facts, fits1-facts, f
 use Rattle.edits.proofs.FitFacts.{size_is}
 use Rattle.edits.proofs.UndoTold.{after_2, after_3, after_4}
 use Rattle.undoing.specs.declared.journal.Record.{Record}
-use Rattle.undoing.specs.declared.journal.Last.TheVariants.{Good}
-use Rattle.undoing.specs.declared.Undoing.TheVariants.{Go, Not}
+use Rattle.undoing.specs.declared.journal.Kind.TheVariants.{Added, Replaced, Removed, Unlisted, Linked}
+use Rattle.undoing.specs.declared.Undoing.{Undoing}
+use Rattle.std.specs.Prelude.{Some, Ok, Err}
+use Rattle.blorb.specs.declared.refusal.Refusal.{Refusal}
+use Rattle.blorb.specs.Refusals.{verdict_of}
+use Rattle.blorb.proofs.RefusalLaws.{not_refused}
 use Rattle.rewrite.specs.Rewriting.{Stands, Removable, Replaceable, Insertable}
 use Rattle.undoing.specs.LastRecord.{numbers_of, last_of}
 use Rattle.undoing.specs.UndoPlan.{chunk_start, chunk_size_of, go_of, undoing_of, undo_plan_of}
@@ -54,16 +58,15 @@ pub record Ready (profile : ℕ) (b : List ℕ) (l : ℕ) (j : List ℕ) (u k a 
   pub size_is : s ≡ chunk_size_of (last_rec (take u j)) (model (take l b))
   pub to_is : t ≡ length (undone_file (take l b) (take u j))
 
-plan_goes : (v : Verdict) (f j : List ℕ) (k a s t : ℕ) (r : Record) → undoing_of v f j ≡ Go k a s t r → (v ≡ accept) × (go_of f j ≡ Go k a s t r)
-plan_goes accept f j k a s t r e = (refl, e)
-plan_goes (refuse n p) f j k a s t r e = let z : ◌≡◌ {A = ℕ} 0 1 = cc in absurd (omega arith)
+plan_goes : (v : Verdict) (f j : List ℕ) (w : Undoing) → undoing_of v f j ≡ Ok w → (v ≡ accept) × (go_of f j ≡ w)
+plan_goes accept f j w e = (refl, cc)
+plan_goes (refuse n p) f j w e = absurd (not_refused (sym e))
 
-pub plan_not : (v : Verdict) (f j : List ℕ) (n p : ℕ) → undoing_of v f j ≡ Not n p → v ≡ refuse n p
-unfolding go_of
-plan_not accept f j n p e = let z : ◌≡◌ {A = ℕ} 0 1 = cc in absurd (omega arith)
-plan_not (refuse k o) f j n p e = cc
+pub plan_not : (v : Verdict) (f j : List ℕ) (y : Refusal) → undoing_of v f j ≡ Err y → v ≡ refuse y.0 y.1
+plan_not accept f j y e = absurd (not_refused e)
+plan_not (refuse k o) f j y e = ap verdict_of e
 
-formed_last : (j : List ℕ) → well_formed j ≡ true → last_of j ≡ Good (numbers_of (last_rec j))
+formed_last : (j : List ℕ) → well_formed j ≡ true → last_of j ≡ Some (numbers_of (last_rec j))
 unfolding last_of
 formed_last j h = rw h
 
@@ -76,16 +79,16 @@ unfolding start start_of base
 start-behind m k = omega arith
 
 -- where the plan goes on
-module _ (profile : ℕ) (b : List ℕ) (l : ℕ) (j : List ℕ) (u k a s t : ℕ) (r : Record) (bytes : All Byte b) (e : undo_plan_of profile b l j u ≡ Go k a s t r) where
+module _ (profile : ℕ) (b : List ℕ) (l : ℕ) (j : List ℕ) (u k a s t : ℕ) (r : Record) (bytes : All Byte b) (e : undo_plan_of profile b l j u ≡ Ok (record { count = k; at = a; size = s; to = t; last = r })) where
   abbrev f : List ℕ
   f = take l b
 
   abbrev q : List ℕ
   q = take u j
 
-  planned : (fault (rules_of profile) (state b l j u) undo ≡ accept) × (go_of (take l b) (take u j) ≡ Go k a s t r)
+  planned : (fault (rules_of profile) (state b l j u) undo ≡ accept) × (go_of (take l b) (take u j) ≡ record { count = k; at = a; size = s; to = t; last = r })
   unfolding undo_plan_of
-  planned = plan_goes (fault (rules_of profile) (state b l j u) undo) f q k a s t r e
+  planned = plan_goes (fault (rules_of profile) (state b l j u) undo) f q _ e
 
   pub ready : Ready profile b l j u k a s t r
   unfolding fault undo_fault go_of
@@ -100,11 +103,10 @@ module _ (profile : ℕ) (b : List ℕ) (l : ℕ) (j : List ℕ) (u k a s t : �
       let good = and_both (well_formed q) (fits (last_rec q) (model f)) test.0 in
       let inside : l ≤ length b = leb-true l (length b) lens.0 in
       let len : length (take l b) ≡ l = length-take-le l b inside in
-      let g : Go (length (model f).refs) (chunk_start (last_rec q) (model f)) (chunk_size_of (last_rec q) (model f)) (length (undone_file f q))
-      (numbers_of (last_rec q)) ≡ Go k a s t r = planned.1 in
-      let n : numbers_of (last_rec q) ≡ r = cc in
+      let g : go_of (take l b) (take u j) ≡ record { count = k; at = a; size = s; to = t; last = r } = planned.1 in
+      let n : numbers_of (last_rec q) ≡ r = ap (λ (z : Undoing). z.last) g in
       let st = accepted-facts profile f (all_take Byte l b bytes) h2.0 in
-      let count : k ≡ length (model f).refs = cc in
+      let count : k ≡ length (model f).refs = ap (λ (z : Undoing). z.count) (sym g) in
       record {
         unrefused = planned.0;
         within = leb-true u (length j) lens.1;
@@ -117,13 +119,13 @@ module _ (profile : ℕ) (b : List ℕ) (l : ℕ) (j : List ℕ) (u k a s t : �
           short = omega (arith, accept_short (rules_of profile) f h2.0);
         };
         file_facts = st;
-        ends = good_ends j u r (leb-true u (length j) lens.1) (formed_last q good.0 ∙ ap Good n);
+        ends = good_ends j u r (leb-true u (length j) lens.1) (formed_last q good.0 ∙ ap Some n);
         fit = good.1;
         fine = is_accept _ test.1;
         room = leb-true _ _ (check_accept _ _ _ h4.1);
-        at_is = cc;
-        size_is = cc;
-        to_is = cc;
+        at_is = ap (λ (z : Undoing). z.at) (sym g);
+        size_is = ap (λ (z : Undoing). z.size) (sym g);
+        to_is = ap (λ (z : Undoing). z.to) (sym g);
       }
 
 -- then each writer may be called, and gives the file that the undo is to give
@@ -176,61 +178,47 @@ module _ (profile : ℕ) (b : List ℕ) (l : ℕ) (j : List ℕ) (u k a s t : �
       most false n = omega arith
 
   -- kind 1
-  back-added : r.kind ≡ 1 → Stands b l k × Removable b l k r.place a s
+  pub back-added : r.kind ≡ Added → Stands b l k × Removable b l k r.place a s
   back-added h =
-      let q = kind_is j u r w.ends 1 h in
+      let q = kind_is j u r w.ends Added h in
       let p = fits1-facts rec m (sym (kind_1 rec m q).0 ∙ w.fit) in
       entry_goes false (omega (arith, p.count)) p.alone (w.at_is ∙ (at_1 rec m q).0) (w.size_is ∙ (at_1 rec m q).1)
 
-  written-added : r.kind ≡ 1 → file (removed (model (take l b)) r.place) ≡ undone_file (take l b) (take u j)
+  pub written-added : r.kind ≡ Added → file (removed (model (take l b)) r.place) ≡ undone_file (take l b) (take u j)
   unfolding undone_file
   written-added h =
-      let fit = sym (kind_1 rec m (kind_is j u r w.ends 1 h)).0 ∙ w.fit in
-      ap file (ap (removed m) (sym place_is) ∙ sym (undo1-removed rec m w.file_facts.sound fit) ∙ sym (kind_1 rec m (kind_is j u r w.ends 1 h)).1)
+      let fit = sym (kind_1 rec m (kind_is j u r w.ends Added h)).0 ∙ w.fit in
+      ap file (ap (removed m) (sym place_is) ∙ sym (undo1-removed rec m w.file_facts.sound fit) ∙ sym (kind_1 rec m (kind_is j u r w.ends Added h)).1)
 
   -- kind 5
-  back-linked : r.kind ≡ 5 → Stands b l k × Removable b l k r.place a s
+  pub back-linked : r.kind ≡ Linked → Stands b l k × Removable b l k r.place a s
   back-linked h =
-      let q = kind_is j u r w.ends 5 h in
+      let q = kind_is j u r w.ends Linked h in
       let p = fits5-facts rec m (sym (kind_5 rec m q).0 ∙ w.fit) in
       entry_goes true p.inside p.holds (w.at_is ∙ (at_5 rec m q).0) (w.size_is ∙ (at_5 rec m q).1)
 
-  written-linked : r.kind ≡ 5 → file (removed (model (take l b)) r.place) ≡ undone_file (take l b) (take u j)
+  pub written-linked : r.kind ≡ Linked → file (removed (model (take l b)) r.place) ≡ undone_file (take l b) (take u j)
   unfolding undone_file undo5 removed
   written-linked h =
-      let fit = sym (kind_5 rec m (kind_is j u r w.ends 5 h)).0 ∙ w.fit in
+      let fit = sym (kind_5 rec m (kind_is j u r w.ends Linked h)).0 ∙ w.fit in
       let e : shared m r.place ≡ true = ap (shared m) (sym place_is) ∙ (fits5-facts rec m fit).holds in
       ap file (ap (λ (z : Bool). cond z (removed_entry m r.place) (removed_both m r.place (ref_at m r.place).chunk)) e
-      ∙ ap (removed_entry m) (sym place_is) ∙ sym (kind_5 rec m (kind_is j u r w.ends 5 h)).1)
-
-  -- kinds 1 and 5
-  either : {P : Type 0} → (r.kind ≡ 1 → P) → (r.kind ≡ 5 → P) → (eqb r.kind 1 || eqb r.kind 5) ≡ true → P
-  either {P = P} one five h = go (eqb r.kind 1) refl h
-    where
-      go : (x : Bool) → eqb r.kind 1 ≡ x → (x || eqb r.kind 5) ≡ true → P
-      go true e h = one (eqb-true _ _ e)
-      go false e h = five (eqb-true _ _ h)
-
-  pub back_gone : (eqb r.kind 1 || eqb r.kind 5) ≡ true → Stands b l k × Removable b l k r.place a s
-  back_gone h = either back-added back-linked h
-
-  pub written_gone : (eqb r.kind 1 || eqb r.kind 5) ≡ true → file (removed (model (take l b)) r.place) ≡ undone_file (take l b) (take u j)
-  written_gone h = either written-added written-linked h
+      ∙ ap (removed_entry m) (sym place_is) ∙ sym (kind_5 rec m (kind_is j u r w.ends Linked h)).1)
 
   -- kind 2
-  pub back-replaced : (All Byte j) → r.kind ≡ 2
+  pub back-replaced : (All Byte j) → r.kind ≡ Replaced
       → Stands b l k × (Replaceable b l k r.place a s × ((l - s + (8 + (length d + length d % 2)) ≤ length b)
       × (l - s + (8 + (length d + length d % 2)) ≤ 16777216)))
   back-replaced bj h =
-      let fit = sym (kind_2 rec m (kind_is j u r w.ends 2 h)).0 ∙ w.fit in
+      let fit = sym (kind_2 rec m (kind_is j u r w.ends Replaced h)).0 ∙ w.fit in
       let p = fits2-facts rec m fit in
       let there = chunk_in m rec.place w.file_facts.sound p.inside in
       let c : ℕ = (ref_at m rec.place).chunk in
-      let ea : a ≡ start m c = w.at_is ∙ (at_2 rec m (kind_is j u r w.ends 2 h)).0 in
-      let es : s ≡ size (chunk_at m c) = w.size_is ∙ (at_2 rec m (kind_is j u r w.ends 2 h)).1 in
+      let ea : a ≡ start m c = w.at_is ∙ (at_2 rec m (kind_is j u r w.ends Replaced h)).0 in
+      let es : s ≡ size (chunk_at m c) = w.size_is ∙ (at_2 rec m (kind_is j u r w.ends Replaced h)).1 in
       let to : l - s + (8 + (length d + length d % 2)) ≡ length (undone_file (take l b) (take u j))
       = (λ i. sym file_is i - (es ∙ size_is (chunk_at m c)) i + size_of (length (body_is j u r w.ends i)))
-      ∙ sym (after_2 profile (take l b) (take u j) w.file_facts (all_take Byte u j bj) (kind_is j u r w.ends 2 h) fit) in (
+      ∙ sym (after_2 profile (take l b) (take u j) w.file_facts (all_take Byte u j bj) (kind_is j u r w.ends Replaced h) fit) in (
         w.stands,
         (
           record {
@@ -244,28 +232,23 @@ module _ (profile : ℕ) (b : List ℕ) (l : ℕ) (j : List ℕ) (u k a s t : �
         ),
       )
 
-  pub written-replaced : r.kind ≡ 2 → file (replaced (model (take l b)) (ref_at (model (take l b)) r.place).chunk (chunk_of r.sort d)) ≡ undone_file
+  pub written-replaced : r.kind ≡ Replaced → file (replaced (model (take l b)) (ref_at (model (take l b)) r.place).chunk (chunk_of r.sort d)) ≡ undone_file
       (take l b) (take u j)
   unfolding undone_file undo2
   written-replaced h =
-      (λ i. file (replaced m (ref_at m (sym place_is i)).chunk (old_is i))) ∙ sym (ap file (kind_2 rec m (kind_is j u r w.ends 2 h)).1)
+      (λ i. file (replaced m (ref_at m (sym place_is i)).chunk (old_is i))) ∙ sym (ap file (kind_2 rec m (kind_is j u r w.ends Replaced h)).1)
 
-  -- kind 3, the one that is left
-  pub kind_3_left : (eqb r.kind 1 || eqb r.kind 5) ≡ false → (r.kind ≡ 4 → ⊥) → (r.kind ≡ 2 → ⊥) → r.kind ≡ 3
-  kind_3_left n n4 n2 =
-      let o = neither (eqb r.kind 1) (eqb r.kind 5) n in
-      omega (arith, eqb-false r.kind 1 o.0, eqb-false r.kind 5 o.1, w.ends.kind_low, w.ends.kind_high)
-
-  module _ (h : r.kind ≡ 3) where
+  -- kind 3
+  module _ (h : r.kind ≡ Removed) where
     at_3_is : a ≡ (last_rec (take u j)).start - 12
-    at_3_is = w.at_is ∙ (at_3 rec m (kind_is j u r w.ends 3 h)).0
+    at_3_is = w.at_is ∙ (at_3 rec m (kind_is j u r w.ends Removed h)).0
 
     pub back-removed : (All Byte j) → Stands b l k × (Insertable b l k r.place a × ((l + (20 + (length d + length d % 2)) ≤ length b)
         × (l + (20 + (length d + length d % 2)) ≤ 16777216)))
     back-removed bj =
-        let i = insertable3 b l k w.stands rec (sym (kind_3 rec m (kind_is j u r w.ends 3 h)).0 ∙ w.fit) in
+        let i = insertable3 b l k w.stands rec (sym (kind_3 rec m (kind_is j u r w.ends Removed h)).0 ∙ w.fit) in
         let to : length (undone_file (take l b) (take u j)) ≡ l + 12 + size_of (length d)
-        = after_3 profile (take l b) (take u j) w.file_facts (all_take Byte u j bj) (kind_is j u r w.ends 3 h)
+        = after_3 profile (take l b) (take u j) w.file_facts (all_take Byte u j bj) (kind_is j u r w.ends Removed h)
         ∙ (λ i. file_is i + 12 + size_of (length (sym (body_is j u r w.ends) i))) in
         (w.stands, (coe 0 1 (z. Insertable b l k (place_is z) (sym at_3_is z)) i, (omega (arith, to, w.room), omega (arith, to, after_short))))
 
@@ -275,23 +258,23 @@ module _ (profile : ℕ) (b : List ℕ) (l : ℕ) (j : List ℕ) (u k a s t : �
     written-removed =
         let n : r ≡ numbers_of rec = sym w.ends.numbers in
         (λ i. file (inserted m (n i).place (place_at m (at_3_is i)) (n i).usage (n i).number (old_is i)))
-        ∙ sym (ap file (kind_3 rec m (kind_is j u r w.ends 3 h)).1)
+        ∙ sym (ap file (kind_3 rec m (kind_is j u r w.ends Removed h)).1)
 
   -- kind 4
-  module _ (h : r.kind ≡ 4) where
+  module _ (h : r.kind ≡ Unlisted) where
     at_4_is : a ≡ (last_rec (take u j)).start - 12
-    at_4_is = w.at_is ∙ (at_4 rec m (kind_is j u r w.ends 4 h)).0
+    at_4_is = w.at_is ∙ (at_4 rec m (kind_is j u r w.ends Unlisted h)).0
 
     pub back_unlisted : (All Byte j) → Stands b l k × (Insertable b l k r.place a × ((l + 12 ≤ length b) × (l + 12 ≤ 16777216)))
     back_unlisted bj =
-        let fit = sym (kind_4 rec m (kind_is j u r w.ends 4 h)).0 ∙ w.fit in
+        let fit = sym (kind_4 rec m (kind_is j u r w.ends Unlisted h)).0 ∙ w.fit in
         let i = insertable4 b l k w.stands rec fit in
         let to : length (undone_file (take l b) (take u j)) ≡ l + 12
-        = after_4 profile (take l b) (take u j) w.file_facts (all_take Byte u j bj) (kind_is j u r w.ends 4 h) fit ∙ ap (λ (z : ℕ). z + 12) file_is in
+        = after_4 profile (take l b) (take u j) w.file_facts (all_take Byte u j bj) (kind_is j u r w.ends Unlisted h) fit ∙ ap (λ (z : ℕ). z + 12) file_is in
         (w.stands, (coe 0 1 (z. Insertable b l k (place_is z) (sym at_4_is z)) i, (omega (arith, to, w.room), omega (arith, to, after_short))))
 
     pub written_unlisted : file (entered (model (take l b)) r.place (place_at (model (take l b)) a) r.usage r.number) ≡ undone_file (take l b) (take u j)
     unfolding undone_file undo4
     written_unlisted =
         let n : r ≡ numbers_of rec = sym w.ends.numbers in
-        (λ i. file (entered m (n i).place (place_at m (at_4_is i)) (n i).usage (n i).number)) ∙ sym (ap file (kind_4 rec m (kind_is j u r w.ends 4 h)).1)
+        (λ i. file (entered m (n i).place (place_at m (at_4_is i)) (n i).usage (n i).number)) ∙ sym (ap file (kind_4 rec m (kind_is j u r w.ends Unlisted h)).1)

@@ -1,5 +1,5 @@
 -- An undo's promise, from its plan.
-use mathlib.Core.Path.{◌≡◌, refl, sym, ap, ◌∙◌}
+use mathlib.Core.Path.{◌≡◌, refl, sym}
 use Prim.Native.Nat.{ℕ, ◌+◌, ◌-◌}
 use mathlib.Core.List.{List}
 use lib.ListN.{length, take}
@@ -7,28 +7,27 @@ use Rattle.blorb.specs.Rules.{rules_of}
 use Rattle.blorb.specs.All.{All}
 use Rattle.blorb.specs.Bytes.{Byte}
 use Rattle.edits.specs.Run.{undo, fault, after, after_undo, undone_file, written}
-use Rattle.undoing.specs.declared.journal.Record.{Record}
-use Rattle.undoing.specs.declared.Undoing.TheVariants.{Go, Not}
-use Rattle.editor.specs.declared.Outcome.TheVariants.{Done, Refused}
+use Rattle.std.specs.Prelude.{Ok, Err}
+use Rattle.blorb.specs.declared.refusal.Refusal.{Refusal}
+use Rattle.undoing.specs.declared.Undoing.{Undoing}
+use Rattle.editor.specs.Post.{refused_with, done_with}
 use Rattle.edits.specs.Run.{state}
 use Rattle.editor.specs.Called.{Called}
 use Rattle.undoing.specs.UndoPlan.{undo_plan_of}
 use Rattle.editor.proofs.CallLaws.{called_refused, called_done}
-use Rattle.editor.proofs.UndoBack.{ready, plan_not}
+use Rattle.editor.proofs.UndoBack.{Ready, ready, plan_not}
 
-pub undo-refused : (profile : ℕ) (b : List ℕ) (l : ℕ) (j : List ℕ) (u n p : ℕ) → undo_plan_of profile b l j u ≡ Not n p
-    → Called profile (state b l j u) undo (record { outcome = Refused n p; len = l; used = u }) b j
+pub undo-refused : (profile : ℕ) (b : List ℕ) (l : ℕ) (j : List ℕ) (u : ℕ) (y : Refusal) → undo_plan_of profile b l j u ≡ Err y
+    → Called profile (state b l j u) undo (refused_with y.0 y.1 l u) b j
 unfolding undo_plan_of
-undo-refused profile b l j u n p e =
-    called_refused profile (state b l j u) undo n p (plan_not (fault (rules_of profile) (state b l j u) undo) (take l b) (take u j) n p e)
+undo-refused profile b l j u y e =
+    called_refused profile (state b l j u) undo y.0 y.1 (plan_not (fault (rules_of profile) (state b l j u) undo) (take l b) (take u j) y e)
 
-module _ (profile : ℕ) (b : List ℕ) (l : ℕ) (j : List ℕ) (u k a s t : ℕ) (r : Record) (bytes : All Byte b) (e : undo_plan_of profile b l j u ≡ Go k a s t r) where
-  pub undo_plan_to : undo_plan_of profile b l j u ≡ Go k a s (length (undone_file (take l b) (take u j))) r
-  undo_plan_to = e ∙ ap (λ (z : ℕ). Go k a s z r) (ready profile b l j u k a s t r bytes e).to_is
+module _ (profile : ℕ) (b : List ℕ) (l : ℕ) (j : List ℕ) (u : ℕ) (w : Undoing) (bytes : All Byte b) (e : undo_plan_of profile b l j u ≡ Ok w) where
+  pub going : Ready profile b l j u w.count w.at w.size w.to w.last
+  going = ready profile b l j u w.count w.at w.size w.to w.last bytes e
 
   pub undo-done : (x : List ℕ) → x ≡ written b l (undone_file (take l b) (take u j))
-      → Called profile (state b l j u) undo (record { outcome = Done; len = t; used = u - (29 + r.length) }) x j
+      → Called profile (state b l j u) undo (done_with w.to (u - (29 + w.last.length))) x j
   unfolding after after_undo
-  undo-done x h =
-      let w = ready profile b l j u k a s t r bytes e in
-      called_done profile (state b l j u) undo t (u - (29 + r.length)) x j w.unrefused w.to_is (sym (w.ends.back b l)) h refl
+  undo-done x h = called_done profile (state b l j u) undo w.to (u - (29 + w.last.length)) x j going.unrefused going.to_is (sym (going.ends.back b l)) h refl

@@ -9,16 +9,20 @@ use Rattle.blorb.specs.Verdict.{refuse}
 use Rattle.blorb.specs.Rules.{rules_of}
 use Rattle.edits.specs.Run.{State, Call, step}
 use Rattle.edits.proofs.UnknownProfile.{unknown_fault, unknown_step}
-use Rattle.editor.specs.declared.Outcome.{Outcome}
-use Rattle.editor.specs.declared.Outcome.TheVariants.{Done, Refused}
+use Rattle.std.specs.Prelude.{Result, Ok, Err}
+use Rattle.blorb.specs.declared.refusal.Refusal.{Refusal}
+use Rattle.blorb.specs.Refusals.{Refused}
 use Rattle.editor.specs.declared.Answer.{Answer}
 use Rattle.editor.specs.Called.{verdict_of, Called, Untouched}
 use Rattle.editor.proofs.Acts.{Act, state_of, profile_of, turn_of}
 use Rattle.editor.proofs.DemandThree.{called}
 
-refused_as : (o : Outcome) (k p : ℕ) → verdict_of o ≡ refuse k p → o ≡ Refused k p
-refused_as Done k p e = let z : ◌≡◌ {A = ℕ} 0 1 = cc in absurd (omega arith)
-refused_as (Refused a b) k p e = cc
+refused_as : (o : Result (Unit {0}) Refusal) (k p : ℕ) → verdict_of o ≡ refuse k p → o ≡ Refused k p
+refused_as (Ok x) k p e = let z : ◌≡◌ {A = ℕ} 0 1 = cc in absurd (omega arith)
+refused_as (Err y) k p e =
+    let a : y.0 ≡ k = cc in
+    let b : y.1 ≡ p = cc in
+    λ i. Refused (a i) (b i)
 
 pub unknown_call : (profile : ℕ) (s : State) (c : Call) (r : Answer) (b j : List ℕ) → 1 < profile → Called profile s c r b j → Untouched 52 0 s r b j
 unknown_call profile s c r b j h told =

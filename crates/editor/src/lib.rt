@@ -14,8 +14,9 @@ ghost use Rattle.editor.specs.Called.{Called, blank_answer};
 ghost use Rattle.editor.specs.Post.{answered_with};
 
 use blorb::{Fault, Refusal};
-use judging::judge::Pair;
+use moves::Name;
 use planning::{Lent, given};
+use rewrite::{Extent, Gap, Part};
 use undoing::Undoing;
 use undoing::journal::Kind;
 
@@ -53,11 +54,11 @@ fn add_entry(
     jrn: &mut [u8],
     used: usize,
     profile: u32,
-    pair: Pair,
+    name: Name,
     kind: u32,
     d: &[u8],
 ) -> Result<Session, Refusal>
-    ensures { Called profile (state buf.old len jrn.old used) (edit (add pair.usage pair.number kind d.now)) (answered_with result len used)
+    ensures { Called profile (state buf.old len jrn.old used) (edit (add name.usage name.number kind d.now)) (answered_with result len used)
         buf.new jrn.new }
 {
     let lent = Lent {
@@ -66,19 +67,15 @@ fn add_entry(
         used,
         profile,
     };
-    let count = planning::add_plan(buf, lent, pair, kind, d)?;
+    let count = planning::add_plan(buf, lent, name, kind, d)?;
     let body = given::held(kind, d);
     let m = body.len();
-    rewrite::add_bytes(buf, len, count, pair.usage, pair.number, kind, body);
+    rewrite::add_bytes(buf, Extent { len, count }, name, kind, body);
     moves::put_record(
         jrn,
         used,
         Kind::Added as u8,
-        moves::Entry {
-            usage: pair.usage,
-            number: pair.number,
-            start: 0,
-        },
+        moves::Entry { name, start: 0 },
         count as u64,
         0,
         &d[0..0],
@@ -96,9 +93,9 @@ fn remove_entry(
     jrn: &mut [u8],
     used: usize,
     profile: u32,
-    pair: Pair,
+    name: Name,
 ) -> Result<Session, Refusal>
-    ensures { Called profile (state buf.old len jrn.old used) (edit (remove pair.usage pair.number)) (answered_with result len used)
+    ensures { Called profile (state buf.old len jrn.old used) (edit (remove name.usage name.number)) (answered_with result len used)
         buf.new jrn.new }
 {
     let lent = Lent {
@@ -107,7 +104,7 @@ fn remove_entry(
         used,
         profile,
     };
-    let plan = planning::remove_plan(buf, lent, pair)?;
+    let plan = planning::remove_plan(buf, lent, name)?;
     let piece = plan.piece;
     let start = piece.start;
     let size = planning::gone_size(piece.shared, piece.length) as usize;
@@ -118,16 +115,21 @@ fn remove_entry(
         jrn,
         used,
         planning::removal_kind(piece.shared).number(),
-        moves::Entry {
-            usage: pair.usage,
-            number: pair.number,
-            start,
-        },
+        moves::Entry { name, start },
         piece.place as u64,
         planning::kept_number(piece.shared, piece.kind) as u64,
         &buf[from..to],
     );
-    rewrite::remove_bytes(buf, len, plan.count, piece.place, start as usize, size);
+    let extent = Extent {
+        len,
+        count: plan.count,
+    };
+    let part = Part {
+        place: piece.place,
+        start: start as usize,
+        size,
+    };
+    rewrite::remove_bytes(buf, extent, part);
     Ok(Session {
         len: len - (12 + size),
         used: used + (29 + body),
@@ -141,11 +143,11 @@ fn replace_chunk(
     jrn: &mut [u8],
     used: usize,
     profile: u32,
-    pair: Pair,
+    name: Name,
     kind: u32,
     d: &[u8],
 ) -> Result<Session, Refusal>
-    ensures { Called profile (state buf.old len jrn.old used) (edit (replace pair.usage pair.number kind d.now)) (answered_with result len used)
+    ensures { Called profile (state buf.old len jrn.old used) (edit (replace name.usage name.number kind d.now)) (answered_with result len used)
         buf.new jrn.new }
 {
     let lent = Lent {
@@ -154,7 +156,7 @@ fn replace_chunk(
         used,
         profile,
     };
-    let plan = planning::replace_plan(buf, lent, pair, kind, d)?;
+    let plan = planning::replace_plan(buf, lent, name, kind, d)?;
     let piece = plan.piece;
     let start = piece.start;
     let old = planning::gone_size(false, piece.length) as usize;
@@ -166,25 +168,21 @@ fn replace_chunk(
         jrn,
         used,
         Kind::Replaced as u8,
-        moves::Entry {
-            usage: pair.usage,
-            number: pair.number,
-            start,
-        },
+        moves::Entry { name, start },
         piece.place as u64,
         piece.kind as u64,
         &buf[from..to],
     );
-    rewrite::replace_bytes(
-        buf,
+    let extent = Extent {
         len,
-        plan.count,
-        piece.place,
-        start as usize,
-        old,
-        kind,
-        body,
-    );
+        count: plan.count,
+    };
+    let part = Part {
+        place: piece.place,
+        start: start as usize,
+        size: old,
+    };
+    rewrite::replace_bytes(buf, extent, part, kind, body);
     Ok(Session {
         len: len - old + (8 + (m + m % 2)),
         used: used + (29 + piece.length as usize),
@@ -198,8 +196,8 @@ fn link_entry(
     jrn: &mut [u8],
     used: usize,
     profile: u32,
-    original: Pair,
-    alias: Pair,
+    original: Name,
+    alias: Name,
 ) -> Result<Session, Refusal>
     ensures { Called profile (state buf.old len jrn.old used) (edit (link original.usage original.number alias.usage alias.number))
         (answered_with result len used) buf.new jrn.new }
@@ -216,23 +214,22 @@ fn link_entry(
         used,
         Kind::Linked as u8,
         moves::Entry {
-            usage: alias.usage,
-            number: alias.number,
+            name: alias,
             start: plan.at + 12,
         },
         plan.place as u64,
         0,
         &buf[0..0],
     );
-    rewrite::insert_entry(
-        buf,
+    let extent = Extent {
         len,
-        plan.count,
-        plan.place,
-        plan.at as usize,
-        alias.usage,
-        alias.number,
-    );
+        count: plan.count,
+    };
+    let gap = Gap {
+        place: plan.place,
+        at: plan.at as usize,
+    };
+    rewrite::insert_entry(buf, extent, gap, alias);
     Ok(Session {
         len: len + 12,
         used: used + 29,
@@ -261,12 +258,12 @@ pub fn add(
     ensures { Called profile (state buf.old len jrn.old used) (edit (add (rd32 usage) number (rd32 kind)
         d.now)) result buf.new jrn.new }
 {
-    let pair = Pair {
+    let name = Name {
         usage: code_of(usage),
         number,
     };
     let kind = code_of(kind);
-    let made = add_entry(buf, len, jrn, used, profile, pair, kind, d);
+    let made = add_entry(buf, len, jrn, used, profile, name, kind, d);
     Answer::new(made, len, used)
 }
 
@@ -285,12 +282,12 @@ pub fn replace(
     ensures { Called profile (state buf.old len jrn.old used) (edit (replace (rd32 usage) number (rd32 kind) d.now))
         result buf.new jrn.new }
 {
-    let pair = Pair {
+    let name = Name {
         usage: code_of(usage),
         number,
     };
     let kind = code_of(kind);
-    let made = replace_chunk(buf, len, jrn, used, profile, pair, kind, d);
+    let made = replace_chunk(buf, len, jrn, used, profile, name, kind, d);
     Answer::new(made, len, used)
 }
 
@@ -307,11 +304,11 @@ pub fn remove(
     ensures { Called profile (state buf.old len jrn.old used) (edit (remove (rd32 usage) number)) result buf.new
         jrn.new }
 {
-    let pair = Pair {
+    let name = Name {
         usage: code_of(usage),
         number,
     };
-    let made = remove_entry(buf, len, jrn, used, profile, pair);
+    let made = remove_entry(buf, len, jrn, used, profile, name);
     Answer::new(made, len, used)
 }
 
@@ -330,11 +327,11 @@ pub fn link(
     ensures { Called profile (state buf.old len jrn.old used) (edit (link (rd32 usage) number (rd32 alias) chosen)) result
         buf.new jrn.new }
 {
-    let original = Pair {
+    let original = Name {
         usage: code_of(usage),
         number,
     };
-    let alias = Pair {
+    let alias = Name {
         usage: code_of(alias),
         number: chosen,
     };
@@ -395,25 +392,27 @@ fn write_back(buf: &mut [u8], len: usize, jrn: &[u8], used: usize, plan: Undoing
     ensures { buf.new ≡ written buf.old len (undone_file (take len buf.old) (take used jrn.now)) }
 {
     let r = plan.last;
-    let count = plan.count;
-    let place = r.place as usize;
-    let at = plan.at;
+    let extent = Extent {
+        len,
+        count: plan.count,
+    };
+    let part = Part {
+        place: r.place as usize,
+        start: plan.at,
+        size: plan.size,
+    };
+    let gap = Gap {
+        place: r.place as usize,
+        at: plan.at,
+    };
     let end = used - 4;
     let from = end - r.length as usize;
     let d = &jrn[from..end];
     match r.kind {
-        Kind::Added | Kind::Linked => {
-            rewrite::remove_bytes(buf, len, count, place, at, plan.size);
-        }
-        Kind::Unlisted => {
-            rewrite::insert_entry(buf, len, count, place, at, r.usage, r.number);
-        }
-        Kind::Replaced => {
-            rewrite::replace_bytes(buf, len, count, place, at, plan.size, r.sort, d);
-        }
-        Kind::Removed => {
-            rewrite::insert_bytes(buf, len, count, place, at, r.usage, r.number, r.sort, d);
-        }
+        Kind::Added | Kind::Linked => rewrite::remove_bytes(buf, extent, part),
+        Kind::Replaced => rewrite::replace_bytes(buf, extent, part, r.sort, d),
+        Kind::Removed => rewrite::insert_bytes(buf, extent, gap, r.name(), r.sort, d),
+        Kind::Unlisted => rewrite::insert_entry(buf, extent, gap, r.name()),
     }
 }
 

@@ -1,12 +1,11 @@
 -- The call is link_entry's: each four bytes are the number in them.
 use Rattle.edits.specs.Edit.{link}
 use Rattle.edits.specs.Run.{edit}
-use Rattle.editor.proofs.CallLaws.{called_as}
+use Rattle.editor.proofs.CallLaws.{called_as, gave}
 use Rattle.editor.proofs.link.Goals as goal
 
 pub returns : goal.returns
 returns c =
     let a = c.args in
-    called_as _ _ _ _ _ _ _ (λ i. edit (link (c.code_of-u.ensures i) a.number
-    (c.code_of-v.ensures i) a.chosen))
-    c.link_entry.ensures
+    gave _ _ _ _ _ _ _ c.new.ensures
+    (called_as _ _ _ _ _ _ _ (λ i. edit (link (c.code_of.ensures i) a.number (c.code_of-2.ensures i) a.chosen)) c.link_entry-made.ensures)

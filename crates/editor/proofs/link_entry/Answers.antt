@@ -1,131 +1,80 @@
 -- A plan to go on tells that there is room for the new entry and its record; the record and the entry are then written by their own promises.
 use native.Mathlib.Omega.{arith}
-use mathlib.Core.Path.{sym, ◌∙◌}
+use mathlib.Core.Path.{sym, ap, ◌∙◌}
 use lib.ListN.{length, take}
+use Rattle.std.proofs.lemmas.Result.{err_from_is_err_and}
 use Rattle.blorb.specs.Bytes.{Byte}
 use Rattle.blorb.specs.All.{All}
 use Rattle.blorb.proofs.Accept.{bytes-all}
 use Rattle.blorb.proofs.AllLaws.{all_take}
 use Rattle.edits.specs.Edit.{link}
 use Rattle.edits.specs.Run.{edit, state, fault}
-use Rattle.planning.proofs.LinkPlan.{linking_no, ready}
+use Rattle.planning.proofs.PlanLaws.{answer_no}
+use Rattle.planning.proofs.LinkPlan.{ready}
 use Rattle.editor.proofs.LinkCall.{insertable, start_small, made}
-use Rattle.editor.proofs.CallLaws.{gave_refused}
+use Rattle.editor.proofs.CallLaws.{called_refused}
 use Rattle.editor.proofs.link_entry.Goals as goal
 
-pub overflow_add-at : goal.overflow_add-at
-overflow_add-at c =
+pub returns-in_err-plan : goal.returns-in_err-plan
+unfolding fault
+returns-in_err-plan c =
     let a = c.args in
     let b = a.buf.now in
-    let bytes : All Byte (take a.len b) = all_take Byte a.len b
-    (bytes-all b (λ i. omega (arith, c.slice_known-1.given i))) in
-    omega (
-      arith,
-      start_small a.profile b a.len (length a.jrn.now) a.used a.usage a.number a.alias a.chosen bytes
-          c.in-Join.count c.in-Join.place c.in-Join.at
-          (ready a.profile b a.len (length a.jrn.now) a.used a.usage a.number a.alias a.chosen bytes
-          c.in-Join.count c.in-Join.place c.in-Join.at
-          (sym c.link_plan.ensures ∙ c.in-Join.is)),
-    )
+    let p = err_from_is_err_and c.from_residual.result c.from_residual.ensures.1 in
+    rw (p.1, p.2) (called_refused a.profile (state b a.len a.jrn.now a.used) (edit (link a.original.usage a.original.number a.alias.usage a.alias.number)) _ _
+    (answer_no _ _ _ (sym c.link_plan.ensures ∙ c.in_err-plan.was)))
+
+pub overflow_add-plan : goal.overflow_add-plan
+overflow_add-plan c =
+    let a = c.args in
+    let b = a.buf.now in
+    let bytes : All Byte (take a.len b) = all_take Byte a.len b (bytes-all b (λ i. omega (arith, c.slice_known-1.given i))) in
+    let w = c.in_ok-plan.plan in
+    let r = ready a.profile b a.len (length a.jrn.now) a.used a.original.usage a.original.number a.alias.usage a.alias.number bytes w (sym c.link_plan.ensures ∙ c.in_ok-plan.was) in
+    omega (arith, start_small a.profile b a.len (length a.jrn.now) a.used a.original.usage a.original.number a.alias.usage a.alias.number bytes w.count w.place w.at r)
 
 pub put_record-requires : goal.put_record-requires
 put_record-requires c =
     let a = c.args in
     let b = a.buf.now in
-    let bytes : All Byte (take a.len b) = all_take Byte a.len b
-    (bytes-all b (λ i. omega (arith, c.slice_known-1.given i))) in
-    (ready a.profile b a.len (length a.jrn.now) a.used a.usage a.number a.alias a.chosen bytes
-    c.in-Join.count c.in-Join.place
-    c.in-Join.at (sym c.link_plan.ensures
-    ∙ c.in-Join.is)).journal_room
+    let bytes : All Byte (take a.len b) = all_take Byte a.len b (bytes-all b (λ i. omega (arith, c.slice_known-1.given i))) in
+    let w = c.in_ok-plan.plan in
+    let r = ready a.profile b a.len (length a.jrn.now) a.used a.original.usage a.original.number a.alias.usage a.alias.number bytes w (sym c.link_plan.ensures ∙ c.in_ok-plan.was) in
+    r.journal_room
 
 pub insert_entry-requires : goal.insert_entry-requires
 insert_entry-requires c =
     let a = c.args in
     let b = a.buf.now in
-    let bytes : All Byte (take a.len b) = all_take Byte a.len b
-    (bytes-all b (λ i. omega (
-      arith,
-      c.slice_known-1.given i,
-    ))) in
-    insertable a.profile b a.len (length a.jrn.now) a.used a.usage a.number a.alias a.chosen bytes
-    c.in-Join.count
-    c.in-Join.place
-    c.in-Join.at (ready a.profile b a.len (length a.jrn.now)
-    a.used a.usage a.number a.alias a.chosen bytes c.in-Join.count
-    c.in-Join.place
-    c.in-Join.at
-    (sym c.link_plan.ensures
-    ∙ c.in-Join.is))
+    let bytes : All Byte (take a.len b) = all_take Byte a.len b (bytes-all b (λ i. omega (arith, c.slice_known-1.given i))) in
+    let w = c.in_ok-plan.plan in
+    let r = ready a.profile b a.len (length a.jrn.now) a.used a.original.usage a.original.number a.alias.usage a.alias.number bytes w (sym c.link_plan.ensures ∙ c.in_ok-plan.was) in
+    insertable a.profile b a.len (length a.jrn.now) a.used a.original.usage a.original.number a.alias.usage a.alias.number bytes w.count w.place w.at r
 
 pub overflow_add-len : goal.overflow_add-len
 overflow_add-len c =
     let a = c.args in
     let b = a.buf.now in
-    let bytes : All Byte (take a.len b) = all_take Byte a.len b
-    (bytes-all b (λ i. omega (
-      arith,
-      c.slice_known-1.given
-          i,
-    ))) in
-    omega (
-      arith,
-      (ready a.profile b a.len (length a.jrn.now) a.used a.usage a.number a.alias a.chosen bytes
-          c.in-Join.count
-          c.in-Join.place
-          c.in-Join.at
-          (sym c.link_plan.ensures
-          ∙ c.in-Join.is)).short,
-    )
+    let bytes : All Byte (take a.len b) = all_take Byte a.len b (bytes-all b (λ i. omega (arith, c.slice_known-1.given i))) in
+    let w = c.in_ok-plan.plan in
+    let r = ready a.profile b a.len (length a.jrn.now) a.used a.original.usage a.original.number a.alias.usage a.alias.number bytes w (sym c.link_plan.ensures ∙ c.in_ok-plan.was) in
+    omega (arith, r.short)
 
 pub overflow_add-used : goal.overflow_add-used
 overflow_add-used c =
     let a = c.args in
     let b = a.buf.now in
-    let bytes : All Byte (take a.len b) = all_take Byte a.len b
-    (bytes-all b (λ i. omega (
-      arith,
-      c.slice_known-1.given
-          i,
-    ))) in
-    omega (
-      arith,
-      (ready a.profile b a.len (length a.jrn.now) a.used a.usage a.number a.alias a.chosen bytes
-          c.in-Join.count
-          c.in-Join.place
-          c.in-Join.at
-          (sym c.link_plan.ensures
-          ∙ c.in-Join.is)).journal_room,
-      c.well_formed,
-      c.ranges,
-    )
+    let bytes : All Byte (take a.len b) = all_take Byte a.len b (bytes-all b (λ i. omega (arith, c.slice_known-1.given i))) in
+    let w = c.in_ok-plan.plan in
+    let r = ready a.profile b a.len (length a.jrn.now) a.used a.original.usage a.original.number a.alias.usage a.alias.number bytes w (sym c.link_plan.ensures ∙ c.in_ok-plan.was) in
+    omega (arith, r.journal_room)
 
-pub returns-in-Stay : goal.returns-in-Stay
-unfolding fault
-returns-in-Stay c =
-    let a = c.args in
-    gave_refused a.profile (state a.buf.now a.len a.jrn.now a.used) (edit (link a.usage a.number a.alias a.chosen))
-    c.refused.result
-    c.in-Stay.k c.in-Stay.place c.refused.ensures
-    (linking_no _ _ _ _ _ _ (sym c.link_plan.ensures ∙ c.in-Stay.is))
-
-pub returns-in-Join : goal.returns-in-Join
-returns-in-Join c =
+pub returns : goal.returns
+returns c =
     let a = c.args in
     let b = a.buf.now in
-    let bytes : All Byte (take a.len b) = all_take Byte a.len b
-    (bytes-all b (λ i. omega (
-      arith,
-      c.slice_known-1.given i,
-    ))) in
-    made a.profile b a.jrn.now a.len a.used a.usage a.number a.alias a.chosen bytes
-    c.in-Join.count
-    c.in-Join.place
-    c.in-Join.at
-    (ready a.profile b a.len (length a.jrn.now) a.used a.usage a.number a.alias a.chosen bytes
-    c.in-Join.count
-    c.in-Join.place
-    c.in-Join.at
-    (sym c.link_plan.ensures
-    ∙ c.in-Join.is)) c.done.result _ _
-    c.done.ensures c.insert_entry.ensures c.put_record.ensures
+    let bytes : All Byte (take a.len b) = all_take Byte a.len b (bytes-all b (λ i. omega (arith, c.slice_known-1.given i))) in
+    let w = c.in_ok-plan.plan in
+    let r = ready a.profile b a.len (length a.jrn.now) a.used a.original.usage a.original.number a.alias.usage a.alias.number bytes w (sym c.link_plan.ensures ∙ c.in_ok-plan.was) in
+    made a.profile b a.jrn.now a.len a.used a.original.usage a.original.number a.alias.usage a.alias.number bytes w.count w.place w.at r _ _
+    c.insert_entry.ensures c.put_record.ensures

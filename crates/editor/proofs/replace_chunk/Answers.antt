@@ -1,106 +1,102 @@
 -- A plan to go on tells that the entry has its chunk alone, and that there is room for the new file and its record; the record and the bytes are then
 -- written by their own promises.
 use native.Mathlib.Omega.{arith}
-use mathlib.Core.Path.{sym, ◌∙◌}
+use mathlib.Core.Path.{sym, ap, ◌∙◌}
 use lib.ListN.{length, take}
+use Rattle.std.proofs.lemmas.Result.{err_from_is_err_and}
 use Rattle.blorb.specs.Bytes.{Byte}
-use Rattle.blorb.proofs.Accept.{bytes-all}
 use Rattle.blorb.specs.All.{All}
+use Rattle.blorb.proofs.Accept.{bytes-all}
 use Rattle.blorb.proofs.AllLaws.{all_take}
 use Rattle.edits.specs.Edit.{replace}
-use Rattle.edits.specs.Run.{edit, fault}
-use Rattle.edits.specs.Run.{state}
+use Rattle.edits.specs.Run.{edit, state, fault}
+use Rattle.planning.proofs.PlanLaws.{answer_no}
 use Rattle.planning.proofs.RemovePlan.{body_short}
-use Rattle.planning.proofs.ReplacePlan.{Ready, ready, change_no, inside, length_now}
+use Rattle.planning.proofs.ReplacePlan.{ready, inside, length_now}
 use Rattle.editor.proofs.ReplaceCall.{replaceable, part_in, used_room, record_room, made}
-use Rattle.editor.proofs.CallLaws.{gave_refused}
+use Rattle.editor.proofs.CallLaws.{called_refused}
 use Rattle.editor.proofs.replace_chunk.Goals as goal
-use Rattle.editor.proofs.replace_chunk.Goals.{In-Put}
 
-bytes : (c : In-Put) → All Byte (take c.args.len c.args.buf.now)
-bytes c =
+pub returns-in_err-plan : goal.returns-in_err-plan
+unfolding fault
+returns-in_err-plan c =
     let a = c.args in
-    let known = c.slice_known-1.given in
-    all_take Byte a.len a.buf.now (bytes-all a.buf.now (λ i. omega (arith, known i)))
-
-going : (c : In-Put) → let a = c.args in
-    Ready a.profile a.buf.now a.len (length a.jrn.now) a.used a.usage a.number a.kind a.d.now (bytes c)
-    c.in-Put.count c.in-Put.piece
-going c =
-    let a = c.args in
-    ready a.profile a.buf.now a.len (length a.jrn.now) a.used a.usage a.number a.kind a.d.now (bytes c)
-    c.in-Put.count c.in-Put.piece
-    (sym c.replace_plan.ensures ∙ c.in-Put.is)
+    let b = a.buf.now in
+    let p = err_from_is_err_and c.from_residual.result c.from_residual.ensures.1 in
+    rw (p.1, p.2) (called_refused a.profile (state b a.len a.jrn.now a.used) (edit (replace a.name.usage a.name.number a.kind a.d.now)) _ _
+    (answer_no _ _ _ (sym c.replace_plan.ensures ∙ c.in_err-plan.was)))
 
 pub gone_size-old-requires : goal.gone_size-old-requires
 gone_size-old-requires c =
     let a = c.args in
-    body_short a.profile a.buf.now a.len (length a.jrn.now) a.used a.usage a.number (bytes (goal.at.gone_size-old-requires c).In-Put) c.in-Put.piece (going
-    (goal.at.gone_size-old-requires c).In-Put).found (going (goal.at.gone_size-old-requires c).In-Put).piece_is
+    let b = a.buf.now in
+    let bytes : All Byte (take a.len b) = all_take Byte a.len b (bytes-all b (λ i. omega (arith, c.slice_known-1.given i))) in
+    let o = c.in_ok-plan.plan in
+    let r = ready a.profile b a.len (length a.jrn.now) a.used a.name.usage a.name.number a.kind a.d.now bytes o (sym c.replace_plan.ensures ∙ c.in_ok-plan.was) in
+    body_short a.profile b a.len (length a.jrn.now) a.used a.name.usage a.name.number bytes o.piece r.found r.piece_is
 
 pub slice_bounds-put_record-end : goal.slice_bounds-put_record-end
 slice_bounds-put_record-end c =
     let a = c.args in
-    part_in a.profile a.buf.now a.jrn.now a.len a.used a.usage a.number a.kind a.d.now (bytes (goal.at.slice_bounds-put_record-end c).In-Put) c.in-Put.count
-    c.in-Put.piece (going (goal.at.slice_bounds-put_record-end c).In-Put)
+    let b = a.buf.now in
+    let bytes : All Byte (take a.len b) = all_take Byte a.len b (bytes-all b (λ i. omega (arith, c.slice_known-1.given i))) in
+    let o = c.in_ok-plan.plan in
+    let r = ready a.profile b a.len (length a.jrn.now) a.used a.name.usage a.name.number a.kind a.d.now bytes o (sym c.replace_plan.ensures ∙ c.in_ok-plan.was) in
+    part_in a.profile b a.jrn.now a.len a.used a.name.usage a.name.number a.kind a.d.now bytes o.count o.piece r
 
 pub put_record-requires : goal.put_record-requires
 put_record-requires c =
     let a = c.args in
-    record_room a.profile a.buf.now a.jrn.now a.len a.used a.usage a.number a.kind a.d.now (bytes (goal.at.put_record-requires c).In-Put) c.in-Put.count
-    c.in-Put.piece (going (goal.at.put_record-requires c).In-Put)
+    let b = a.buf.now in
+    let bytes : All Byte (take a.len b) = all_take Byte a.len b (bytes-all b (λ i. omega (arith, c.slice_known-1.given i))) in
+    let o = c.in_ok-plan.plan in
+    let r = ready a.profile b a.len (length a.jrn.now) a.used a.name.usage a.name.number a.kind a.d.now bytes o (sym c.replace_plan.ensures ∙ c.in_ok-plan.was) in
+    record_room a.profile b a.jrn.now a.len a.used a.name.usage a.name.number a.kind a.d.now bytes o.count o.piece r
 
 pub replace_bytes-requires : goal.replace_bytes-requires
 replace_bytes-requires c =
     let a = c.args in
-    replaceable a.profile a.buf.now a.len (length a.jrn.now) a.used a.usage a.number a.kind a.d.now (bytes (goal.at.replace_bytes-requires c).In-Put)
-    c.in-Put.count c.in-Put.piece (going (goal.at.replace_bytes-requires c).In-Put) c.held-body.result.now
-    c.held-body.ensures
-    c.gone_size-old.result
-    c.gone_size-old.ensures
+    let b = a.buf.now in
+    let bytes : All Byte (take a.len b) = all_take Byte a.len b (bytes-all b (λ i. omega (arith, c.slice_known-1.given i))) in
+    let o = c.in_ok-plan.plan in
+    let r = ready a.profile b a.len (length a.jrn.now) a.used a.name.usage a.name.number a.kind a.d.now bytes o (sym c.replace_plan.ensures ∙ c.in_ok-plan.was) in
+    replaceable a.profile b a.len (length a.jrn.now) a.used a.name.usage a.name.number a.kind a.d.now bytes o.count o.piece r c.held-body.result.now c.held-body.ensures
+    c.gone_size-old.result c.gone_size-old.ensures
 
-pub overflow_sub-size : goal.overflow_sub-size
-overflow_sub-size c =
+pub overflow_sub-len : goal.overflow_sub-len
+overflow_sub-len c =
     let a = c.args in
-    inside a.profile a.buf.now a.len (length a.jrn.now) a.used a.usage a.number a.kind a.d.now (bytes (goal.at.overflow_sub-size c).In-Put)
-    c.in-Put.piece (going (goal.at.overflow_sub-size c).In-Put).found (going (goal.at.overflow_sub-size c).In-Put).piece_is
-    c.gone_size-old.result
-    c.gone_size-old.ensures
+    let b = a.buf.now in
+    let bytes : All Byte (take a.len b) = all_take Byte a.len b (bytes-all b (λ i. omega (arith, c.slice_known-1.given i))) in
+    let o = c.in_ok-plan.plan in
+    let r = ready a.profile b a.len (length a.jrn.now) a.used a.name.usage a.name.number a.kind a.d.now bytes o (sym c.replace_plan.ensures ∙ c.in_ok-plan.was) in
+    inside a.profile b a.len (length a.jrn.now) a.used a.name.usage a.name.number a.kind a.d.now bytes o.piece r.found r.piece_is c.gone_size-old.result c.gone_size-old.ensures
 
-pub overflow_add-size-in-Put-2 : goal.overflow_add-size-in-Put-2
-overflow_add-size-in-Put-2 c =
+pub overflow_add-len : goal.overflow_add-len
+overflow_add-len c =
     let a = c.args in
-    let l = length_now a.profile a.buf.now a.len (length a.jrn.now) a.used a.usage a.number a.kind a.d.now (bytes (goal.at.overflow_add-size-in-Put-2 c).In-Put)
-    c.in-Put.piece (going (goal.at.overflow_add-size-in-Put-2 c).In-Put).found (going (goal.at.overflow_add-size-in-Put-2 c).In-Put).piece_is
-    c.gone_size-old.result
-    c.gone_size-old.ensures
-    c.held-body.result.now
-    c.held-body.ensures in
-    omega (arith, l, (going (goal.at.overflow_add-size-in-Put-2 c).In-Put).short)
+    let b = a.buf.now in
+    let bytes : All Byte (take a.len b) = all_take Byte a.len b (bytes-all b (λ i. omega (arith, c.slice_known-1.given i))) in
+    let o = c.in_ok-plan.plan in
+    let r = ready a.profile b a.len (length a.jrn.now) a.used a.name.usage a.name.number a.kind a.d.now bytes o (sym c.replace_plan.ensures ∙ c.in_ok-plan.was) in
+    omega (arith, length_now a.profile b a.len (length a.jrn.now) a.used a.name.usage a.name.number a.kind a.d.now bytes o.piece r.found r.piece_is c.gone_size-old.result c.gone_size-old.ensures c.held-body.result.now c.held-body.ensures,
+    r.short)
 
 pub overflow_add-used : goal.overflow_add-used
 overflow_add-used c =
     let a = c.args in
-    let room = used_room a.profile a.buf.now a.jrn.now a.len a.used a.usage a.number a.kind a.d.now (bytes (goal.at.overflow_add-used c).In-Put)
-    c.in-Put.count c.in-Put.piece (going (goal.at.overflow_add-used c).In-Put) in
-    omega (arith, room, c.well_formed, c.ranges)
+    let b = a.buf.now in
+    let bytes : All Byte (take a.len b) = all_take Byte a.len b (bytes-all b (λ i. omega (arith, c.slice_known-1.given i))) in
+    let o = c.in_ok-plan.plan in
+    let r = ready a.profile b a.len (length a.jrn.now) a.used a.name.usage a.name.number a.kind a.d.now bytes o (sym c.replace_plan.ensures ∙ c.in_ok-plan.was) in
+    omega (arith, used_room a.profile b a.jrn.now a.len a.used a.name.usage a.name.number a.kind a.d.now bytes o.count o.piece r, c.well_formed, c.ranges)
 
-pub returns-in-Keep : goal.returns-in-Keep
-unfolding fault
-returns-in-Keep c =
+pub returns : goal.returns
+returns c =
     let a = c.args in
-    gave_refused a.profile (state a.buf.now a.len a.jrn.now a.used) (edit (replace a.usage a.number a.kind a.d.now))
-    c.refused.result c.in-Keep.k c.in-Keep.place c.refused.ensures
-    (change_no _ _ _ _ _ _ (sym c.replace_plan.ensures ∙ c.in-Keep.is))
-
-pub returns-in-Put : goal.returns-in-Put
-returns-in-Put c =
-    let a = c.args in
-    made a.profile a.buf.now a.jrn.now a.len a.used a.usage a.number a.kind a.d.now (bytes (goal.at.returns-in-Put c).In-Put) c.in-Put.count
-    c.in-Put.piece (going (goal.at.returns-in-Put c).In-Put) c.held-body.result.now
-    c.held-body.ensures
-    c.gone_size-old.result
-    c.done.result _ _
-    c.gone_size-old.ensures
-    c.done.ensures c.replace_bytes.ensures
-    c.put_record.ensures
+    let b = a.buf.now in
+    let bytes : All Byte (take a.len b) = all_take Byte a.len b (bytes-all b (λ i. omega (arith, c.slice_known-1.given i))) in
+    let o = c.in_ok-plan.plan in
+    let r = ready a.profile b a.len (length a.jrn.now) a.used a.name.usage a.name.number a.kind a.d.now bytes o (sym c.replace_plan.ensures ∙ c.in_ok-plan.was) in
+    made a.profile b a.jrn.now a.len a.used a.name.usage a.name.number a.kind a.d.now bytes o.count o.piece r c.held-body.result.now c.held-body.ensures
+    c.gone_size-old.result _ _ c.gone_size-old.ensures c.replace_bytes.ensures c.put_record.ensures
