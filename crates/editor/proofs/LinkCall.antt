@@ -54,7 +54,7 @@ module _ (profile : ℕ) (b : List ℕ) (l J U v o u n : ℕ) (bytes : All Byte 
     unfolding edited_file edited linked
     file_is = λ z. file (entered m (r.place_is z) (its_number z) u n)
 
-    record_is : record_of 5 (record { name = record { usage = u; number = n }; start = x + 12 }) y 0 [] ≡ rec_of m (link v o u n)
+    record_is : record_of 5 (record { pair = record { usage = u; number = n }; start = x + 12 }) y 0 [] ≡ rec_of m (link v o u n)
     unfolding record_of rec_of
     record_is =
         let s : x + 12 ≡ start (linked m kc u n) kc = ap (λ (z : ℕ). z + 12) r.start_is ∙ sym (linked-start m u n kc) in
@@ -63,7 +63,7 @@ module _ (profile : ℕ) (b : List ℕ) (l J U v o u n : ℕ) (bytes : All Byte 
 -- the call, once its plan goes on
 pub made : (profile : ℕ) (b j : List ℕ) (l U v o u n : ℕ) (bytes : All Byte (take l b)) (k y x : ℕ) → Ready profile b l (length j) U v o u n bytes k y x
     → (b' j' : List ℕ) → b' ≡ written b l (file (entered (model (take l b)) y (place_at (model (take l b)) x) u n))
-    → j' ≡ noted j U (rec_bytes (record_of 5 (record { name = record { usage = u; number = n }; start = x + 12 }) y 0 []))
+    → j' ≡ noted j U (rec_bytes (record_of 5 (record { pair = record { usage = u; number = n }; start = x + 12 }) y 0 []))
     → Called profile (state b l j U) (edit (link v o u n)) (done_with (l + 12) (U + 29)) b' j'
 unfolding fault after after_edit edit_record
 made profile b j l U v o u n bytes k y x r b' j' eb ej =

@@ -79,15 +79,15 @@ module _ (profile : ℕ) (b : List ℕ) (l J U u n : ℕ) (bytes : All Byte (tak
           },
         )
 
-    pub record_is : record_of (cond p.shared 4 3) (record { name = record { usage = u; number = n }; start = p.start }) p.place (cond p.shared 0 p.kind)
+    pub record_is : record_of (cond p.shared 4 3) (record { pair = record { usage = u; number = n }; start = p.start }) p.place (cond p.shared 0 p.kind)
         (take (cond p.shared 0 p.length) (drop (p.start + 8) b)) ≡ rec_of m (remove u n)
     unfolding record_of rec_of removal
     record_is =
-        ap (λ (z : Piece). record_of (cond z.shared 4 3) (record { name = record { usage = u; number = n }; start = z.start }) z.place (cond z.shared 0 z.kind)
+        ap (λ (z : Piece). record_of (cond z.shared 4 3) (record { pair = record { usage = u; number = n }; start = z.start }) z.place (cond z.shared 0 z.kind)
         (take (cond z.shared 0 z.length) (drop (z.start + 8) b))) r.piece_is
         ∙ go (shared m i)
       where
-        go : (y : Bool) → record_of (cond y 4 3) (record { name = record { usage = u; number = n }; start = start m kc }) i (cond y 0 (chunk_at m kc).type)
+        go : (y : Bool) → record_of (cond y 4 3) (record { pair = record { usage = u; number = n }; start = start m kc }) i (cond y 0 (chunk_at m kc).type)
             (take (cond y 0 (length (chunk_at m kc).body)) (drop (start m kc + 8) b)) ≡ removal y m u n i
         go true = refl
         go false = λ z. record { kind = 3; usage = u; number = n; place = i; start = start m kc; type = (chunk_at m kc).type; body = body_of r.found z }
@@ -107,7 +107,7 @@ module _ (profile : ℕ) (b j : List ℕ) (l U u n : ℕ) (bytes : All Byte (tak
   pub made : (a kd t : ℕ) (b' j' : List ℕ) → a ≡ cond p.shared 0 (8 + (p.length + p.length % 2)) → kd ≡ cond p.shared 4 3
       → t ≡ cond p.shared 0 p.kind
       → b' ≡ written b l (file (removed (model (take l b)) p.place))
-      → j' ≡ noted j U (rec_bytes (record_of kd (record { name = record { usage = u; number = n }; start = p.start }) p.place t (take (p.start + 8 + x - (p.start + 8))
+      → j' ≡ noted j U (rec_bytes (record_of kd (record { pair = record { usage = u; number = n }; start = p.start }) p.place t (take (p.start + 8 + x - (p.start + 8))
       (drop (p.start + 8) b))))
       → Called profile (state b l j U) (edit (remove u n)) (done_with (l - (12 + a)) (U + (29 + x))) b' j'
   unfolding fault after after_edit edited_file edited edit_record
@@ -117,6 +117,6 @@ module _ (profile : ℕ) (b j : List ℕ) (l U u n : ℕ) (bytes : All Byte (tak
       r.piece_is a ea)
       (ap (λ (z : ℕ). U + (29 + z)) ex ∙ ap (λ (z : ℕ). U + z) (used_now profile b l (length j) U u n bytes k p r))
       (eb ∙ ap (λ (z : ℕ). written b l (file (removed (model (take l b)) z))) (place_is (model (take l b)) (find u n (model (take l b)).refs) p r.piece_is))
-      (ej ∙ (λ z. noted j U (rec_bytes (record_of (ek z) (record { name = record { usage = u; number = n }; start = p.start }) p.place (et z)
+      (ej ∙ (λ z. noted j U (rec_bytes (record_of (ek z) (record { pair = record { usage = u; number = n }; start = p.start }) p.place (et z)
       (take (px z) (drop (p.start + 8) b)))))
       ∙ ap (λ (z : Rec). noted j U (rec_bytes z)) (record_is profile b l (length j) U u n bytes k p r))

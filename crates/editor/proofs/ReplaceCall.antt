@@ -63,11 +63,11 @@ module _ (profile : ℕ) (b : List ℕ) (l J U u n t : ℕ) (d : List ℕ) (byte
           ),
         )
 
-    pub record_is : record_of 2 (record { name = record { usage = u; number = n }; start = p.start }) p.place p.kind (take p.length (drop (p.start + 8) b))
+    pub record_is : record_of 2 (record { pair = record { usage = u; number = n }; start = p.start }) p.place p.kind (take p.length (drop (p.start + 8) b))
         ≡ rec_of m (replace u n t d)
     unfolding record_of rec_of
     record_is =
-        ap (λ (z : Piece). record_of 2 (record { name = record { usage = u; number = n }; start = z.start }) z.place z.kind (take z.length (drop (z.start + 8) b)))
+        ap (λ (z : Piece). record_of 2 (record { pair = record { usage = u; number = n }; start = z.start }) z.place z.kind (take z.length (drop (z.start + 8) b)))
         r.piece_is
         ∙ (λ z. record {
           kind = 2;
@@ -94,7 +94,7 @@ module _ (profile : ℕ) (b j : List ℕ) (l U u n t : ℕ) (d : List ℕ) (byte
 
   pub made : (h : List ℕ) → h ≡ held t d → (a : ℕ) (b' j' : List ℕ) → a ≡ 8 + (p.length + p.length % 2)
       → b' ≡ written b l (file (replaced (model (take l b)) (ref_at (model (take l b)) p.place).chunk (chunk_of t h)))
-      → j' ≡ noted j U (rec_bytes (record_of 2 (record { name = record { usage = u; number = n }; start = p.start }) p.place p.kind
+      → j' ≡ noted j U (rec_bytes (record_of 2 (record { pair = record { usage = u; number = n }; start = p.start }) p.place p.kind
       (take (p.start + 8 + p.length - (p.start + 8)) (drop (p.start + 8) b))))
       → Called profile (state b l j U) (edit (replace u n t d)) (done_with (l - a + (8 + (length h + length h % 2))) (U + (29 + p.length))) b' j'
   unfolding fault after after_edit edited_file edited edit_record
@@ -105,6 +105,6 @@ module _ (profile : ℕ) (b j : List ℕ) (l U u n t : ℕ) (d : List ℕ) (byte
       (eb
       ∙ (λ z. written b l (file (replaced (model (take l b))
       (ref_at (model (take l b)) (place_is (model (take l b)) (find u n (model (take l b)).refs) p r.piece_is z)).chunk (chunk_of t (eh z))))))
-      (ej ∙ ap (λ (z : ℕ). noted j U (rec_bytes (record_of 2 (record { name = record { usage = u; number = n }; start = p.start }) p.place p.kind
+      (ej ∙ ap (λ (z : ℕ). noted j U (rec_bytes (record_of 2 (record { pair = record { usage = u; number = n }; start = p.start }) p.place p.kind
       (take z (drop (p.start + 8) b))))) (part-size (p.start + 8) p.length)
       ∙ ap (λ (z : Rec). noted j U (rec_bytes z)) (record_is profile b l (length j) U u n t d bytes k p r))

@@ -13,8 +13,7 @@ ghost use Rattle.edits.specs.Run.{state};
 ghost use Rattle.editor.specs.Called.{Called, blank_answer};
 ghost use Rattle.editor.specs.Post.{answered_with};
 
-use blorb::{Fault, Refusal};
-use moves::Name;
+use blorb::{Fault, Pair, Refusal};
 use planning::{Lent, given};
 use rewrite::{Extent, Gap, Part};
 use undoing::Undoing;
@@ -54,11 +53,11 @@ fn add_entry(
     jrn: &mut [u8],
     used: usize,
     profile: u32,
-    name: Name,
+    pair: Pair,
     kind: u32,
     d: &[u8],
 ) -> Result<Session, Refusal>
-    ensures { Called profile (state buf.old len jrn.old used) (edit (add name.usage name.number kind d.now)) (answered_with result len used)
+    ensures { Called profile (state buf.old len jrn.old used) (edit (add pair.usage pair.number kind d.now)) (answered_with result len used)
         buf.new jrn.new }
 {
     let lent = Lent {
@@ -67,15 +66,15 @@ fn add_entry(
         used,
         profile,
     };
-    let count = planning::add_plan(buf, lent, name, kind, d)?;
+    let count = planning::add_plan(buf, lent, pair, kind, d)?;
     let body = given::held(kind, d);
     let m = body.len();
-    rewrite::add_bytes(buf, Extent { len, count }, name, kind, body);
+    rewrite::add_bytes(buf, Extent { len, count }, pair, kind, body);
     moves::put_record(
         jrn,
         used,
         Kind::Added as u8,
-        moves::Entry { name, start: 0 },
+        moves::Entry { pair, start: 0 },
         count as u64,
         0,
         &d[0..0],
@@ -93,9 +92,9 @@ fn remove_entry(
     jrn: &mut [u8],
     used: usize,
     profile: u32,
-    name: Name,
+    pair: Pair,
 ) -> Result<Session, Refusal>
-    ensures { Called profile (state buf.old len jrn.old used) (edit (remove name.usage name.number)) (answered_with result len used)
+    ensures { Called profile (state buf.old len jrn.old used) (edit (remove pair.usage pair.number)) (answered_with result len used)
         buf.new jrn.new }
 {
     let lent = Lent {
@@ -104,7 +103,7 @@ fn remove_entry(
         used,
         profile,
     };
-    let plan = planning::remove_plan(buf, lent, name)?;
+    let plan = planning::remove_plan(buf, lent, pair)?;
     let piece = plan.piece;
     let start = piece.start;
     let size = planning::gone_size(piece.shared, piece.length) as usize;
@@ -115,7 +114,7 @@ fn remove_entry(
         jrn,
         used,
         planning::removal_kind(piece.shared).number(),
-        moves::Entry { name, start },
+        moves::Entry { pair, start },
         piece.place as u64,
         planning::kept_number(piece.shared, piece.kind) as u64,
         &buf[from..to],
@@ -143,11 +142,11 @@ fn replace_chunk(
     jrn: &mut [u8],
     used: usize,
     profile: u32,
-    name: Name,
+    pair: Pair,
     kind: u32,
     d: &[u8],
 ) -> Result<Session, Refusal>
-    ensures { Called profile (state buf.old len jrn.old used) (edit (replace name.usage name.number kind d.now)) (answered_with result len used)
+    ensures { Called profile (state buf.old len jrn.old used) (edit (replace pair.usage pair.number kind d.now)) (answered_with result len used)
         buf.new jrn.new }
 {
     let lent = Lent {
@@ -156,7 +155,7 @@ fn replace_chunk(
         used,
         profile,
     };
-    let plan = planning::replace_plan(buf, lent, name, kind, d)?;
+    let plan = planning::replace_plan(buf, lent, pair, kind, d)?;
     let piece = plan.piece;
     let start = piece.start;
     let old = planning::gone_size(false, piece.length) as usize;
@@ -168,7 +167,7 @@ fn replace_chunk(
         jrn,
         used,
         Kind::Replaced as u8,
-        moves::Entry { name, start },
+        moves::Entry { pair, start },
         piece.place as u64,
         piece.kind as u64,
         &buf[from..to],
@@ -196,8 +195,8 @@ fn link_entry(
     jrn: &mut [u8],
     used: usize,
     profile: u32,
-    original: Name,
-    alias: Name,
+    original: Pair,
+    alias: Pair,
 ) -> Result<Session, Refusal>
     ensures { Called profile (state buf.old len jrn.old used) (edit (link original.usage original.number alias.usage alias.number))
         (answered_with result len used) buf.new jrn.new }
@@ -214,7 +213,7 @@ fn link_entry(
         used,
         Kind::Linked as u8,
         moves::Entry {
-            name: alias,
+            pair: alias,
             start: plan.at + 12,
         },
         plan.place as u64,
@@ -258,12 +257,12 @@ pub fn add(
     ensures { Called profile (state buf.old len jrn.old used) (edit (add (rd32 usage) number (rd32 kind)
         d.now)) result buf.new jrn.new }
 {
-    let name = Name {
+    let pair = Pair {
         usage: code_of(usage),
         number,
     };
     let kind = code_of(kind);
-    let made = add_entry(buf, len, jrn, used, profile, name, kind, d);
+    let made = add_entry(buf, len, jrn, used, profile, pair, kind, d);
     Answer::new(made, len, used)
 }
 
@@ -282,12 +281,12 @@ pub fn replace(
     ensures { Called profile (state buf.old len jrn.old used) (edit (replace (rd32 usage) number (rd32 kind) d.now))
         result buf.new jrn.new }
 {
-    let name = Name {
+    let pair = Pair {
         usage: code_of(usage),
         number,
     };
     let kind = code_of(kind);
-    let made = replace_chunk(buf, len, jrn, used, profile, name, kind, d);
+    let made = replace_chunk(buf, len, jrn, used, profile, pair, kind, d);
     Answer::new(made, len, used)
 }
 
@@ -304,11 +303,11 @@ pub fn remove(
     ensures { Called profile (state buf.old len jrn.old used) (edit (remove (rd32 usage) number)) result buf.new
         jrn.new }
 {
-    let name = Name {
+    let pair = Pair {
         usage: code_of(usage),
         number,
     };
-    let made = remove_entry(buf, len, jrn, used, profile, name);
+    let made = remove_entry(buf, len, jrn, used, profile, pair);
     Answer::new(made, len, used)
 }
 
@@ -327,11 +326,11 @@ pub fn link(
     ensures { Called profile (state buf.old len jrn.old used) (edit (link (rd32 usage) number (rd32 alias) chosen)) result
         buf.new jrn.new }
 {
-    let original = Name {
+    let original = Pair {
         usage: code_of(usage),
         number,
     };
-    let alias = Name {
+    let alias = Pair {
         usage: code_of(alias),
         number: chosen,
     };
@@ -411,8 +410,8 @@ fn write_back(buf: &mut [u8], len: usize, jrn: &[u8], used: usize, plan: Undoing
     match r.kind {
         Kind::Added | Kind::Linked => rewrite::remove_bytes(buf, extent, part),
         Kind::Replaced => rewrite::replace_bytes(buf, extent, part, r.sort, d),
-        Kind::Removed => rewrite::insert_bytes(buf, extent, gap, r.name(), r.sort, d),
-        Kind::Unlisted => rewrite::insert_entry(buf, extent, gap, r.name()),
+        Kind::Removed => rewrite::insert_bytes(buf, extent, gap, r.pair(), r.sort, d),
+        Kind::Unlisted => rewrite::insert_entry(buf, extent, gap, r.pair()),
     }
 }
 

@@ -1,10 +1,9 @@
 // Refusals 100 + k, told from the present file without making the new one.
-ghost use Rattle.std.specs.Prelude.{◌≡◌, ◌≤◌, ◌<◌, not, ◌&&◌, ◌||◌, length, eqb};
+ghost use Rattle.std.specs.Prelude.{◌≡◌, ◌≤◌, ◌<◌, length};
 ghost use Rattle.blorb.specs.Verdict.{accept, verdict};
 ghost use Rattle.blorb.specs.Format.{chunk_of};
 ghost use Rattle.blorb.specs.Refusals.{verdict_of};
 ghost use Rattle.blorb.specs.Rules.{rules_of};
-ghost use Rattle.blorb.specs.Tags.{Exec, Pict};
 ghost use Rattle.blorb.specs.Model.{model, file};
 ghost use Rattle.blorb.specs.Queries.{ref_at, find};
 ghost use Rattle.edits.specs.Edit.{added, replaced, removed};
@@ -13,36 +12,21 @@ ghost use Rattle.edits.specs.Starts.{behind, fallen};
 ghost use Rattle.reader.specs.Inspecting.{target_of, front_of};
 ghost use Rattle.judging.specs.Told.{Counted, Listed, Own};
 
-use blorb::{Fault, Refusal, Usage};
-use moves::Name;
+use blorb::{Fault, Pair, Refusal, Usage};
 use reader::{Frontispiece, Piece};
 
-// An Exec has number 0.
-pub fn number_fits(name: Name) -> bool
-    ensures { result ≡ (not (eqb name.usage Exec) || eqb name.number 0) }
-{
-    (name.usage as u64 != Usage::EXEC) | (name.number == 0)
-}
-
-// It names the picture numbered `q`.
-pub fn is_picture(name: Name, q: u32) -> bool
-    ensures { result ≡ (eqb name.usage Pict && eqb name.number q) }
-{
-    (name.usage as u64 == Usage::PICT) & (name.number == q)
-}
-
-// 100 + k for an add to the accepted file `s` with `count` entries, of which `target` has the name.
+// 100 + k for an add to the accepted file `s` with `count` entries, of which `target` has the pair.
 pub fn add_fault(
     s: &[u8],
     profile: u32,
     count: usize,
     target: Option<Piece>,
-    name: Name,
+    pair: Pair,
     kind: u32,
     d: &[u8],
 ) -> Result<(), Refusal>
-    requires { (verdict (rules_of profile) s.now ≡ accept) × (Counted s.now count × (target ≡ target_of (model s.now) name.usage name.number)) }
-    ensures { verdict_of result ≡ hundred (verdict (rules_of profile) (file (added (model s.now) name.usage name.number (chunk_of kind d.now)))) }
+    requires { (verdict (rules_of profile) s.now ≡ accept) × (Counted s.now count × (target ≡ target_of (model s.now) pair.usage pair.number)) }
+    ensures { verdict_of result ≡ hundred (verdict (rules_of profile) (file (added (model s.now) pair.usage pair.number (chunk_of kind d.now)))) }
 {
     let len = s.len();
     let m = d.len();
@@ -65,7 +49,7 @@ pub fn add_fault(
         });
     }
     let at = 24 + 12 * count;
-    let Some(known) = Usage::of_code(name.usage as u64) else {
+    let Some(known) = Usage::of_code(pair.usage as u64) else {
         return Err(Refusal {
             fault: Fault::ResultUsage,
             place: at,
@@ -77,7 +61,7 @@ pub fn add_fault(
             place: at,
         });
     }
-    if !number_fits(name) {
+    if !pair.number_fits() {
         return Err(Refusal {
             fault: Fault::ResultExecNumber,
             place: at + 4,
@@ -103,24 +87,24 @@ fn fallen_start(at: u32, start: u32, size: u32) -> u32
     at.saturating_sub(12)
 }
 
-// 100 + k for a removal of the entry with this name in the accepted file `s` with this frontispiece: the entry's chunk at
+// 100 + k for a removal of the entry with this pair in the accepted file `s` with this frontispiece: the entry's chunk at
 // `start` loses `size` bytes.
 pub fn remove_fault(
     s: &[u8],
     profile: u32,
     front: Option<Frontispiece>,
-    name: Name,
+    pair: Pair,
     start: u32,
     size: u32,
 ) -> Result<(), Refusal>
-    requires { (verdict (rules_of profile) s.now ≡ accept) × (Listed s.now name.usage name.number start size × (front ≡ front_of (model s.now))) }
+    requires { (verdict (rules_of profile) s.now ≡ accept) × (Listed s.now pair.usage pair.number start size × (front ≡ front_of (model s.now))) }
     ensures { verdict_of result ≡ hundred
-        (verdict (rules_of profile) (file (removed (model s.now) (find name.usage name.number (model s.now).refs)))) }
+        (verdict (rules_of profile) (file (removed (model s.now) (find pair.usage pair.number (model s.now).refs)))) }
 {
     let Some(front) = front else {
         return Ok(());
     };
-    if is_picture(name, front.number) {
+    if pair.is_picture(front.number) {
         let place = fallen_start(front.start, start, size) as usize + 8;
         return Err(Refusal {
             fault: Fault::ResultFrontispiece,
@@ -146,14 +130,14 @@ pub fn replace_fault(
     profile: u32,
     front: Option<Frontispiece>,
     piece: Piece,
-    name: Name,
+    pair: Pair,
     kind: u32,
     d: &[u8],
 ) -> Result<(), Refusal>
-    requires { (verdict (rules_of profile) s.now ≡ accept) × (Own s.now name.usage name.number piece × (front ≡ front_of (model s.now))) }
+    requires { (verdict (rules_of profile) s.now ≡ accept) × (Own s.now pair.usage pair.number piece × (front ≡ front_of (model s.now))) }
     ensures { verdict_of result ≡ hundred
         (verdict (rules_of profile) (file (replaced (model s.now)
-        (ref_at (model s.now) (find name.usage name.number (model s.now).refs)).chunk (chunk_of kind d.now)))) }
+        (ref_at (model s.now) (find pair.usage pair.number (model s.now).refs)).chunk (chunk_of kind d.now)))) }
 {
     let len = s.len();
     let m = d.len();
@@ -171,7 +155,7 @@ pub fn replace_fault(
             place: piece.start as usize,
         });
     }
-    if !blorb::type_allowed(profile, name.usage as u64, kind as u64, d) {
+    if !blorb::type_allowed(profile, pair.usage as u64, kind as u64, d) {
         return Err(Refusal {
             fault: Fault::ResultType,
             place: 24 + 12 * piece.place,
@@ -180,7 +164,7 @@ pub fn replace_fault(
     let Some(front) = front else {
         return Ok(());
     };
-    if is_picture(name, front.number) & (kind as u64 == blorb::RECT) {
+    if pair.is_picture(front.number) & (kind as u64 == blorb::RECT) {
         let place = behind_start(front.start, piece.start, old, new as u32) as usize + 8;
         return Err(Refusal {
             fault: Fault::ResultFrontispiece,

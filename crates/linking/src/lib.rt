@@ -12,9 +12,7 @@ ghost use Rattle.edits.specs.Edit.{link_place_of, linked};
 ghost use Rattle.edits.specs.Run.{hundred};
 ghost use Rattle.linking.specs.Original.{Indexed, Original};
 
-use blorb::{Fault, Refusal, Usage};
-use judging::judge;
-use moves::Name;
+use blorb::{Fault, Pair, Refusal, Usage};
 use reader::Piece;
 
 // The place of a new entry on the chunk of `piece`: behind the entries that start there, which stand side by side.
@@ -32,15 +30,15 @@ pub fn link_place(s: &[u8], count: usize, piece: Piece) -> usize
 }
 
 // The place of the entry with this pair in the file `s`, if there is one.
-fn find_pair(s: &[u8], count: usize, name: Name) -> Option<usize>
+fn find_pair(s: &[u8], count: usize, pair: Pair) -> Option<usize>
     requires { Indexed s.now count }
-    ensures { result ≡ then_some (ltb (find name.usage name.number (model s.now).refs) (length (model s.now).refs))
-        (find name.usage name.number (model s.now).refs) }
+    ensures { result ≡ then_some (ltb (find pair.usage pair.number (model s.now).refs) (length (model s.now).refs))
+        (find pair.usage pair.number (model s.now).refs) }
 {
     for i in 0..count {
         let p = 24 + 12 * i;
-        if (blorb::be32_at(s, p) == name.usage as u64)
-            & (blorb::be32_at(s, p + 4) == name.number as u64)
+        if (blorb::be32_at(s, p) == pair.usage as u64)
+            & (blorb::be32_at(s, p + 4) == pair.number as u64)
         {
             return Some(i);
         }
@@ -56,12 +54,12 @@ pub fn link_fault(
     count: usize,
     piece: Piece,
     place: usize,
-    name: Name,
+    pair: Pair,
 ) -> Result<(), Refusal>
     requires { (verdict (rules_of profile) s.now ≡ accept)
         × (Original s.now count piece × ((place ≡ link_place_of (ref_at (model s.now) piece.place).chunk (model s.now).refs) × (place ≤ count))) }
     ensures { verdict_of result ≡ hundred
-        (verdict (rules_of profile) (file (linked (model s.now) (ref_at (model s.now) piece.place).chunk name.usage name.number))) }
+        (verdict (rules_of profile) (file (linked (model s.now) (ref_at (model s.now) piece.place).chunk pair.usage pair.number))) }
 {
     if 16777216 < s.len() + 12 {
         return Err(Refusal {
@@ -76,25 +74,25 @@ pub fn link_fault(
         });
     }
     let at = 24 + 12 * place;
-    if Usage::of_code(name.usage as u64).is_none() {
+    if Usage::of_code(pair.usage as u64).is_none() {
         return Err(Refusal {
             fault: Fault::ResultUsage,
             place: at,
         });
     }
-    if !undoing::chunk_allowed(s, profile, piece.start as usize, name.usage) {
+    if !undoing::chunk_allowed(s, profile, piece.start as usize, pair.usage) {
         return Err(Refusal {
             fault: Fault::ResultType,
             place: at,
         });
     }
-    if !judge::number_fits(name) {
+    if !pair.number_fits() {
         return Err(Refusal {
             fault: Fault::ResultExecNumber,
             place: at + 4,
         });
     }
-    let Some(other) = find_pair(s, count, name) else {
+    let Some(other) = find_pair(s, count, pair) else {
         return Ok(());
     };
     if other < place {

@@ -13,9 +13,8 @@ ghost use Rattle.planning.specs.Plans.{edit_refusal, owned_of, joining_of};
 
 pub mod given;
 
-use blorb::{Fault, Refusal};
+use blorb::{Fault, Pair, Refusal};
 use judging::judge;
-use moves::Name;
 use reader::{Facts, Piece};
 use undoing::journal::Kind;
 
@@ -29,9 +28,9 @@ pub struct Lent {
 }
 
 // 52, 20 and the reader's refusals; else what the file tells.
-fn opened(buf: &[u8], lent: Lent, name: Name) -> Result<Facts, Refusal>
+fn opened(buf: &[u8], lent: Lent, pair: Pair) -> Result<Facts, Refusal>
     ensures { result ≡ inspection_of (check (leb lent.profile 1) 52 0 then check (leb lent.len (length buf.now) && leb lent.used lent.room) 20 0 then
-        verdict (rules_of lent.profile) (take lent.len buf.now)) (model (take lent.len buf.now)) name.usage name.number 0 }
+        verdict (rules_of lent.profile) (take lent.len buf.now)) (model (take lent.len buf.now)) pair.usage pair.number 0 }
 {
     if 1 < lent.profile {
         return Err(Refusal {
@@ -51,7 +50,7 @@ fn opened(buf: &[u8], lent: Lent, name: Name) -> Result<Facts, Refusal>
             place: 0,
         });
     }
-    reader::inspect(&buf[..lent.len], lent.profile, name.usage, name.number, 0)
+    reader::inspect(&buf[..lent.len], lent.profile, pair.usage, pair.number, 0)
 }
 
 // 24 and 25: a new file of `size` bytes in a buffer of `room`, a record of `more` bytes where `left` are left.
@@ -74,11 +73,11 @@ fn with_room(size: usize, room: usize, more: usize, left: usize) -> Result<(), R
 }
 
 // An add's refusal, or the number of entries that it goes on with.
-pub fn add_plan(buf: &[u8], lent: Lent, name: Name, kind: u32, d: &[u8]) -> Result<usize, Refusal>
+pub fn add_plan(buf: &[u8], lent: Lent, pair: Pair, kind: u32, d: &[u8]) -> Result<usize, Refusal>
     ensures { result ≡ answer_by (edit_refusal lent.profile (length buf.now) lent.room (take lent.len buf.now) lent.len lent.used
-        (add name.usage name.number kind d.now)) (length (model (take lent.len buf.now)).refs) }
+        (add pair.usage pair.number kind d.now)) (length (model (take lent.len buf.now)).refs) }
 {
-    let facts = opened(buf, lent, name)?;
+    let facts = opened(buf, lent, pair)?;
     if !given::is_whole(kind, d) {
         return Err(Refusal {
             fault: Fault::WholeForm,
@@ -87,7 +86,7 @@ pub fn add_plan(buf: &[u8], lent: Lent, name: Name, kind: u32, d: &[u8]) -> Resu
     }
     let body = given::held(kind, d);
     let s = &buf[..lent.len];
-    judge::add_fault(s, lent.profile, facts.count, facts.target, name, kind, body)?;
+    judge::add_fault(s, lent.profile, facts.count, facts.target, pair, kind, body)?;
     let m = body.len();
     let size = lent.len + (20 + (m + m % 2));
     with_room(size, buf.len(), 29, lent.room - lent.used)?;
@@ -133,11 +132,11 @@ pub fn removal_kind(shared: bool) -> Kind
 }
 
 // A removal's refusal, or what it needs to be made.
-pub fn remove_plan(buf: &[u8], lent: Lent, name: Name) -> Result<Owned, Refusal>
+pub fn remove_plan(buf: &[u8], lent: Lent, pair: Pair) -> Result<Owned, Refusal>
     ensures { result ≡ answer_by (edit_refusal lent.profile (length buf.now) lent.room (take lent.len buf.now) lent.len lent.used
-        (remove name.usage name.number)) (owned_of (model (take lent.len buf.now)) name.usage name.number) }
+        (remove pair.usage pair.number)) (owned_of (model (take lent.len buf.now)) pair.usage pair.number) }
 {
-    let facts = opened(buf, lent, name)?;
+    let facts = opened(buf, lent, pair)?;
     let Some(piece) = facts.target else {
         return Err(Refusal {
             fault: Fault::NotThere,
@@ -147,7 +146,7 @@ pub fn remove_plan(buf: &[u8], lent: Lent, name: Name) -> Result<Owned, Refusal>
     let size = gone_size(piece.shared, piece.length);
     let body = kept_number(piece.shared, piece.length) as usize;
     let s = &buf[..lent.len];
-    judge::remove_fault(s, lent.profile, facts.front, name, piece.start, size)?;
+    judge::remove_fault(s, lent.profile, facts.front, pair, piece.start, size)?;
     let size = lent.len - (12 + size as usize);
     with_room(size, buf.len(), 29 + body, lent.room - lent.used)?;
     Ok(Owned {
@@ -160,14 +159,14 @@ pub fn remove_plan(buf: &[u8], lent: Lent, name: Name) -> Result<Owned, Refusal>
 pub fn replace_plan(
     buf: &[u8],
     lent: Lent,
-    name: Name,
+    pair: Pair,
     kind: u32,
     d: &[u8],
 ) -> Result<Owned, Refusal>
     ensures { result ≡ answer_by (edit_refusal lent.profile (length buf.now) lent.room (take lent.len buf.now) lent.len lent.used
-        (replace name.usage name.number kind d.now)) (owned_of (model (take lent.len buf.now)) name.usage name.number) }
+        (replace pair.usage pair.number kind d.now)) (owned_of (model (take lent.len buf.now)) pair.usage pair.number) }
 {
-    let facts = opened(buf, lent, name)?;
+    let facts = opened(buf, lent, pair)?;
     let Some(piece) = facts.target else {
         return Err(Refusal {
             fault: Fault::NotThere,
@@ -190,7 +189,7 @@ pub fn replace_plan(
     let body = given::held(kind, d);
     let old = gone_size(false, piece.length) as usize;
     let s = &buf[..lent.len];
-    judge::replace_fault(s, lent.profile, facts.front, piece, name, kind, body)?;
+    judge::replace_fault(s, lent.profile, facts.front, piece, pair, kind, body)?;
     let m = body.len();
     let size = lent.len - old + (8 + (m + m % 2));
     let more = 29 + piece.length as usize;
@@ -210,7 +209,7 @@ pub struct Joining {
 }
 
 // A link's refusal, or what it needs to be made.
-pub fn link_plan(buf: &[u8], lent: Lent, original: Name, alias: Name) -> Result<Joining, Refusal>
+pub fn link_plan(buf: &[u8], lent: Lent, original: Pair, alias: Pair) -> Result<Joining, Refusal>
     ensures { result ≡ answer_by (edit_refusal lent.profile (length buf.now) lent.room (take lent.len buf.now) lent.len lent.used
         (link original.usage original.number alias.usage alias.number)) (joining_of (model (take lent.len buf.now)) original.usage original.number) }
 {

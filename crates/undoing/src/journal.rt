@@ -4,7 +4,7 @@ ghost use Rattle.edits.specs.KindRule.{kind_rule};
 ghost use Rattle.undoing.specs.Kinds.{number_of, Names};
 ghost use Rattle.undoing.specs.LastRecord.{record_at_of, last_of};
 
-use moves::Name;
+use blorb::Pair;
 
 // What the edit did that a record takes back. The number of each is the record's first byte.
 #[derive(Clone, Copy, PartialEq, Eq, Debug)]
@@ -64,10 +64,10 @@ pub struct Record {
 
 impl Record {
     // The entry that it is about.
-    pub fn name(self) -> Name
+    pub fn pair(self) -> Pair
         ensures { (result.usage ≡ self.usage) × (result.number ≡ self.number) }
     {
-        Name {
+        Pair {
             usage: self.usage,
             number: self.number,
         }

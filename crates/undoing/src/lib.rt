@@ -29,10 +29,8 @@ ghost use Rattle.undoing.specs.UndoPlan.{
   linked_plan,
 };
 
-use blorb::{Fault, Refusal, Usage};
+use blorb::{Fault, Pair, Refusal, Usage};
 use journal::{Kind, Record};
-use judging::judge;
-use moves::Name;
 use reader::{Facts, Frontispiece, Piece};
 
 pub mod journal;
@@ -57,11 +55,11 @@ fn chunk_size(m: u32) -> usize
 }
 
 // It names the frontispiece's picture.
-fn is_front(front: Option<Frontispiece>, name: Name) -> bool
-    ensures { result ≡ front_matches front name.usage name.number }
+fn is_front(front: Option<Frontispiece>, pair: Pair) -> bool
+    ensures { result ≡ front_matches front pair.usage pair.number }
 {
     match front {
-        Some(front) => judge::is_picture(name, front.number),
+        Some(front) => pair.is_picture(front.number),
         None => false,
     }
 }
@@ -80,7 +78,7 @@ fn plan_added(facts: Facts, len: usize, r: Record) -> Option<Undoing>
     let p = facts.target?;
     let size = chunk_size(p.length);
     let last = fits_added(p, facts.count, len, r.place);
-    (last & !is_front(facts.front, r.name())).then_some(Undoing {
+    (last & !is_front(facts.front, r.pair())).then_some(Undoing {
         count: facts.count,
         at: p.start as usize,
         size,
@@ -101,7 +99,7 @@ fn old_fine(profile: u32, r: Record, d: &[u8], front: Option<Frontispiece>) -> b
 {
     let allowed = blorb::type_allowed(profile, r.usage as u64, r.sort as u64, d);
     (r.sort as u64 != blorb::RIDX)
-        & (allowed & !(is_front(front, r.name()) & (r.sort as u64 == blorb::RECT)))
+        & (allowed & !(is_front(front, r.pair()) & (r.sort as u64 == blorb::RECT)))
 }
 
 // Kind 2: the entry's chunk takes the record's type and data `d`.
@@ -129,12 +127,12 @@ fn known_usage(usage: u32) -> bool
 }
 
 // 12 and 14 to 16 of an entry that goes in, whose chunk rule 5 allows or not.
-fn entry_fine(name: Name, allowed: bool, target: Option<Piece>) -> bool
-    ensures { result ≡ entry_fine_of name.usage name.number allowed target }
+fn entry_fine(pair: Pair, allowed: bool, target: Option<Piece>) -> bool
+    ensures { result ≡ entry_fine_of pair.usage pair.number allowed target }
 {
     match target {
         Some(_) => false,
-        None => known_usage(name.usage) & (allowed & judge::number_fits(name)),
+        None => known_usage(pair.usage) & (allowed & pair.number_fits()),
     }
 }
 
@@ -190,7 +188,7 @@ fn plan_removed(s: &[u8], profile: u32, facts: Facts, r: Record, d: &[u8]) -> Op
     let ordered = in_order(s, count, r.place as usize, at, at);
     let allowed = blorb::type_allowed(profile, r.usage as u64, r.sort as u64, d);
     let fine = (r.sort as u64 != blorb::RIDX)
-        & ((count < 4096) & entry_fine(r.name(), allowed, facts.target));
+        & ((count < 4096) & entry_fine(r.pair(), allowed, facts.target));
     (fits_removed(facts, s.len(), r) & (ordered & ((to <= 16777216) & fine))).then_some(Undoing {
         count,
         at,
@@ -226,7 +224,7 @@ fn plan_unlisted(s: &[u8], profile: u32, facts: Facts, r: Record) -> Option<Undo
     let at = (r.start as usize).saturating_sub(12);
     let ordered = in_order(s, count, r.place as usize, at + 1, at);
     let allowed = chunk_allowed(s, profile, at, r.usage);
-    let fine = (to <= 16777216) & ((count < 4096) & entry_fine(r.name(), allowed, facts.target));
+    let fine = (to <= 16777216) & ((count < 4096) & entry_fine(r.pair(), allowed, facts.target));
     ((r.place as usize <= count) & (ordered & fine)).then_some(Undoing {
         count,
         at,
@@ -247,7 +245,7 @@ fn plan_linked(facts: Facts, len: usize, r: Record) -> Option<Undoing>
     ensures { result ≡ linked_plan facts len r }
 {
     let p = facts.target?;
-    let front = is_front(facts.front, r.name());
+    let front = is_front(facts.front, r.pair());
     (fits_linked(p, r) & !front).then_some(Undoing {
         count: facts.count,
         at: p.start as usize,

@@ -25,7 +25,7 @@ returns-in_err-count c =
     let a = c.args in
     let b = a.buf.now in
     let p = err_from_is_err_and c.from_residual.result c.from_residual.ensures.1 in
-    rw (p.1, p.2) (called_refused a.profile (state b a.len a.jrn.now a.used) (edit (add a.name.usage a.name.number a.kind a.d.now)) _ _
+    rw (p.1, p.2) (called_refused a.profile (state b a.len a.jrn.now a.used) (edit (add a.pair.usage a.pair.number a.kind a.d.now)) _ _
     (answer_no _ _ _ (sym c.add_plan.ensures ∙ c.in_err-count.was)))
 
 pub add_bytes-requires : goal.add_bytes-requires
@@ -33,7 +33,7 @@ add_bytes-requires c =
     let a = c.args in
     let b = a.buf.now in
     let bytes : All Byte (take a.len b) = all_take Byte a.len b (bytes-all b (λ i. omega (arith, c.slice_known-1.given i))) in
-    let r = ready a.profile b a.len (length a.jrn.now) a.used a.name.usage a.name.number a.kind a.d.now bytes c.in_ok-count.count (sym c.add_plan.ensures ∙ c.in_ok-count.was) in
+    let r = ready a.profile b a.len (length a.jrn.now) a.used a.pair.usage a.pair.number a.kind a.d.now bytes c.in_ok-count.count (sym c.add_plan.ensures ∙ c.in_ok-count.was) in
     let h = ap length c.held-body.ensures in
     (r.stands, (omega (arith, h, r.room), omega (arith, h, r.short)))
 
@@ -42,23 +42,23 @@ put_record-requires c =
     let a = c.args in
     let b = a.buf.now in
     let bytes : All Byte (take a.len b) = all_take Byte a.len b (bytes-all b (λ i. omega (arith, c.slice_known-1.given i))) in
-    let r = ready a.profile b a.len (length a.jrn.now) a.used a.name.usage a.name.number a.kind a.d.now bytes c.in_ok-count.count (sym c.add_plan.ensures ∙ c.in_ok-count.was) in
+    let r = ready a.profile b a.len (length a.jrn.now) a.used a.pair.usage a.pair.number a.kind a.d.now bytes c.in_ok-count.count (sym c.add_plan.ensures ∙ c.in_ok-count.was) in
     r.journal_room
 
-pub overflow_add-len : goal.overflow_add-len
-overflow_add-len c =
+pub overflow_add-result-3 : goal.overflow_add-result-3
+overflow_add-result-3 c =
     let a = c.args in
     let b = a.buf.now in
     let bytes : All Byte (take a.len b) = all_take Byte a.len b (bytes-all b (λ i. omega (arith, c.slice_known-1.given i))) in
-    let r = ready a.profile b a.len (length a.jrn.now) a.used a.name.usage a.name.number a.kind a.d.now bytes c.in_ok-count.count (sym c.add_plan.ensures ∙ c.in_ok-count.was) in
+    let r = ready a.profile b a.len (length a.jrn.now) a.used a.pair.usage a.pair.number a.kind a.d.now bytes c.in_ok-count.count (sym c.add_plan.ensures ∙ c.in_ok-count.was) in
     omega (arith, ap length c.held-body.ensures, r.short)
 
-pub overflow_add-used : goal.overflow_add-used
-overflow_add-used c =
+pub overflow_add-result-4 : goal.overflow_add-result-4
+overflow_add-result-4 c =
     let a = c.args in
     let b = a.buf.now in
     let bytes : All Byte (take a.len b) = all_take Byte a.len b (bytes-all b (λ i. omega (arith, c.slice_known-1.given i))) in
-    let r = ready a.profile b a.len (length a.jrn.now) a.used a.name.usage a.name.number a.kind a.d.now bytes c.in_ok-count.count (sym c.add_plan.ensures ∙ c.in_ok-count.was) in
+    let r = ready a.profile b a.len (length a.jrn.now) a.used a.pair.usage a.pair.number a.kind a.d.now bytes c.in_ok-count.count (sym c.add_plan.ensures ∙ c.in_ok-count.was) in
     omega (arith, r.journal_room)
 
 pub returns : goal.returns
@@ -67,13 +67,13 @@ returns c =
     let a = c.args in
     let b = a.buf.now in
     let bytes : All Byte (take a.len b) = all_take Byte a.len b (bytes-all b (λ i. omega (arith, c.slice_known-1.given i))) in
-    let r = ready a.profile b a.len (length a.jrn.now) a.used a.name.usage a.name.number a.kind a.d.now bytes c.in_ok-count.count (sym c.add_plan.ensures ∙ c.in_ok-count.was) in
+    let r = ready a.profile b a.len (length a.jrn.now) a.used a.pair.usage a.pair.number a.kind a.d.now bytes c.in_ok-count.count (sym c.add_plan.ensures ∙ c.in_ok-count.was) in
     let h = c.held-body.ensures in
-    called_done a.profile (state b a.len a.jrn.now a.used) (edit (add a.name.usage a.name.number a.kind a.d.now)) _ _ _ _ r.fine
+    called_done a.profile (state b a.len a.jrn.now a.used) (edit (add a.pair.usage a.pair.number a.kind a.d.now)) _ _ _ _ r.fine
     (ap (λ (z : List ℕ). a.len + (20 + (length z + length z % 2))) h ∙ r.new_length)
     (ap (λ (z : ℕ). a.used + z) r.new_record)
     (c.add_bytes.ensures
-    ∙ ap (λ (z : List ℕ). written b a.len (file (added (model (take a.len b)) a.name.usage a.name.number (chunk_of a.kind z)))) h)
+    ∙ ap (λ (z : List ℕ). written b a.len (file (added (model (take a.len b)) a.pair.usage a.pair.number (chunk_of a.kind z)))) h)
     (c.put_record.ensures
-    ∙ record_written (take a.len b) a.used a.name.usage a.name.number a.kind a.d.now a.jrn.now
+    ∙ record_written (take a.len b) a.used a.pair.usage a.pair.number a.kind a.d.now a.jrn.now
     c.in_ok-count.count r.stands.entries)

@@ -51,8 +51,8 @@ insert_entry-requires c =
     let r = ready a.profile b a.len (length a.jrn.now) a.used a.original.usage a.original.number a.alias.usage a.alias.number bytes w (sym c.link_plan.ensures ∙ c.in_ok-plan.was) in
     insertable a.profile b a.len (length a.jrn.now) a.used a.original.usage a.original.number a.alias.usage a.alias.number bytes w.count w.place w.at r
 
-pub overflow_add-len : goal.overflow_add-len
-overflow_add-len c =
+pub overflow_add-result : goal.overflow_add-result
+overflow_add-result c =
     let a = c.args in
     let b = a.buf.now in
     let bytes : All Byte (take a.len b) = all_take Byte a.len b (bytes-all b (λ i. omega (arith, c.slice_known-1.given i))) in
@@ -60,8 +60,8 @@ overflow_add-len c =
     let r = ready a.profile b a.len (length a.jrn.now) a.used a.original.usage a.original.number a.alias.usage a.alias.number bytes w (sym c.link_plan.ensures ∙ c.in_ok-plan.was) in
     omega (arith, r.short)
 
-pub overflow_add-used : goal.overflow_add-used
-overflow_add-used c =
+pub overflow_add-result-2 : goal.overflow_add-result-2
+overflow_add-result-2 c =
     let a = c.args in
     let b = a.buf.now in
     let bytes : All Byte (take a.len b) = all_take Byte a.len b (bytes-all b (λ i. omega (arith, c.slice_known-1.given i))) in

@@ -23,7 +23,7 @@ returns-in_err-plan c =
     let a = c.args in
     let b = a.buf.now in
     let p = err_from_is_err_and c.from_residual.result c.from_residual.ensures.1 in
-    rw (p.1, p.2) (called_refused a.profile (state b a.len a.jrn.now a.used) (edit (replace a.name.usage a.name.number a.kind a.d.now)) _ _
+    rw (p.1, p.2) (called_refused a.profile (state b a.len a.jrn.now a.used) (edit (replace a.pair.usage a.pair.number a.kind a.d.now)) _ _
     (answer_no _ _ _ (sym c.replace_plan.ensures ∙ c.in_err-plan.was)))
 
 pub gone_size-old-requires : goal.gone_size-old-requires
@@ -32,8 +32,8 @@ gone_size-old-requires c =
     let b = a.buf.now in
     let bytes : All Byte (take a.len b) = all_take Byte a.len b (bytes-all b (λ i. omega (arith, c.slice_known-1.given i))) in
     let o = c.in_ok-plan.plan in
-    let r = ready a.profile b a.len (length a.jrn.now) a.used a.name.usage a.name.number a.kind a.d.now bytes o (sym c.replace_plan.ensures ∙ c.in_ok-plan.was) in
-    body_short a.profile b a.len (length a.jrn.now) a.used a.name.usage a.name.number bytes o.piece r.found r.piece_is
+    let r = ready a.profile b a.len (length a.jrn.now) a.used a.pair.usage a.pair.number a.kind a.d.now bytes o (sym c.replace_plan.ensures ∙ c.in_ok-plan.was) in
+    body_short a.profile b a.len (length a.jrn.now) a.used a.pair.usage a.pair.number bytes o.piece r.found r.piece_is
 
 pub slice_bounds-put_record-end : goal.slice_bounds-put_record-end
 slice_bounds-put_record-end c =
@@ -41,8 +41,8 @@ slice_bounds-put_record-end c =
     let b = a.buf.now in
     let bytes : All Byte (take a.len b) = all_take Byte a.len b (bytes-all b (λ i. omega (arith, c.slice_known-1.given i))) in
     let o = c.in_ok-plan.plan in
-    let r = ready a.profile b a.len (length a.jrn.now) a.used a.name.usage a.name.number a.kind a.d.now bytes o (sym c.replace_plan.ensures ∙ c.in_ok-plan.was) in
-    part_in a.profile b a.jrn.now a.len a.used a.name.usage a.name.number a.kind a.d.now bytes o.count o.piece r
+    let r = ready a.profile b a.len (length a.jrn.now) a.used a.pair.usage a.pair.number a.kind a.d.now bytes o (sym c.replace_plan.ensures ∙ c.in_ok-plan.was) in
+    part_in a.profile b a.jrn.now a.len a.used a.pair.usage a.pair.number a.kind a.d.now bytes o.count o.piece r
 
 pub put_record-requires : goal.put_record-requires
 put_record-requires c =
@@ -50,8 +50,8 @@ put_record-requires c =
     let b = a.buf.now in
     let bytes : All Byte (take a.len b) = all_take Byte a.len b (bytes-all b (λ i. omega (arith, c.slice_known-1.given i))) in
     let o = c.in_ok-plan.plan in
-    let r = ready a.profile b a.len (length a.jrn.now) a.used a.name.usage a.name.number a.kind a.d.now bytes o (sym c.replace_plan.ensures ∙ c.in_ok-plan.was) in
-    record_room a.profile b a.jrn.now a.len a.used a.name.usage a.name.number a.kind a.d.now bytes o.count o.piece r
+    let r = ready a.profile b a.len (length a.jrn.now) a.used a.pair.usage a.pair.number a.kind a.d.now bytes o (sym c.replace_plan.ensures ∙ c.in_ok-plan.was) in
+    record_room a.profile b a.jrn.now a.len a.used a.pair.usage a.pair.number a.kind a.d.now bytes o.count o.piece r
 
 pub replace_bytes-requires : goal.replace_bytes-requires
 replace_bytes-requires c =
@@ -59,37 +59,40 @@ replace_bytes-requires c =
     let b = a.buf.now in
     let bytes : All Byte (take a.len b) = all_take Byte a.len b (bytes-all b (λ i. omega (arith, c.slice_known-1.given i))) in
     let o = c.in_ok-plan.plan in
-    let r = ready a.profile b a.len (length a.jrn.now) a.used a.name.usage a.name.number a.kind a.d.now bytes o (sym c.replace_plan.ensures ∙ c.in_ok-plan.was) in
-    replaceable a.profile b a.len (length a.jrn.now) a.used a.name.usage a.name.number a.kind a.d.now bytes o.count o.piece r c.held-body.result.now c.held-body.ensures
+    let r = ready a.profile b a.len (length a.jrn.now) a.used a.pair.usage a.pair.number a.kind a.d.now bytes o (sym c.replace_plan.ensures ∙ c.in_ok-plan.was) in
+    replaceable a.profile b a.len (length a.jrn.now) a.used a.pair.usage a.pair.number a.kind a.d.now bytes o.count o.piece r c.held-body.result.now c.held-body.ensures
     c.gone_size-old.result c.gone_size-old.ensures
 
-pub overflow_sub-len : goal.overflow_sub-len
-overflow_sub-len c =
+pub overflow_sub-result : goal.overflow_sub-result
+overflow_sub-result c =
     let a = c.args in
     let b = a.buf.now in
     let bytes : All Byte (take a.len b) = all_take Byte a.len b (bytes-all b (λ i. omega (arith, c.slice_known-1.given i))) in
     let o = c.in_ok-plan.plan in
-    let r = ready a.profile b a.len (length a.jrn.now) a.used a.name.usage a.name.number a.kind a.d.now bytes o (sym c.replace_plan.ensures ∙ c.in_ok-plan.was) in
-    inside a.profile b a.len (length a.jrn.now) a.used a.name.usage a.name.number a.kind a.d.now bytes o.piece r.found r.piece_is c.gone_size-old.result c.gone_size-old.ensures
+    let r = ready a.profile b a.len (length a.jrn.now) a.used a.pair.usage a.pair.number a.kind a.d.now bytes o (sym c.replace_plan.ensures ∙ c.in_ok-plan.was) in
+    inside a.profile b a.len (length a.jrn.now) a.used a.pair.usage a.pair.number a.kind a.d.now bytes o.piece r.found r.piece_is c.gone_size-old.result c.gone_size-old.ensures
 
-pub overflow_add-len : goal.overflow_add-len
-overflow_add-len c =
+pub overflow_add-result-3 : goal.overflow_add-result-3
+overflow_add-result-3 c =
     let a = c.args in
     let b = a.buf.now in
     let bytes : All Byte (take a.len b) = all_take Byte a.len b (bytes-all b (λ i. omega (arith, c.slice_known-1.given i))) in
     let o = c.in_ok-plan.plan in
-    let r = ready a.profile b a.len (length a.jrn.now) a.used a.name.usage a.name.number a.kind a.d.now bytes o (sym c.replace_plan.ensures ∙ c.in_ok-plan.was) in
-    omega (arith, length_now a.profile b a.len (length a.jrn.now) a.used a.name.usage a.name.number a.kind a.d.now bytes o.piece r.found r.piece_is c.gone_size-old.result c.gone_size-old.ensures c.held-body.result.now c.held-body.ensures,
-    r.short)
+    let r = ready a.profile b a.len (length a.jrn.now) a.used a.pair.usage a.pair.number a.kind a.d.now bytes o (sym c.replace_plan.ensures ∙ c.in_ok-plan.was) in
+    omega (
+      arith,
+      length_now a.profile b a.len (length a.jrn.now) a.used a.pair.usage a.pair.number a.kind a.d.now bytes o.piece r.found r.piece_is c.gone_size-old.result c.gone_size-old.ensures c.held-body.result.now c.held-body.ensures,
+      r.short,
+    )
 
-pub overflow_add-used : goal.overflow_add-used
-overflow_add-used c =
+pub overflow_add-result-5 : goal.overflow_add-result-5
+overflow_add-result-5 c =
     let a = c.args in
     let b = a.buf.now in
     let bytes : All Byte (take a.len b) = all_take Byte a.len b (bytes-all b (λ i. omega (arith, c.slice_known-1.given i))) in
     let o = c.in_ok-plan.plan in
-    let r = ready a.profile b a.len (length a.jrn.now) a.used a.name.usage a.name.number a.kind a.d.now bytes o (sym c.replace_plan.ensures ∙ c.in_ok-plan.was) in
-    omega (arith, used_room a.profile b a.jrn.now a.len a.used a.name.usage a.name.number a.kind a.d.now bytes o.count o.piece r, c.well_formed, c.ranges)
+    let r = ready a.profile b a.len (length a.jrn.now) a.used a.pair.usage a.pair.number a.kind a.d.now bytes o (sym c.replace_plan.ensures ∙ c.in_ok-plan.was) in
+    omega (arith, used_room a.profile b a.jrn.now a.len a.used a.pair.usage a.pair.number a.kind a.d.now bytes o.count o.piece r, c.well_formed, c.ranges)
 
 pub returns : goal.returns
 returns c =
@@ -97,6 +100,6 @@ returns c =
     let b = a.buf.now in
     let bytes : All Byte (take a.len b) = all_take Byte a.len b (bytes-all b (λ i. omega (arith, c.slice_known-1.given i))) in
     let o = c.in_ok-plan.plan in
-    let r = ready a.profile b a.len (length a.jrn.now) a.used a.name.usage a.name.number a.kind a.d.now bytes o (sym c.replace_plan.ensures ∙ c.in_ok-plan.was) in
-    made a.profile b a.jrn.now a.len a.used a.name.usage a.name.number a.kind a.d.now bytes o.count o.piece r c.held-body.result.now c.held-body.ensures
+    let r = ready a.profile b a.len (length a.jrn.now) a.used a.pair.usage a.pair.number a.kind a.d.now bytes o (sym c.replace_plan.ensures ∙ c.in_ok-plan.was) in
+    made a.profile b a.jrn.now a.len a.used a.pair.usage a.pair.number a.kind a.d.now bytes o.count o.piece r c.held-body.result.now c.held-body.ensures
     c.gone_size-old.result _ _ c.gone_size-old.ensures c.replace_bytes.ensures c.put_record.ensures

@@ -23,8 +23,8 @@ write_back-requires c =
     let planned = sym c.undo_plan.ensures ∙ c.in_ok-plan.was in
     (a.profile, planned)
 
-pub overflow_sub-used : goal.overflow_sub-used
-overflow_sub-used c =
+pub overflow_sub-result : goal.overflow_sub-result
+overflow_sub-result c =
     let a = c.args in
     let b = a.buf.now in
     let bb : All Byte b = bytes-all b (λ i. omega (arith, c.slice_known-1.given i)) in

@@ -2,6 +2,8 @@
 use native.Mathlib.Omega.{arith}
 use mathlib.Core.Path.{ap, ◌∙◌}
 use mathlib.Core.List.{List}
+use mathlib.Core.Logic.{⊎_elim}
+use Prim.Native.Nat.{ℕ}
 use Rattle.blorb.specs.Bytes.{Byte}
 use Rattle.blorb.proofs.Accept.{bytes-all}
 use Rattle.blorb.specs.All.{All}
@@ -51,7 +53,7 @@ remove_bytes-requires c =
     let b = a.buf.now in
     let bb : All Byte b = bytes-all b (λ i. omega (arith, c.slice_known-1.given i)) in
     let w = going _ b a.len a.jrn.now a.used a.plan bb c.requires.1 in
-    back-added _ b a.len a.jrn.now a.used a.plan.count a.plan.at a.plan.size a.plan.to a.plan.last bb w c.in-Added.is
+    ⊎_elim (back-added _ b a.len a.jrn.now a.used a.plan.count a.plan.at a.plan.size a.plan.to a.plan.last bb w) (back-linked _ b a.len a.jrn.now a.used a.plan.count a.plan.at a.plan.size a.plan.to a.plan.last bb w) c.in-Added.is
 
 pub returns-in-Added : goal.returns-in-Added
 returns-in-Added c =
@@ -59,23 +61,8 @@ returns-in-Added c =
     let b = a.buf.now in
     let bb : All Byte b = bytes-all b (λ i. omega (arith, c.slice_known-1.given i)) in
     let w = going _ b a.len a.jrn.now a.used a.plan bb c.requires.1 in
-    c.remove_bytes.ensures ∙ ap (λ (z : List ℕ). written b a.len z) (written-added _ b a.len a.jrn.now a.used a.plan.count a.plan.at a.plan.size a.plan.to a.plan.last bb w c.in-Added.is)
-
-pub remove_bytes-in-Linked-requires : goal.remove_bytes-in-Linked-requires
-remove_bytes-in-Linked-requires c =
-    let a = c.args in
-    let b = a.buf.now in
-    let bb : All Byte b = bytes-all b (λ i. omega (arith, c.slice_known-1.given i)) in
-    let w = going _ b a.len a.jrn.now a.used a.plan bb c.requires.1 in
-    back-linked _ b a.len a.jrn.now a.used a.plan.count a.plan.at a.plan.size a.plan.to a.plan.last bb w c.in-Linked.is
-
-pub returns-in-Linked : goal.returns-in-Linked
-returns-in-Linked c =
-    let a = c.args in
-    let b = a.buf.now in
-    let bb : All Byte b = bytes-all b (λ i. omega (arith, c.slice_known-1.given i)) in
-    let w = going _ b a.len a.jrn.now a.used a.plan bb c.requires.1 in
-    c.remove_bytes-in-Linked.ensures ∙ ap (λ (z : List ℕ). written b a.len z) (written-linked _ b a.len a.jrn.now a.used a.plan.count a.plan.at a.plan.size a.plan.to a.plan.last bb w c.in-Linked.is)
+    c.remove_bytes.ensures ∙ ap (λ (z : List ℕ). written b a.len z)
+    (⊎_elim (written-added _ b a.len a.jrn.now a.used a.plan.count a.plan.at a.plan.size a.plan.to a.plan.last bb w) (written-linked _ b a.len a.jrn.now a.used a.plan.count a.plan.at a.plan.size a.plan.to a.plan.last bb w) c.in-Added.is)
 
 pub replace_bytes-requires : goal.replace_bytes-requires
 replace_bytes-requires c =
@@ -109,7 +96,7 @@ returns-in-Removed c =
     let b = a.buf.now in
     let bb : All Byte b = bytes-all b (λ i. omega (arith, c.slice_known-1.given i)) in
     let w = going _ b a.len a.jrn.now a.used a.plan bb c.requires.1 in
-    c.insert_bytes.ensures ∙ ap (λ (z : List ℕ). written b a.len z) (written-removed _ b a.len a.jrn.now a.used a.plan.count a.plan.at a.plan.size a.plan.to a.plan.last bb w c.in-Removed.is)
+    (rw (c.pair.ensures.0, c.pair.ensures.1) at c.insert_bytes.ensures) ∙ ap (λ (z : List ℕ). written b a.len z) (written-removed _ b a.len a.jrn.now a.used a.plan.count a.plan.at a.plan.size a.plan.to a.plan.last bb w c.in-Removed.is)
 
 pub insert_entry-requires : goal.insert_entry-requires
 insert_entry-requires c =
@@ -126,4 +113,4 @@ returns-in-Unlisted c =
     let b = a.buf.now in
     let bb : All Byte b = bytes-all b (λ i. omega (arith, c.slice_known-1.given i)) in
     let w = going _ b a.len a.jrn.now a.used a.plan bb c.requires.1 in
-    c.insert_entry.ensures ∙ ap (λ (z : List ℕ). written b a.len z) (written_unlisted _ b a.len a.jrn.now a.used a.plan.count a.plan.at a.plan.size a.plan.to a.plan.last bb w c.in-Unlisted.is)
+    (rw (c.pair-in-Unlisted.ensures.0, c.pair-in-Unlisted.ensures.1) at c.insert_entry.ensures) ∙ ap (λ (z : List ℕ). written b a.len z) (written_unlisted _ b a.len a.jrn.now a.used a.plan.count a.plan.at a.plan.size a.plan.to a.plan.last bb w c.in-Unlisted.is)

@@ -7,4 +7,4 @@ use Rattle.blorb.specs.Queries.{find}
 use Rattle.linking.proofs.find_pair.Given as goal
 
 abbrev pub invariant-loop-i : goal.invariant-loop-i
-invariant-loop-i l = l.i + find l.name.usage l.name.number (drop l.i (model l.s).refs) ≡ find l.name.usage l.name.number (model l.s).refs
+invariant-loop-i l = l.i + find l.pair.usage l.pair.number (drop l.i (model l.s).refs) ≡ find l.pair.usage l.pair.number (model l.s).refs

@@ -27,55 +27,55 @@ pub returns-then-s-gt16777216 : goal.returns-then-s-gt16777216
 returns-then-s-gt16777216 c =
     let a = c.args in
     let bytes : All Byte a.s.now = bytes-all a.s.now (λ i. omega (arith, c.type_inv.s i)) in
-    out_101 a.profile a.s.now a.count a.piece a.place a.name.usage a.name.number bytes
+    out_101 a.profile a.s.now a.count a.piece a.place a.pair.usage a.pair.number bytes
     c.requires (omega arith) (omega arith) c.if-s-gt16777216.true
 
 pub returns-then-count-gt4096 : goal.returns-then-count-gt4096
 returns-then-count-gt4096 c =
     let a = c.args in
     let bytes : All Byte a.s.now = bytes-all a.s.now (λ i. omega (arith, c.type_inv.s i)) in
-    out_111 a.profile a.s.now a.count a.piece a.place a.name.usage a.name.number bytes
+    out_111 a.profile a.s.now a.count a.piece a.place a.pair.usage a.pair.number bytes
     c.requires (omega arith) (omega arith) c.if-s-gt16777216.false c.if-count-gt4096.true
 
 pub returns-then-is_none : goal.returns-then-is_none
 returns-then-is_none c =
     let a = c.args in
     let bytes : All Byte a.s.now = bytes-all a.s.now (λ i. omega (arith, c.type_inv.s i)) in
-    out_112 a.profile a.s.now a.count a.piece a.place a.name.usage a.name.number bytes
+    out_112 a.profile a.s.now a.count a.piece a.place a.pair.usage a.pair.number bytes
     c.requires (omega arith) (omega arith) c.if-s-gt16777216.false c.if-count-gt4096.false
-    (known a.name.usage _ true (sym c.of_code.ensures) (c.is_none.ensures ∙ ap not c.if-is_none.true))
+    (known a.pair.usage _ true (sym c.of_code.ensures) (c.is_none.ensures ∙ ap not c.if-is_none.true))
 
 pub chunk_allowed-requires : goal.chunk_allowed-requires
 chunk_allowed-requires c =
     let a = c.args in
     let bytes : All Byte a.s.now = bytes-all a.s.now (λ i. omega (arith, c.type_inv.s i)) in
-    chunk_lies a.profile a.s.now a.count a.piece a.place a.name.usage a.name.number bytes
+    chunk_lies a.profile a.s.now a.count a.piece a.place a.pair.usage a.pair.number bytes
     c.requires (omega arith) (omega arith)
 
 pub returns-then-not-chunk_allowed : goal.returns-then-not-chunk_allowed
 returns-then-not-chunk_allowed c =
     let a = c.args in
     let bytes : All Byte a.s.now = bytes-all a.s.now (λ i. omega (arith, c.type_inv.s i)) in
-    out_114 a.profile a.s.now a.count a.piece a.place a.name.usage a.name.number bytes
+    out_114 a.profile a.s.now a.count a.piece a.place a.pair.usage a.pair.number bytes
     c.requires (omega arith) (omega arith) c.if-s-gt16777216.false c.if-count-gt4096.false
-    (known a.name.usage _ false (sym c.of_code.ensures) (c.is_none.ensures ∙ ap not c.if-is_none.false)) (sym c.chunk_allowed.ensures ∙ c.if-not-chunk_allowed.true)
+    (known a.pair.usage _ false (sym c.of_code.ensures) (c.is_none.ensures ∙ ap not c.if-is_none.false)) (sym c.chunk_allowed.ensures ∙ c.if-not-chunk_allowed.true)
 
 pub returns-then-not-number_fits : goal.returns-then-not-number_fits
 returns-then-not-number_fits c =
     let a = c.args in
     let bytes : All Byte a.s.now = bytes-all a.s.now (λ i. omega (arith, c.type_inv.s i)) in
-    out_115 a.profile a.s.now a.count a.piece a.place a.name.usage a.name.number bytes
+    out_115 a.profile a.s.now a.count a.piece a.place a.pair.usage a.pair.number bytes
     c.requires (omega arith) (omega arith) c.if-s-gt16777216.false c.if-count-gt4096.false
-    (known a.name.usage _ false (sym c.of_code.ensures) (c.is_none.ensures ∙ ap not c.if-is_none.false)) (sym c.chunk_allowed.ensures ∙ c.if-not-chunk_allowed.false)
+    (known a.pair.usage _ false (sym c.of_code.ensures) (c.is_none.ensures ∙ ap not c.if-is_none.false)) (sym c.chunk_allowed.ensures ∙ c.if-not-chunk_allowed.false)
     (sym c.number_fits.ensures ∙ c.if-not-number_fits.true)
 
 pub returns-in_default : goal.returns-in_default
 returns-in_default c =
     let a = c.args in
     let bytes : All Byte a.s.now = bytes-all a.s.now (λ i. omega (arith, c.type_inv.s i)) in
-    out_done a.profile a.s.now a.count a.piece a.place a.name.usage a.name.number bytes
+    out_done a.profile a.s.now a.count a.piece a.place a.pair.usage a.pair.number bytes
     c.requires (omega arith) (omega arith) c.if-s-gt16777216.false c.if-count-gt4096.false
-    (known a.name.usage _ false (sym c.of_code.ensures) (c.is_none.ensures ∙ ap not c.if-is_none.false)) (sym c.chunk_allowed.ensures ∙ c.if-not-chunk_allowed.false)
+    (known a.pair.usage _ false (sym c.of_code.ensures) (c.is_none.ensures ∙ ap not c.if-is_none.false)) (sym c.chunk_allowed.ensures ∙ c.if-not-chunk_allowed.false)
     (sym c.number_fits.ensures ∙ c.if-not-number_fits.false) _ refl
     (omega (arith, pair_missing _ _ (sym c.find_pair.ensures ∙ c.in_default.is), c.requires.1.0.indexed.counted.entries))
 
@@ -83,9 +83,9 @@ pub returns-then-other-place : goal.returns-then-other-place
 returns-then-other-place c =
     let a = c.args in
     let bytes : All Byte a.s.now = bytes-all a.s.now (λ i. omega (arith, c.type_inv.s i)) in
-    out_116 a.profile a.s.now a.count a.piece a.place a.name.usage a.name.number bytes
+    out_116 a.profile a.s.now a.count a.piece a.place a.pair.usage a.pair.number bytes
     c.requires (omega arith) (omega arith) c.if-s-gt16777216.false c.if-count-gt4096.false
-    (known a.name.usage _ false (sym c.of_code.ensures) (c.is_none.ensures ∙ ap not c.if-is_none.false)) (sym c.chunk_allowed.ensures ∙ c.if-not-chunk_allowed.false)
+    (known a.pair.usage _ false (sym c.of_code.ensures) (c.is_none.ensures ∙ ap not c.if-is_none.false)) (sym c.chunk_allowed.ensures ∙ c.if-not-chunk_allowed.false)
     (sym c.number_fits.ensures ∙ c.if-not-number_fits.false) _ (pair_there _ _ _ (sym c.find_pair.ensures ∙ c.in-Some.is)).0
     c.if-other-place.true
 
@@ -93,8 +93,8 @@ pub returns : goal.returns
 returns c =
     let a = c.args in
     let bytes : All Byte a.s.now = bytes-all a.s.now (λ i. omega (arith, c.type_inv.s i)) in
-    out_116_old a.profile a.s.now a.count a.piece a.place a.name.usage a.name.number bytes
+    out_116_old a.profile a.s.now a.count a.piece a.place a.pair.usage a.pair.number bytes
     c.requires (omega arith) (omega arith) c.if-s-gt16777216.false c.if-count-gt4096.false
-    (known a.name.usage _ false (sym c.of_code.ensures) (c.is_none.ensures ∙ ap not c.if-is_none.false)) (sym c.chunk_allowed.ensures ∙ c.if-not-chunk_allowed.false)
+    (known a.pair.usage _ false (sym c.of_code.ensures) (c.is_none.ensures ∙ ap not c.if-is_none.false)) (sym c.chunk_allowed.ensures ∙ c.if-not-chunk_allowed.false)
     (sym c.number_fits.ensures ∙ c.if-not-number_fits.false) _ (pair_there _ _ _ (sym c.find_pair.ensures ∙ c.in-Some.is)).0
     c.if-other-place.false (omega (arith, (pair_there _ _ _ (sym c.find_pair.ensures ∙ c.in-Some.is)).1, c.requires.1.0.indexed.counted.entries))

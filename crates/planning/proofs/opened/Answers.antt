@@ -16,7 +16,7 @@ returns-then-lent-gt1 c =
     let a = c.args in
     let f = take a.lent.len a.buf.now in
     opened_unknown a.lent.profile a.lent.len (length a.buf.now) a.lent.used a.lent.room
-    (verdict (rules_of a.lent.profile) f) (model f) a.name.usage a.name.number
+    (verdict (rules_of a.lent.profile) f) (model f) a.pair.usage a.pair.number
     0 c.if-lent-gt1.true
 
 pub returns-then-buf-lent : goal.returns-then-buf-lent
@@ -24,7 +24,7 @@ returns-then-buf-lent c =
     let a = c.args in
     let f = take a.lent.len a.buf.now in
     opened-first a.lent.profile a.lent.len (length a.buf.now) a.lent.used a.lent.room
-    (verdict (rules_of a.lent.profile) f) (model f) a.name.usage a.name.number 0
+    (verdict (rules_of a.lent.profile) f) (model f) a.pair.usage a.pair.number 0
     c.if-lent-gt1.false c.if-buf-lent.true
 
 pub returns-then-lent : goal.returns-then-lent
@@ -32,7 +32,7 @@ returns-then-lent c =
     let a = c.args in
     let f = take a.lent.len a.buf.now in
     opened-second a.lent.profile a.lent.len (length a.buf.now) a.lent.used a.lent.room
-    (verdict (rules_of a.lent.profile) f) (model f) a.name.usage a.name.number 0
+    (verdict (rules_of a.lent.profile) f) (model f) a.pair.usage a.pair.number 0
     c.if-lent-gt1.false c.if-lent.true
 
 pub slice_bounds-inspect-end : goal.slice_bounds-inspect-end
@@ -43,8 +43,8 @@ returns c =
     let a = c.args in
     let f = take a.lent.len a.buf.now in
     c.inspect.ensures
-    ∙ ap (λ (v : Verdict). inspection_of v (model f) a.name.usage a.name.number 0)
+    ∙ ap (λ (v : Verdict). inspection_of v (model f) a.pair.usage a.pair.number 0)
     (profile_known a.lent.profile f (le-leb _ _ c.if-lent-gt1.false))
     ∙ opened-third a.lent.profile a.lent.len (length a.buf.now) a.lent.used a.lent.room
-    (verdict (rules_of a.lent.profile) f) (model f) a.name.usage a.name.number 0
+    (verdict (rules_of a.lent.profile) f) (model f) a.pair.usage a.pair.number 0
     c.if-lent-gt1.false c.if-buf-lent.false c.if-lent.false

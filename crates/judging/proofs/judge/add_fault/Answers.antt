@@ -13,7 +13,7 @@ returns-then-len-m-gt16777216 c =
     let a = c.args in
     let f = a.s.now in
     let bytes : All Byte f = bytes-all f (λ i. omega (arith, c.type_inv.s i)) in
-    out_101 a.profile f a.count a.target a.name.usage a.name.number a.kind a.d.now bytes
+    out_101 a.profile f a.count a.target a.pair.usage a.pair.number a.kind a.d.now bytes
     c.requires (omega arith) (omega arith) (omega arith) c.if-len-m-gt16777216.true
 
 pub returns-then-kind-eq-RIDX : goal.returns-then-kind-eq-RIDX
@@ -21,7 +21,7 @@ returns-then-kind-eq-RIDX c =
     let a = c.args in
     let f = a.s.now in
     let bytes : All Byte f = bytes-all f (λ i. omega (arith, c.type_inv.s i)) in
-    out_109 a.profile f a.count a.target a.name.usage a.name.number a.kind a.d.now bytes
+    out_109 a.profile f a.count a.target a.pair.usage a.pair.number a.kind a.d.now bytes
     c.requires (omega arith) (omega arith) (omega arith) c.if-len-m-gt16777216.false c.if-kind-eq-RIDX.true
 
 pub returns-then-count-gt4096 : goal.returns-then-count-gt4096
@@ -29,7 +29,7 @@ returns-then-count-gt4096 c =
     let a = c.args in
     let f = a.s.now in
     let bytes : All Byte f = bytes-all f (λ i. omega (arith, c.type_inv.s i)) in
-    out_111 a.profile f a.count a.target a.name.usage a.name.number a.kind a.d.now bytes
+    out_111 a.profile f a.count a.target a.pair.usage a.pair.number a.kind a.d.now bytes
     c.requires (omega arith) (omega arith) (omega arith) c.if-len-m-gt16777216.false
     c.if-kind-eq-RIDX.false c.if-count-gt4096.true
 
@@ -38,7 +38,7 @@ returns-in_default c =
     let a = c.args in
     let f = a.s.now in
     let bytes : All Byte f = bytes-all f (λ i. omega (arith, c.type_inv.s i)) in
-    out_112 a.profile f a.count a.target a.name.usage a.name.number a.kind a.d.now bytes
+    out_112 a.profile f a.count a.target a.pair.usage a.pair.number a.kind a.d.now bytes
     c.requires (omega arith) (omega arith) (omega arith)
     c.if-len-m-gt16777216.false c.if-kind-eq-RIDX.false
     c.if-count-gt4096.false (known_not _ (sym c.of_code.ensures ∙ c.in_default.is))
@@ -48,7 +48,7 @@ returns-then-not-allows c =
     let a = c.args in
     let f = a.s.now in
     let bytes : All Byte f = bytes-all f (λ i. omega (arith, c.type_inv.s i)) in
-    out_114 a.profile f a.count a.target a.name.usage a.name.number a.kind a.d.now bytes
+    out_114 a.profile f a.count a.target a.pair.usage a.pair.number a.kind a.d.now bytes
     c.requires (omega arith) (omega arith) (omega arith)
     c.if-len-m-gt16777216.false c.if-kind-eq-RIDX.false c.if-count-gt4096.false
     (known_is _ _ (sym c.of_code.ensures ∙ c.in-Some.is)).0 (sym (c.allows.ensures ∙ allows_known _ _ _ _ (sym c.of_code.ensures ∙ c.in-Some.is)) ∙ c.if-not-allows.true)
@@ -58,7 +58,7 @@ returns-then-not-number_fits c =
     let a = c.args in
     let f = a.s.now in
     let bytes : All Byte f = bytes-all f (λ i. omega (arith, c.type_inv.s i)) in
-    out_115 a.profile f a.count a.target a.name.usage a.name.number a.kind a.d.now bytes
+    out_115 a.profile f a.count a.target a.pair.usage a.pair.number a.kind a.d.now bytes
     c.requires (omega arith) (omega arith) (omega arith)
     c.if-len-m-gt16777216.false c.if-kind-eq-RIDX.false c.if-count-gt4096.false
     (known_is _ _ (sym c.of_code.ensures ∙ c.in-Some.is)).0
@@ -70,7 +70,7 @@ returns-in-Some-target c =
     let a = c.args in
     let f = a.s.now in
     let bytes : All Byte f = bytes-all f (λ i. omega (arith, c.type_inv.s i)) in
-    out_116 a.profile f a.count a.target a.name.usage a.name.number a.kind a.d.now bytes
+    out_116 a.profile f a.count a.target a.pair.usage a.pair.number a.kind a.d.now bytes
     c.requires (omega arith) (omega arith) (omega arith)
     c.if-len-m-gt16777216.false c.if-kind-eq-RIDX.false c.if-count-gt4096.false
     (known_is _ _ (sym c.of_code.ensures ∙ c.in-Some.is)).0
@@ -82,7 +82,7 @@ returns-in-None c =
     let a = c.args in
     let f = a.s.now in
     let bytes : All Byte f = bytes-all f (λ i. omega (arith, c.type_inv.s i)) in
-    out_done a.profile f a.count a.target a.name.usage a.name.number a.kind a.d.now bytes
+    out_done a.profile f a.count a.target a.pair.usage a.pair.number a.kind a.d.now bytes
     c.requires (omega arith) (omega arith) (omega arith)
     c.if-len-m-gt16777216.false c.if-kind-eq-RIDX.false c.if-count-gt4096.false
     (known_is _ _ (sym c.of_code.ensures ∙ c.in-Some.is)).0

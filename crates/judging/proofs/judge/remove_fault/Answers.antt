@@ -14,7 +14,7 @@ returns-in_default c =
     let a = c.args in
     let f = a.s.now in
     let bytes : All Byte f = bytes-all f (λ i. omega (arith, c.type_inv.s i)) in
-    no_front a.profile f a.front a.name.usage a.name.number a.start a.size bytes c.requires (omega arith) (omega arith)
+    no_front a.profile f a.front a.pair.usage a.pair.number a.start a.size bytes c.requires (omega arith) (omega arith)
     c.in_default.is
 
 pub returns-then-is_picture : goal.returns-then-is_picture
@@ -23,7 +23,7 @@ returns-then-is_picture c =
     let f = a.s.now in
     let bytes : All Byte f = bytes-all f (λ i. omega (arith, c.type_inv.s i)) in
     ap (λ (z : ℕ). refuse 119 (z + 8)) c.fallen_start.ensures ∙ lost_front_lem a.profile f a.front
-    a.name.usage a.name.number a.start a.size bytes c.requires (omega arith)
+    a.pair.usage a.pair.number a.start a.size bytes c.requires (omega arith)
     (omega arith) c.in-Some.front c.in-Some.is (sym c.is_picture.ensures ∙ c.if-is_picture.true)
 
 pub returns : goal.returns
@@ -31,5 +31,5 @@ returns c =
     let a = c.args in
     let f = a.s.now in
     let bytes : All Byte f = bytes-all f (λ i. omega (arith, c.type_inv.s i)) in
-    kept-front a.profile f a.front a.name.usage a.name.number a.start a.size bytes c.requires
+    kept-front a.profile f a.front a.pair.usage a.pair.number a.start a.size bytes c.requires
     (omega arith) (omega arith) c.in-Some.front c.in-Some.is (sym c.is_picture.ensures ∙ c.if-is_picture.false)

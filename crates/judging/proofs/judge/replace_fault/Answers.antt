@@ -17,7 +17,7 @@ returns-then-len-old-gt16777216 c =
     let a = c.args in
     let f = a.s.now in
     let bytes : All Byte f = bytes-all f (λ i. omega (arith, c.type_inv.s i)) in
-    out_101 a.profile f a.front a.piece a.name.usage a.name.number a.kind a.d.now bytes
+    out_101 a.profile f a.front a.piece a.pair.usage a.pair.number a.kind a.d.now bytes
     c.requires (omega arith) (omega arith) (omega arith) c.if-len-old-gt16777216.true
 
 pub returns-then-kind-eq-RIDX : goal.returns-then-kind-eq-RIDX
@@ -25,7 +25,7 @@ returns-then-kind-eq-RIDX c =
     let a = c.args in
     let f = a.s.now in
     let bytes : All Byte f = bytes-all f (λ i. omega (arith, c.type_inv.s i)) in
-    out_109 a.profile f a.front a.piece a.name.usage a.name.number a.kind a.d.now bytes
+    out_109 a.profile f a.front a.piece a.pair.usage a.pair.number a.kind a.d.now bytes
     c.requires (omega arith) (omega arith) (omega arith)
     c.if-len-old-gt16777216.false c.if-kind-eq-RIDX.true
 
@@ -35,7 +35,7 @@ returns-then-not-type_allowed c =
     let f = a.s.now in
     let bytes : All Byte f = bytes-all f
     (λ i. omega (arith, c.type_inv.s i)) in
-    out_114 a.profile f a.front a.piece a.name.usage a.name.number a.kind a.d.now bytes
+    out_114 a.profile f a.front a.piece a.pair.usage a.pair.number a.kind a.d.now bytes
     c.requires (omega arith) (omega arith) (omega arith)
     c.if-len-old-gt16777216.false c.if-kind-eq-RIDX.false
     (sym c.type_allowed.ensures ∙ c.if-not-type_allowed.true)
@@ -45,7 +45,7 @@ returns-in_default c =
     let a = c.args in
     let f = a.s.now in
     let bytes : All Byte f = bytes-all f (λ i. omega (arith, c.type_inv.s i)) in
-    out_nothing a.profile f a.front a.piece a.name.usage a.name.number a.kind a.d.now bytes
+    out_nothing a.profile f a.front a.piece a.pair.usage a.pair.number a.kind a.d.now bytes
     c.requires (omega arith) (omega arith) (omega arith)
     c.if-len-old-gt16777216.false c.if-kind-eq-RIDX.false
     (sym c.type_allowed.ensures ∙ c.if-not-type_allowed.false) c.in_default.is
@@ -55,7 +55,7 @@ returns-then-is_picture-kind c =
     let a = c.args in
     let f = a.s.now in
     let bytes : All Byte f = bytes-all f (λ i. omega (arith, c.type_inv.s i)) in
-    ap (λ (z : ℕ). refuse 119 (z + 8)) c.behind_start.ensures.0 ∙ out_119 a.profile f a.front a.piece a.name.usage a.name.number a.kind a.d.now bytes
+    ap (λ (z : ℕ). refuse 119 (z + 8)) c.behind_start.ensures.0 ∙ out_119 a.profile f a.front a.piece a.pair.usage a.pair.number a.kind a.d.now bytes
     c.requires (omega arith) (omega arith) (omega arith)
     c.if-len-old-gt16777216.false c.if-kind-eq-RIDX.false
     (sym c.type_allowed.ensures ∙ c.if-not-type_allowed.false)
@@ -66,7 +66,7 @@ returns c =
     let a = c.args in
     let f = a.s.now in
     let bytes : All Byte f = bytes-all f (λ i. omega (arith, c.type_inv.s i)) in
-    out_kept a.profile f a.front a.piece a.name.usage a.name.number a.kind a.d.now bytes
+    out_kept a.profile f a.front a.piece a.pair.usage a.pair.number a.kind a.d.now bytes
     c.requires (omega arith) (omega arith) (omega arith)
     c.if-len-old-gt16777216.false c.if-kind-eq-RIDX.false
     (sym c.type_allowed.ensures ∙ c.if-not-type_allowed.false)
