@@ -151,7 +151,12 @@ holds_given profile f u n t d o bytes w e =
     let back : shown c ≡ d = given-shown t d bytes w in
     let l : 8 + length c.body - left_out_of t ≡ length d = sym (shown-length c) ∙ ap length back in
     let x : ℕ = start (model f) (ref_at (model f) (find u n (model f).refs)).chunk + left_out_of t in
-    record { start = x; found = p ∙ ap (λ (z : ℕ). Ok (record { kind = t; start = x; length = z })) l; content = content_found profile f u n _ p ∙ ap (holds t) (part_here profile f u n o c e ∙ back) }
+    record {
+      start = x;
+      found = p ∙ ap (λ (z : ℕ). Ok (record { kind = t; start = x; length = z })) l;
+      content = content_found profile f u n _ p ∙ ap
+          (holds t) (part_here profile f u n o c e ∙ back);
+    }
 
 -- a successful edit of the file f: both files are accepted, and the new one's model is the edited model
 pub record Told (profile : ℕ) (f : List ℕ) (e : Edit) : Type 0 where

@@ -126,19 +126,23 @@ module _ (s : State) (small : Small s) where
 
 -- what is unfolded to compute
 format : ℕ
-unfolding be32 rd32 sized size chunk_bytes chunks_bytes total file_bytes chunk_in chunks_in chunks_of entry_from entries_in entry_bytes entries_bytes index_chunk
+unfolding be32 rd32 sized size chunk_bytes chunks_bytes total file_bytes chunk_in chunks_in chunks_of entry_from entries_in entry_bytes entries_bytes
+    index_chunk
 format = 0
 
 verdicts : ℕ
-unfolding entries_of is_start place_of ref_of ◌then◌ check head_fault chunk_fault walk_fault second_index index_fault pair_in last_place ref_fault entries_fault rest_fault
+unfolding entries_of is_start place_of ref_of ◌then◌ check head_fault chunk_fault walk_fault second_index index_fault pair_in last_place ref_fault
+    entries_fault rest_fault
 verdicts = 0
 
 rules : ℕ
-unfolding layout_fault verdict one_of plain_allows_of adrift_allows_of allows picture type_in single chunk_rule chunk_rules optional base start_of entry_of file model_of_chunks model
+unfolding layout_fault verdict one_of plain_allows_of adrift_allows_of allows picture type_in single chunk_rule chunk_rules optional base start_of entry_of
+    file model_of_chunks model
 rules = 0
 
 edits : ℕ
-unfolding without find uses shared start front_place with_at lower raise added held edited blank_file rec_body rec_bytes rec_of trailer rec_in last_body last_rec
+unfolding without find uses shared start front_place with_at lower raise added held edited blank_file rec_body rec_bytes rec_of trailer rec_in last_body
+    last_rec
 edits = 0
 
 calls : ℕ

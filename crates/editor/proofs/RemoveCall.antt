@@ -107,7 +107,8 @@ module _ (profile : ℕ) (b j : List ℕ) (l U u n : ℕ) (bytes : All Byte (tak
   pub made : (a kd t : ℕ) (b' j' : List ℕ) → a ≡ cond p.shared 0 (8 + (p.length + p.length % 2)) → kd ≡ cond p.shared 4 3
       → t ≡ cond p.shared 0 p.kind
       → b' ≡ written b l (file (removed (model (take l b)) p.place))
-      → j' ≡ noted j U (rec_bytes (record_of kd (record { pair = record { usage = u; number = n }; start = p.start }) p.place t (take (p.start + 8 + x - (p.start + 8))
+      → j' ≡ noted j U (rec_bytes (record_of kd (record { pair = record { usage = u; number = n }; start = p.start }) p.place t
+      (take (p.start + 8 + x - (p.start + 8))
       (drop (p.start + 8) b))))
       → Called profile (state b l j U) (edit (remove u n)) (done_with (l - (12 + a)) (U + (29 + x))) b' j'
   unfolding fault after after_edit edited_file edited edit_record

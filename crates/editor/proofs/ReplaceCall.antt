@@ -67,7 +67,8 @@ module _ (profile : ℕ) (b : List ℕ) (l J U u n t : ℕ) (d : List ℕ) (byte
         ≡ rec_of m (replace u n t d)
     unfolding record_of rec_of
     record_is =
-        ap (λ (z : Piece). record_of 2 (record { pair = record { usage = u; number = n }; start = z.start }) z.place z.kind (take z.length (drop (z.start + 8) b)))
+        ap (λ (z : Piece). record_of 2 (record { pair = record { usage = u; number = n }; start = z.start }) z.place z.kind
+        (take z.length (drop (z.start + 8) b)))
         r.piece_is
         ∙ (λ z. record {
           kind = 2;

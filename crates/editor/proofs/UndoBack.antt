@@ -79,7 +79,8 @@ unfolding start start_of base
 start-behind m k = omega arith
 
 -- where the plan goes on
-module _ (profile : ℕ) (b : List ℕ) (l : ℕ) (j : List ℕ) (u k a s t : ℕ) (r : Record) (bytes : All Byte b) (e : undo_plan_of profile b l j u ≡ Ok (record { count = k; at = a; size = s; to = t; last = r })) where
+module _ (profile : ℕ) (b : List ℕ) (l : ℕ) (j : List ℕ) (u k a s t : ℕ) (r : Record) (bytes : All Byte b)
+    (e : undo_plan_of profile b l j u ≡ Ok (record { count = k; at = a; size = s; to = t; last = r })) where
   abbrev f : List ℕ
   f = take l b
 

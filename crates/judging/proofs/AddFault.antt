@@ -102,7 +102,8 @@ module _ (profile : ℕ) (m : Model) (u n t : ℕ) (d : List ℕ) (s : Sound m) 
       let k1 : suc K ≡ K + 1 = omega arith in
       let l1 : length (file (added m u n c)) ≡ length (file m) + (20 + (length d + length d % 2)) = length-added m u n c ∙ omega (arith, size_of t d) in
       let sd : Sound (added m u n c) = added-sound m u n c s hu hn (record { type_fits = ht }) in
-      ap hundred (verdict-file (rules_of profile) (added m u n c) sd (added_in_order m u n c s ord) ∙ (λ i. check (leb (l1 i) 16777216) 1 0 then model-judged i))
+      ap hundred (verdict-file (rules_of profile) (added m u n c) sd (added_in_order m u n c s ord) ∙
+      (λ i. check (leb (l1 i) 16777216) 1 0 then model-judged i))
       ∙ hundreds (leb (length (file m) + (20 + (length d + length d % 2))) 16777216) (not (eqb t RIdx)) (leb (suc K) 4096) (known_usage_of u)
       (allows profile u c) (not (eqb u Exec) || eqb n 0) (not (ltb (find u n m.refs) K)) (length (file m) + 12) (24 + 12 * K)
       ∙ ap (λ (z : ℕ). check (leb (length (file m) + (20 + (length d + length d % 2))) 16777216) 101 0 then

@@ -255,6 +255,7 @@ module _ (profile : ℕ) (f : List ℕ) (r : Option Frontispiece) (u n s a : ℕ
     unfolding check
     lost_front_lem t = sym (shape ∙ rw t)
 
-    pub kept-front : (eqb u Pict && eqb n fr.number) ≡ false → accept ≡ hundred (verdict (rules_of profile) (file (removed (model f) (find u n (model f).refs))))
+    pub kept-front : (eqb u Pict && eqb n fr.number) ≡ false → accept ≡ hundred (verdict (rules_of profile) (file (removed (model f) (find u n
+        (model f).refs))))
     unfolding check
     kept-front t = sym (shape ∙ rw t)

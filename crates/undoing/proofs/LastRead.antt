@@ -57,7 +57,8 @@ module _ (l : List ℕ) (u t : ℕ) (inside : u ≤ length l) (is : t ≡ rd32 (
   pub unknown_kind : (1 ≤ get_or l (u - 4 - t) 0 → 5 < get_or l (u - 4 - t) 0) → None ≡ last_of (take u l)
   unknown_kind h =
       is_bad (take u l) (formed_part l u inside t is low high
-      ∙ ap (λ (z : Bool). eqb (25 + rd32 (drop (u - 4 - t + 21) l)) t && z) (no_kind _ (rd32 (drop (u - 4 - t + 13) l)) (rd32 (drop (u - 4 - t + 17) l)) (t - 25) h) ∙ and-false _)
+      ∙ ap (λ (z : Bool). eqb (25 + rd32 (drop (u - 4 - t + 21) l)) t && z) (no_kind _ (rd32 (drop (u - 4 - t + 13) l)) (rd32 (drop (u - 4 - t + 17) l))
+      (t - 25) h) ∙ and-false _)
 
   -- r being what stands at the offsets, k its kind
   module _ (k : Kind) (first : number_of k ≡ get_or l (u - 4 - t) 0) (r : Record) (e : r ≡ record_at_of l (u - 4 - t) k) where

@@ -88,7 +88,8 @@ module _ (profile : ℕ) (b : List ℕ) (l : ℕ) (j : List ℕ) (u : ℕ) (r : 
   asked-added x h e =
       e ∙ (λ i. added_plan (facts_are i) (file_is i) (numbers i)) ∙ fits-added profile (take l b) (take u j) file_facts a.bytes (kind_is j u r ends Added h)
 
-  pub asked-replaced : (x : Option Undoing) → r.kind ≡ Replaced → x ≡ replaced_plan profile t l r (take (u - 4 - (u - 4 - r.length)) (drop (u - 4 - r.length) j))
+  pub asked-replaced : (x : Option Undoing) → r.kind ≡ Replaced → x ≡ replaced_plan profile t l r
+      (take (u - 4 - (u - 4 - r.length)) (drop (u - 4 - r.length) j))
       → x ≡ fitting_plan profile (take l b) (take u j)
   asked-replaced x h e =
       e ∙ (λ i. replaced_plan profile (facts_are i) (file_is i) (numbers i) (body_is j u r ends i)) ∙ fits_replaced profile (take l b) (take u j) file_facts
@@ -167,7 +168,8 @@ module _ (profile : ℕ) (b : List ℕ) (l : ℕ) (j : List ℕ) (u : ℕ) where
   unfolding ◌then◌ check
   behind_21 n h = rw (ne_eqb u 0 n, h)
 
-  behind-fit : (u ≡ 0 → ⊥) → well_formed (take u j) ≡ true → behind ≡ check fit 21 0 then check (leb (length (undone_file (take l b) (take u j))) (length b)) 24 0
+  behind-fit : (u ≡ 0 → ⊥) → well_formed (take u j) ≡ true → behind ≡ check fit 21 0 then check
+      (leb (length (undone_file (take l b) (take u j))) (length b)) 24 0
   behind-fit n h =
       pass (not (eqb u 0)) 26 0 _ (rw (ne_eqb u 0 n))
       ∙ ap (λ (w : Bool). check (w && fits (last_rec (take u j)) (model (take l b)) && accepted
@@ -200,11 +202,13 @@ module _ (profile : ℕ) (b : List ℕ) (l : ℕ) (j : List ℕ) (u : ℕ) where
     unfolding undo_plan_of
     planned v w e q = ap (λ (o : Verdict). undoing_of o (take l b) (take u j)) (sym (opened ∙ ap (λ (o : Verdict). o then behind) e ∙ q))
 
-    pub unread : (n p : ℕ) → inspection_of (profile_verdict profile (take l b)) (model (take l b)) x y z ≡ Refused n p → Refused n p ≡ undo_plan_of profile b l j u
+    pub unread : (n p : ℕ) → inspection_of (profile_verdict profile (take l b)) (model (take l b)) x y z ≡ Refused n p → Refused n p ≡ undo_plan_of profile
+        b l j u
     unfolding ◌then◌
     unread n p e = go (profile_verdict profile f) refl e
       where
-        go : (v : Verdict) → profile_verdict profile (take l b) ≡ v → inspection_of v (model (take l b)) x y z ≡ Refused n p → Refused n p ≡ undo_plan_of profile b l j u
+        go : (v : Verdict) → profile_verdict profile (take l b) ≡ v → inspection_of v (model (take l b)) x y z ≡ Refused n p → Refused n p ≡ undo_plan_of
+            profile b l j u
         go accept q e = let i : ◌≡◌ {A = ℕ} 0 1 = cc in absurd (omega arith)
         go (refuse k o) q e =
             ap (λ (z : Result Facts Refusal). undoing_of (verdict_of z) (take l b) (take u j)) (sym e) ∙ planned (refuse k o) (refuse k o) q refl

@@ -197,7 +197,8 @@ module _ (profile : ℕ) (f j : List ℕ) (st : AcceptedFile profile f) (bytes :
       (λ ok. rest (sym (kind_2 r m h).0 ∙ the_fit ok))
     where
       rest : fits2 (last_rec j) (model f) ≡ true
-          → going (piece_of (model f) at).start (size_of (piece_of (model f) at).length) (length f - size_of (piece_of (model f) at).length + size_of (length (last_rec j).body)) ≡ go_of f j
+          → going (piece_of (model f) at).start (size_of (piece_of (model f) at).length) (length f - size_of (piece_of (model f) at).length + size_of
+          (length (last_rec j).body)) ≡ go_of f j
       rest fit =
           let q = fits2-facts r m fit in
           let i : at ≡ r.place = found_at profile r m st.judged q.inside q.usage_is q.number_is in

@@ -33,7 +33,8 @@ add_bytes-requires c =
     let a = c.args in
     let b = a.buf.now in
     let bytes : All Byte (take a.len b) = all_take Byte a.len b (bytes-all b (λ i. omega (arith, c.slice_known-1.given i))) in
-    let r = ready a.profile b a.len (length a.jrn.now) a.used a.pair.usage a.pair.number a.kind a.d.now bytes c.in_ok-count.count (sym c.add_plan.ensures ∙ c.in_ok-count.was) in
+    let r = ready a.profile b a.len (length a.jrn.now) a.used a.pair.usage a.pair.number a.kind a.d.now bytes c.in_ok-count.count
+    (sym c.add_plan.ensures ∙ c.in_ok-count.was) in
     let h = ap length c.held-body.ensures in
     (r.stands, (omega (arith, h, r.room), omega (arith, h, r.short)))
 
@@ -42,7 +43,8 @@ put_record-requires c =
     let a = c.args in
     let b = a.buf.now in
     let bytes : All Byte (take a.len b) = all_take Byte a.len b (bytes-all b (λ i. omega (arith, c.slice_known-1.given i))) in
-    let r = ready a.profile b a.len (length a.jrn.now) a.used a.pair.usage a.pair.number a.kind a.d.now bytes c.in_ok-count.count (sym c.add_plan.ensures ∙ c.in_ok-count.was) in
+    let r = ready a.profile b a.len (length a.jrn.now) a.used a.pair.usage a.pair.number a.kind a.d.now bytes c.in_ok-count.count
+    (sym c.add_plan.ensures ∙ c.in_ok-count.was) in
     r.journal_room
 
 pub overflow_add-result-3 : goal.overflow_add-result-3
@@ -50,7 +52,8 @@ overflow_add-result-3 c =
     let a = c.args in
     let b = a.buf.now in
     let bytes : All Byte (take a.len b) = all_take Byte a.len b (bytes-all b (λ i. omega (arith, c.slice_known-1.given i))) in
-    let r = ready a.profile b a.len (length a.jrn.now) a.used a.pair.usage a.pair.number a.kind a.d.now bytes c.in_ok-count.count (sym c.add_plan.ensures ∙ c.in_ok-count.was) in
+    let r = ready a.profile b a.len (length a.jrn.now) a.used a.pair.usage a.pair.number a.kind a.d.now bytes c.in_ok-count.count
+    (sym c.add_plan.ensures ∙ c.in_ok-count.was) in
     omega (arith, ap length c.held-body.ensures, r.short)
 
 pub overflow_add-result-4 : goal.overflow_add-result-4
@@ -58,7 +61,8 @@ overflow_add-result-4 c =
     let a = c.args in
     let b = a.buf.now in
     let bytes : All Byte (take a.len b) = all_take Byte a.len b (bytes-all b (λ i. omega (arith, c.slice_known-1.given i))) in
-    let r = ready a.profile b a.len (length a.jrn.now) a.used a.pair.usage a.pair.number a.kind a.d.now bytes c.in_ok-count.count (sym c.add_plan.ensures ∙ c.in_ok-count.was) in
+    let r = ready a.profile b a.len (length a.jrn.now) a.used a.pair.usage a.pair.number a.kind a.d.now bytes c.in_ok-count.count
+    (sym c.add_plan.ensures ∙ c.in_ok-count.was) in
     omega (arith, r.journal_room)
 
 pub returns : goal.returns
@@ -67,7 +71,8 @@ returns c =
     let a = c.args in
     let b = a.buf.now in
     let bytes : All Byte (take a.len b) = all_take Byte a.len b (bytes-all b (λ i. omega (arith, c.slice_known-1.given i))) in
-    let r = ready a.profile b a.len (length a.jrn.now) a.used a.pair.usage a.pair.number a.kind a.d.now bytes c.in_ok-count.count (sym c.add_plan.ensures ∙ c.in_ok-count.was) in
+    let r = ready a.profile b a.len (length a.jrn.now) a.used a.pair.usage a.pair.number a.kind a.d.now bytes c.in_ok-count.count
+    (sym c.add_plan.ensures ∙ c.in_ok-count.was) in
     let h = c.held-body.ensures in
     called_done a.profile (state b a.len a.jrn.now a.used) (edit (add a.pair.usage a.pair.number a.kind a.d.now)) _ _ _ _ r.fine
     (ap (λ (z : List ℕ). a.len + (20 + (length z + length z % 2))) h ∙ r.new_length)

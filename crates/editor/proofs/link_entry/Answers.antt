@@ -30,8 +30,13 @@ overflow_add-plan c =
     let b = a.buf.now in
     let bytes : All Byte (take a.len b) = all_take Byte a.len b (bytes-all b (λ i. omega (arith, c.slice_known-1.given i))) in
     let w = c.in_ok-plan.plan in
-    let r = ready a.profile b a.len (length a.jrn.now) a.used a.original.usage a.original.number a.alias.usage a.alias.number bytes w (sym c.link_plan.ensures ∙ c.in_ok-plan.was) in
-    omega (arith, start_small a.profile b a.len (length a.jrn.now) a.used a.original.usage a.original.number a.alias.usage a.alias.number bytes w.count w.place w.at r)
+    let r = ready a.profile b a.len (length a.jrn.now) a.used a.original.usage a.original.number a.alias.usage a.alias.number bytes w
+    (sym c.link_plan.ensures ∙ c.in_ok-plan.was) in
+    omega (
+      arith,
+      start_small a.profile b a.len (length a.jrn.now) a.used a.original.usage a.original.number a.alias.usage a.alias.number bytes w.count
+          w.place w.at r,
+    )
 
 pub put_record-requires : goal.put_record-requires
 put_record-requires c =
@@ -39,7 +44,8 @@ put_record-requires c =
     let b = a.buf.now in
     let bytes : All Byte (take a.len b) = all_take Byte a.len b (bytes-all b (λ i. omega (arith, c.slice_known-1.given i))) in
     let w = c.in_ok-plan.plan in
-    let r = ready a.profile b a.len (length a.jrn.now) a.used a.original.usage a.original.number a.alias.usage a.alias.number bytes w (sym c.link_plan.ensures ∙ c.in_ok-plan.was) in
+    let r = ready a.profile b a.len (length a.jrn.now) a.used a.original.usage a.original.number a.alias.usage a.alias.number bytes w
+    (sym c.link_plan.ensures ∙ c.in_ok-plan.was) in
     r.journal_room
 
 pub insert_entry-requires : goal.insert_entry-requires
@@ -48,7 +54,8 @@ insert_entry-requires c =
     let b = a.buf.now in
     let bytes : All Byte (take a.len b) = all_take Byte a.len b (bytes-all b (λ i. omega (arith, c.slice_known-1.given i))) in
     let w = c.in_ok-plan.plan in
-    let r = ready a.profile b a.len (length a.jrn.now) a.used a.original.usage a.original.number a.alias.usage a.alias.number bytes w (sym c.link_plan.ensures ∙ c.in_ok-plan.was) in
+    let r = ready a.profile b a.len (length a.jrn.now) a.used a.original.usage a.original.number a.alias.usage a.alias.number bytes w
+    (sym c.link_plan.ensures ∙ c.in_ok-plan.was) in
     insertable a.profile b a.len (length a.jrn.now) a.used a.original.usage a.original.number a.alias.usage a.alias.number bytes w.count w.place w.at r
 
 pub overflow_add-result : goal.overflow_add-result
@@ -57,7 +64,8 @@ overflow_add-result c =
     let b = a.buf.now in
     let bytes : All Byte (take a.len b) = all_take Byte a.len b (bytes-all b (λ i. omega (arith, c.slice_known-1.given i))) in
     let w = c.in_ok-plan.plan in
-    let r = ready a.profile b a.len (length a.jrn.now) a.used a.original.usage a.original.number a.alias.usage a.alias.number bytes w (sym c.link_plan.ensures ∙ c.in_ok-plan.was) in
+    let r = ready a.profile b a.len (length a.jrn.now) a.used a.original.usage a.original.number a.alias.usage a.alias.number bytes w
+    (sym c.link_plan.ensures ∙ c.in_ok-plan.was) in
     omega (arith, r.short)
 
 pub overflow_add-result-2 : goal.overflow_add-result-2
@@ -66,7 +74,8 @@ overflow_add-result-2 c =
     let b = a.buf.now in
     let bytes : All Byte (take a.len b) = all_take Byte a.len b (bytes-all b (λ i. omega (arith, c.slice_known-1.given i))) in
     let w = c.in_ok-plan.plan in
-    let r = ready a.profile b a.len (length a.jrn.now) a.used a.original.usage a.original.number a.alias.usage a.alias.number bytes w (sym c.link_plan.ensures ∙ c.in_ok-plan.was) in
+    let r = ready a.profile b a.len (length a.jrn.now) a.used a.original.usage a.original.number a.alias.usage a.alias.number bytes w
+    (sym c.link_plan.ensures ∙ c.in_ok-plan.was) in
     omega (arith, r.journal_room)
 
 pub returns : goal.returns
@@ -75,6 +84,7 @@ returns c =
     let b = a.buf.now in
     let bytes : All Byte (take a.len b) = all_take Byte a.len b (bytes-all b (λ i. omega (arith, c.slice_known-1.given i))) in
     let w = c.in_ok-plan.plan in
-    let r = ready a.profile b a.len (length a.jrn.now) a.used a.original.usage a.original.number a.alias.usage a.alias.number bytes w (sym c.link_plan.ensures ∙ c.in_ok-plan.was) in
+    let r = ready a.profile b a.len (length a.jrn.now) a.used a.original.usage a.original.number a.alias.usage a.alias.number bytes w
+    (sym c.link_plan.ensures ∙ c.in_ok-plan.was) in
     made a.profile b a.jrn.now a.len a.used a.original.usage a.original.number a.alias.usage a.alias.number bytes w.count w.place w.at r _ _
     c.insert_entry.ensures c.put_record.ensures

@@ -67,7 +67,8 @@ overflow_sub-result c =
     let bytes : All Byte (take a.len b) = all_take Byte a.len b (bytes-all b (λ i. omega (arith, c.slice_known-1.given i))) in
     let o = c.in_ok-plan.plan in
     let r = ready a.profile b a.len (length a.jrn.now) a.used a.pair.usage a.pair.number bytes o (sym c.remove_plan.ensures ∙ c.in_ok-plan.was) in
-    shrinks a.profile b a.len (length a.jrn.now) a.used a.pair.usage a.pair.number bytes o.piece r.found r.piece_is c.gone_size-size.result c.gone_size-size.ensures
+    shrinks a.profile b a.len (length a.jrn.now) a.used a.pair.usage a.pair.number bytes o.piece r.found r.piece_is c.gone_size-size.result
+    c.gone_size-size.ensures
 
 pub overflow_add-result-3 : goal.overflow_add-result-3
 overflow_add-result-3 c =

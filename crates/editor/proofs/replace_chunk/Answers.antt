@@ -32,7 +32,8 @@ gone_size-old-requires c =
     let b = a.buf.now in
     let bytes : All Byte (take a.len b) = all_take Byte a.len b (bytes-all b (λ i. omega (arith, c.slice_known-1.given i))) in
     let o = c.in_ok-plan.plan in
-    let r = ready a.profile b a.len (length a.jrn.now) a.used a.pair.usage a.pair.number a.kind a.d.now bytes o (sym c.replace_plan.ensures ∙ c.in_ok-plan.was) in
+    let r = ready a.profile b a.len (length a.jrn.now) a.used a.pair.usage a.pair.number a.kind a.d.now bytes o
+    (sym c.replace_plan.ensures ∙ c.in_ok-plan.was) in
     body_short a.profile b a.len (length a.jrn.now) a.used a.pair.usage a.pair.number bytes o.piece r.found r.piece_is
 
 pub slice_bounds-put_record-end : goal.slice_bounds-put_record-end
@@ -41,7 +42,8 @@ slice_bounds-put_record-end c =
     let b = a.buf.now in
     let bytes : All Byte (take a.len b) = all_take Byte a.len b (bytes-all b (λ i. omega (arith, c.slice_known-1.given i))) in
     let o = c.in_ok-plan.plan in
-    let r = ready a.profile b a.len (length a.jrn.now) a.used a.pair.usage a.pair.number a.kind a.d.now bytes o (sym c.replace_plan.ensures ∙ c.in_ok-plan.was) in
+    let r = ready a.profile b a.len (length a.jrn.now) a.used a.pair.usage a.pair.number a.kind a.d.now bytes o
+    (sym c.replace_plan.ensures ∙ c.in_ok-plan.was) in
     part_in a.profile b a.jrn.now a.len a.used a.pair.usage a.pair.number a.kind a.d.now bytes o.count o.piece r
 
 pub put_record-requires : goal.put_record-requires
@@ -50,7 +52,8 @@ put_record-requires c =
     let b = a.buf.now in
     let bytes : All Byte (take a.len b) = all_take Byte a.len b (bytes-all b (λ i. omega (arith, c.slice_known-1.given i))) in
     let o = c.in_ok-plan.plan in
-    let r = ready a.profile b a.len (length a.jrn.now) a.used a.pair.usage a.pair.number a.kind a.d.now bytes o (sym c.replace_plan.ensures ∙ c.in_ok-plan.was) in
+    let r = ready a.profile b a.len (length a.jrn.now) a.used a.pair.usage a.pair.number a.kind a.d.now bytes o
+    (sym c.replace_plan.ensures ∙ c.in_ok-plan.was) in
     record_room a.profile b a.jrn.now a.len a.used a.pair.usage a.pair.number a.kind a.d.now bytes o.count o.piece r
 
 pub replace_bytes-requires : goal.replace_bytes-requires
@@ -59,8 +62,10 @@ replace_bytes-requires c =
     let b = a.buf.now in
     let bytes : All Byte (take a.len b) = all_take Byte a.len b (bytes-all b (λ i. omega (arith, c.slice_known-1.given i))) in
     let o = c.in_ok-plan.plan in
-    let r = ready a.profile b a.len (length a.jrn.now) a.used a.pair.usage a.pair.number a.kind a.d.now bytes o (sym c.replace_plan.ensures ∙ c.in_ok-plan.was) in
-    replaceable a.profile b a.len (length a.jrn.now) a.used a.pair.usage a.pair.number a.kind a.d.now bytes o.count o.piece r c.held-body.result.now c.held-body.ensures
+    let r = ready a.profile b a.len (length a.jrn.now) a.used a.pair.usage a.pair.number a.kind a.d.now bytes o
+    (sym c.replace_plan.ensures ∙ c.in_ok-plan.was) in
+    replaceable a.profile b a.len (length a.jrn.now) a.used a.pair.usage a.pair.number a.kind a.d.now bytes o.count o.piece r c.held-body.result.now
+    c.held-body.ensures
     c.gone_size-old.result c.gone_size-old.ensures
 
 pub overflow_sub-result : goal.overflow_sub-result
@@ -69,8 +74,10 @@ overflow_sub-result c =
     let b = a.buf.now in
     let bytes : All Byte (take a.len b) = all_take Byte a.len b (bytes-all b (λ i. omega (arith, c.slice_known-1.given i))) in
     let o = c.in_ok-plan.plan in
-    let r = ready a.profile b a.len (length a.jrn.now) a.used a.pair.usage a.pair.number a.kind a.d.now bytes o (sym c.replace_plan.ensures ∙ c.in_ok-plan.was) in
-    inside a.profile b a.len (length a.jrn.now) a.used a.pair.usage a.pair.number a.kind a.d.now bytes o.piece r.found r.piece_is c.gone_size-old.result c.gone_size-old.ensures
+    let r = ready a.profile b a.len (length a.jrn.now) a.used a.pair.usage a.pair.number a.kind a.d.now bytes o
+    (sym c.replace_plan.ensures ∙ c.in_ok-plan.was) in
+    inside a.profile b a.len (length a.jrn.now) a.used a.pair.usage a.pair.number a.kind a.d.now bytes o.piece r.found r.piece_is c.gone_size-old.result
+    c.gone_size-old.ensures
 
 pub overflow_add-result-3 : goal.overflow_add-result-3
 overflow_add-result-3 c =
@@ -78,10 +85,12 @@ overflow_add-result-3 c =
     let b = a.buf.now in
     let bytes : All Byte (take a.len b) = all_take Byte a.len b (bytes-all b (λ i. omega (arith, c.slice_known-1.given i))) in
     let o = c.in_ok-plan.plan in
-    let r = ready a.profile b a.len (length a.jrn.now) a.used a.pair.usage a.pair.number a.kind a.d.now bytes o (sym c.replace_plan.ensures ∙ c.in_ok-plan.was) in
+    let r = ready a.profile b a.len (length a.jrn.now) a.used a.pair.usage a.pair.number a.kind a.d.now bytes o
+    (sym c.replace_plan.ensures ∙ c.in_ok-plan.was) in
     omega (
       arith,
-      length_now a.profile b a.len (length a.jrn.now) a.used a.pair.usage a.pair.number a.kind a.d.now bytes o.piece r.found r.piece_is c.gone_size-old.result c.gone_size-old.ensures c.held-body.result.now c.held-body.ensures,
+      length_now a.profile b a.len (length a.jrn.now) a.used a.pair.usage a.pair.number a.kind a.d.now bytes o.piece r.found r.piece_is
+          c.gone_size-old.result c.gone_size-old.ensures c.held-body.result.now c.held-body.ensures,
       r.short,
     )
 
@@ -91,7 +100,8 @@ overflow_add-result-5 c =
     let b = a.buf.now in
     let bytes : All Byte (take a.len b) = all_take Byte a.len b (bytes-all b (λ i. omega (arith, c.slice_known-1.given i))) in
     let o = c.in_ok-plan.plan in
-    let r = ready a.profile b a.len (length a.jrn.now) a.used a.pair.usage a.pair.number a.kind a.d.now bytes o (sym c.replace_plan.ensures ∙ c.in_ok-plan.was) in
+    let r = ready a.profile b a.len (length a.jrn.now) a.used a.pair.usage a.pair.number a.kind a.d.now bytes o
+    (sym c.replace_plan.ensures ∙ c.in_ok-plan.was) in
     omega (arith, used_room a.profile b a.jrn.now a.len a.used a.pair.usage a.pair.number a.kind a.d.now bytes o.count o.piece r, c.well_formed, c.ranges)
 
 pub returns : goal.returns
@@ -100,6 +110,7 @@ returns c =
     let b = a.buf.now in
     let bytes : All Byte (take a.len b) = all_take Byte a.len b (bytes-all b (λ i. omega (arith, c.slice_known-1.given i))) in
     let o = c.in_ok-plan.plan in
-    let r = ready a.profile b a.len (length a.jrn.now) a.used a.pair.usage a.pair.number a.kind a.d.now bytes o (sym c.replace_plan.ensures ∙ c.in_ok-plan.was) in
+    let r = ready a.profile b a.len (length a.jrn.now) a.used a.pair.usage a.pair.number a.kind a.d.now bytes o
+    (sym c.replace_plan.ensures ∙ c.in_ok-plan.was) in
     made a.profile b a.jrn.now a.len a.used a.pair.usage a.pair.number a.kind a.d.now bytes o.count o.piece r c.held-body.result.now c.held-body.ensures
     c.gone_size-old.result _ _ c.gone_size-old.ensures c.replace_bytes.ensures c.put_record.ensures

@@ -53,7 +53,8 @@ remove_bytes-requires c =
     let b = a.buf.now in
     let bb : All Byte b = bytes-all b (λ i. omega (arith, c.slice_known-1.given i)) in
     let w = going _ b a.len a.jrn.now a.used a.plan bb c.requires.1 in
-    ⊎_elim (back-added _ b a.len a.jrn.now a.used a.plan.count a.plan.at a.plan.size a.plan.to a.plan.last bb w) (back-linked _ b a.len a.jrn.now a.used a.plan.count a.plan.at a.plan.size a.plan.to a.plan.last bb w) c.in-Added.is
+    ⊎_elim (back-added _ b a.len a.jrn.now a.used a.plan.count a.plan.at a.plan.size a.plan.to a.plan.last bb w)
+    (back-linked _ b a.len a.jrn.now a.used a.plan.count a.plan.at a.plan.size a.plan.to a.plan.last bb w) c.in-Added.is
 
 pub returns-in-Added : goal.returns-in-Added
 returns-in-Added c =
@@ -62,7 +63,8 @@ returns-in-Added c =
     let bb : All Byte b = bytes-all b (λ i. omega (arith, c.slice_known-1.given i)) in
     let w = going _ b a.len a.jrn.now a.used a.plan bb c.requires.1 in
     c.remove_bytes.ensures ∙ ap (λ (z : List ℕ). written b a.len z)
-    (⊎_elim (written-added _ b a.len a.jrn.now a.used a.plan.count a.plan.at a.plan.size a.plan.to a.plan.last bb w) (written-linked _ b a.len a.jrn.now a.used a.plan.count a.plan.at a.plan.size a.plan.to a.plan.last bb w) c.in-Added.is)
+    (⊎_elim (written-added _ b a.len a.jrn.now a.used a.plan.count a.plan.at a.plan.size a.plan.to a.plan.last bb w)
+    (written-linked _ b a.len a.jrn.now a.used a.plan.count a.plan.at a.plan.size a.plan.to a.plan.last bb w) c.in-Added.is)
 
 pub replace_bytes-requires : goal.replace_bytes-requires
 replace_bytes-requires c =
@@ -79,7 +81,8 @@ returns-in-Replaced c =
     let b = a.buf.now in
     let bb : All Byte b = bytes-all b (λ i. omega (arith, c.slice_known-1.given i)) in
     let w = going _ b a.len a.jrn.now a.used a.plan bb c.requires.1 in
-    c.replace_bytes.ensures ∙ ap (λ (z : List ℕ). written b a.len z) (written-replaced _ b a.len a.jrn.now a.used a.plan.count a.plan.at a.plan.size a.plan.to a.plan.last bb w c.in-Replaced.is)
+    c.replace_bytes.ensures ∙ ap (λ (z : List ℕ). written b a.len z) (written-replaced _ b a.len a.jrn.now a.used a.plan.count a.plan.at a.plan.size
+    a.plan.to a.plan.last bb w c.in-Replaced.is)
 
 pub insert_bytes-requires : goal.insert_bytes-requires
 insert_bytes-requires c =
@@ -96,7 +99,8 @@ returns-in-Removed c =
     let b = a.buf.now in
     let bb : All Byte b = bytes-all b (λ i. omega (arith, c.slice_known-1.given i)) in
     let w = going _ b a.len a.jrn.now a.used a.plan bb c.requires.1 in
-    (rw (c.pair.ensures.0, c.pair.ensures.1) at c.insert_bytes.ensures) ∙ ap (λ (z : List ℕ). written b a.len z) (written-removed _ b a.len a.jrn.now a.used a.plan.count a.plan.at a.plan.size a.plan.to a.plan.last bb w c.in-Removed.is)
+    (rw (c.pair.ensures.0, c.pair.ensures.1) at c.insert_bytes.ensures) ∙ ap (λ (z : List ℕ). written b a.len z)
+    (written-removed _ b a.len a.jrn.now a.used a.plan.count a.plan.at a.plan.size a.plan.to a.plan.last bb w c.in-Removed.is)
 
 pub insert_entry-requires : goal.insert_entry-requires
 insert_entry-requires c =
@@ -113,4 +117,5 @@ returns-in-Unlisted c =
     let b = a.buf.now in
     let bb : All Byte b = bytes-all b (λ i. omega (arith, c.slice_known-1.given i)) in
     let w = going _ b a.len a.jrn.now a.used a.plan bb c.requires.1 in
-    (rw (c.pair-in-Unlisted.ensures.0, c.pair-in-Unlisted.ensures.1) at c.insert_entry.ensures) ∙ ap (λ (z : List ℕ). written b a.len z) (written_unlisted _ b a.len a.jrn.now a.used a.plan.count a.plan.at a.plan.size a.plan.to a.plan.last bb w c.in-Unlisted.is)
+    (rw (c.pair-in-Unlisted.ensures.0, c.pair-in-Unlisted.ensures.1) at c.insert_entry.ensures) ∙ ap (λ (z : List ℕ). written b a.len z)
+    (written_unlisted _ b a.len a.jrn.now a.used a.plan.count a.plan.at a.plan.size a.plan.to a.plan.last bb w c.in-Unlisted.is)

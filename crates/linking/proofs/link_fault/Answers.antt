@@ -58,7 +58,8 @@ returns-then-not-chunk_allowed c =
     let bytes : All Byte a.s.now = bytes-all a.s.now (λ i. omega (arith, c.type_inv.s i)) in
     out_114 a.profile a.s.now a.count a.piece a.place a.pair.usage a.pair.number bytes
     c.requires (omega arith) (omega arith) c.if-s-gt16777216.false c.if-count-gt4096.false
-    (known a.pair.usage _ false (sym c.of_code.ensures) (c.is_none.ensures ∙ ap not c.if-is_none.false)) (sym c.chunk_allowed.ensures ∙ c.if-not-chunk_allowed.true)
+    (known a.pair.usage _ false (sym c.of_code.ensures) (c.is_none.ensures ∙ ap not c.if-is_none.false))
+    (sym c.chunk_allowed.ensures ∙ c.if-not-chunk_allowed.true)
 
 pub returns-then-not-number_fits : goal.returns-then-not-number_fits
 returns-then-not-number_fits c =
@@ -66,7 +67,8 @@ returns-then-not-number_fits c =
     let bytes : All Byte a.s.now = bytes-all a.s.now (λ i. omega (arith, c.type_inv.s i)) in
     out_115 a.profile a.s.now a.count a.piece a.place a.pair.usage a.pair.number bytes
     c.requires (omega arith) (omega arith) c.if-s-gt16777216.false c.if-count-gt4096.false
-    (known a.pair.usage _ false (sym c.of_code.ensures) (c.is_none.ensures ∙ ap not c.if-is_none.false)) (sym c.chunk_allowed.ensures ∙ c.if-not-chunk_allowed.false)
+    (known a.pair.usage _ false (sym c.of_code.ensures) (c.is_none.ensures ∙ ap not c.if-is_none.false))
+    (sym c.chunk_allowed.ensures ∙ c.if-not-chunk_allowed.false)
     (sym c.number_fits.ensures ∙ c.if-not-number_fits.true)
 
 pub returns-in_default : goal.returns-in_default
@@ -75,7 +77,8 @@ returns-in_default c =
     let bytes : All Byte a.s.now = bytes-all a.s.now (λ i. omega (arith, c.type_inv.s i)) in
     out_done a.profile a.s.now a.count a.piece a.place a.pair.usage a.pair.number bytes
     c.requires (omega arith) (omega arith) c.if-s-gt16777216.false c.if-count-gt4096.false
-    (known a.pair.usage _ false (sym c.of_code.ensures) (c.is_none.ensures ∙ ap not c.if-is_none.false)) (sym c.chunk_allowed.ensures ∙ c.if-not-chunk_allowed.false)
+    (known a.pair.usage _ false (sym c.of_code.ensures) (c.is_none.ensures ∙ ap not c.if-is_none.false))
+    (sym c.chunk_allowed.ensures ∙ c.if-not-chunk_allowed.false)
     (sym c.number_fits.ensures ∙ c.if-not-number_fits.false) _ refl
     (omega (arith, pair_missing _ _ (sym c.find_pair.ensures ∙ c.in_default.is), c.requires.1.0.indexed.counted.entries))
 
@@ -85,7 +88,8 @@ returns-then-other-place c =
     let bytes : All Byte a.s.now = bytes-all a.s.now (λ i. omega (arith, c.type_inv.s i)) in
     out_116 a.profile a.s.now a.count a.piece a.place a.pair.usage a.pair.number bytes
     c.requires (omega arith) (omega arith) c.if-s-gt16777216.false c.if-count-gt4096.false
-    (known a.pair.usage _ false (sym c.of_code.ensures) (c.is_none.ensures ∙ ap not c.if-is_none.false)) (sym c.chunk_allowed.ensures ∙ c.if-not-chunk_allowed.false)
+    (known a.pair.usage _ false (sym c.of_code.ensures) (c.is_none.ensures ∙ ap not c.if-is_none.false))
+    (sym c.chunk_allowed.ensures ∙ c.if-not-chunk_allowed.false)
     (sym c.number_fits.ensures ∙ c.if-not-number_fits.false) _ (pair_there _ _ _ (sym c.find_pair.ensures ∙ c.in-Some.is)).0
     c.if-other-place.true
 
@@ -95,6 +99,7 @@ returns c =
     let bytes : All Byte a.s.now = bytes-all a.s.now (λ i. omega (arith, c.type_inv.s i)) in
     out_116_old a.profile a.s.now a.count a.piece a.place a.pair.usage a.pair.number bytes
     c.requires (omega arith) (omega arith) c.if-s-gt16777216.false c.if-count-gt4096.false
-    (known a.pair.usage _ false (sym c.of_code.ensures) (c.is_none.ensures ∙ ap not c.if-is_none.false)) (sym c.chunk_allowed.ensures ∙ c.if-not-chunk_allowed.false)
+    (known a.pair.usage _ false (sym c.of_code.ensures) (c.is_none.ensures ∙ ap not c.if-is_none.false))
+    (sym c.chunk_allowed.ensures ∙ c.if-not-chunk_allowed.false)
     (sym c.number_fits.ensures ∙ c.if-not-number_fits.false) _ (pair_there _ _ _ (sym c.find_pair.ensures ∙ c.in-Some.is)).0
     c.if-other-place.false (omega (arith, (pair_there _ _ _ (sym c.find_pair.ensures ∙ c.in-Some.is)).1, c.requires.1.0.indexed.counted.entries))

@@ -19,21 +19,24 @@ returns-in_err-facts c =
     let b = a.buf.now in
     let bytes : All Byte (take a.lent.len b) = all_take Byte a.lent.len b (bytes-all b (λ i. omega (arith, c.type_inv.buf i))) in
     let p = err_from_is_err_and c.from_residual.result c.from_residual.ensures.1 in
-    rw (p.1, p.2) (plan_unopened a.lent.profile b a.lent.len a.lent.room a.lent.used a.pair.usage a.pair.number bytes 0 _ (sym c.opened.ensures ∙ c.in_err-facts.was))
+    rw (p.1, p.2) (plan_unopened a.lent.profile b a.lent.len a.lent.room a.lent.used a.pair.usage a.pair.number bytes 0 _
+    (sym c.opened.ensures ∙ c.in_err-facts.was))
 
 pub returns-in_default : goal.returns-in_default
 returns-in_default c =
     let a = c.args in
     let b = a.buf.now in
     let bytes : All Byte (take a.lent.len b) = all_take Byte a.lent.len b (bytes-all b (λ i. omega (arith, c.type_inv.buf i))) in
-    plan_22 a.lent.profile b a.lent.len a.lent.room a.lent.used a.pair.usage a.pair.number bytes 0 c.in_ok-facts.facts (sym c.opened.ensures ∙ c.in_ok-facts.was) c.in_default.is
+    plan_22 a.lent.profile b a.lent.len a.lent.room a.lent.used a.pair.usage a.pair.number bytes 0 c.in_ok-facts.facts
+    (sym c.opened.ensures ∙ c.in_ok-facts.was) c.in_default.is
 
 pub gone_size-size-requires : goal.gone_size-size-requires
 gone_size-size-requires c =
     let a = c.args in
     let b = a.buf.now in
     let bytes : All Byte (take a.lent.len b) = all_take Byte a.lent.len b (bytes-all b (λ i. omega (arith, c.type_inv.buf i))) in
-    let T = told a.lent.profile b a.lent.len a.lent.room a.lent.used a.pair.usage a.pair.number bytes 0 c.in_ok-facts.facts (sym c.opened.ensures ∙ c.in_ok-facts.was) c.in-Some.piece c.in-Some.is in
+    let T = told a.lent.profile b a.lent.len a.lent.room a.lent.used a.pair.usage a.pair.number bytes 0 c.in_ok-facts.facts
+    (sym c.opened.ensures ∙ c.in_ok-facts.was) c.in-Some.piece c.in-Some.is in
     body_short a.lent.profile b a.lent.len a.lent.room a.lent.used a.pair.usage a.pair.number bytes c.in-Some.piece T.found T.piece_is
 
 pub slice_bounds-s-end : goal.slice_bounds-s-end
@@ -41,7 +44,8 @@ slice_bounds-s-end c =
     let a = c.args in
     let b = a.buf.now in
     let bytes : All Byte (take a.lent.len b) = all_take Byte a.lent.len b (bytes-all b (λ i. omega (arith, c.type_inv.buf i))) in
-    let T = told a.lent.profile b a.lent.len a.lent.room a.lent.used a.pair.usage a.pair.number bytes 0 c.in_ok-facts.facts (sym c.opened.ensures ∙ c.in_ok-facts.was) c.in-Some.piece c.in-Some.is in
+    let T = told a.lent.profile b a.lent.len a.lent.room a.lent.used a.pair.usage a.pair.number bytes 0 c.in_ok-facts.facts
+    (sym c.opened.ensures ∙ c.in_ok-facts.was) c.in-Some.piece c.in-Some.is in
     sym (length-take-le a.lent.len b T.found.stands.inside)
 
 pub remove_fault-requires : goal.remove_fault-requires
@@ -49,7 +53,8 @@ remove_fault-requires c =
     let a = c.args in
     let b = a.buf.now in
     let bytes : All Byte (take a.lent.len b) = all_take Byte a.lent.len b (bytes-all b (λ i. omega (arith, c.type_inv.buf i))) in
-    let T = told a.lent.profile b a.lent.len a.lent.room a.lent.used a.pair.usage a.pair.number bytes 0 c.in_ok-facts.facts (sym c.opened.ensures ∙ c.in_ok-facts.was) c.in-Some.piece c.in-Some.is in
+    let T = told a.lent.profile b a.lent.len a.lent.room a.lent.used a.pair.usage a.pair.number bytes 0 c.in_ok-facts.facts
+    (sym c.opened.ensures ∙ c.in_ok-facts.was) c.in-Some.piece c.in-Some.is in
     listed a.lent.profile b a.lent.len a.lent.room a.lent.used a.pair.usage a.pair.number bytes c.in_ok-facts.facts c.in-Some.piece T
     c.gone_size-size.result c.gone_size-size.ensures
 
@@ -58,7 +63,8 @@ returns-in_err-remove_fault c =
     let a = c.args in
     let b = a.buf.now in
     let bytes : All Byte (take a.lent.len b) = all_take Byte a.lent.len b (bytes-all b (λ i. omega (arith, c.type_inv.buf i))) in
-    let T = told a.lent.profile b a.lent.len a.lent.room a.lent.used a.pair.usage a.pair.number bytes 0 c.in_ok-facts.facts (sym c.opened.ensures ∙ c.in_ok-facts.was) c.in-Some.piece c.in-Some.is in
+    let T = told a.lent.profile b a.lent.len a.lent.room a.lent.used a.pair.usage a.pair.number bytes 0 c.in_ok-facts.facts
+    (sym c.opened.ensures ∙ c.in_ok-facts.was) c.in-Some.piece c.in-Some.is in
     let p = err_from_is_err_and c.from_residual-in_err-remove_fault.result c.from_residual-in_err-remove_fault.ensures.1 in
     rw (p.1, p.2) (plan_judged a.lent.profile b a.lent.len a.lent.room a.lent.used a.pair.usage a.pair.number bytes c.in_ok-facts.facts c.in-Some.piece T
     c.gone_size-size.result c.gone_size-size.ensures c.remove_fault.result c.remove_fault.ensures _ c.in_err-remove_fault.was)
@@ -68,7 +74,8 @@ overflow_sub-size c =
     let a = c.args in
     let b = a.buf.now in
     let bytes : All Byte (take a.lent.len b) = all_take Byte a.lent.len b (bytes-all b (λ i. omega (arith, c.type_inv.buf i))) in
-    let T = told a.lent.profile b a.lent.len a.lent.room a.lent.used a.pair.usage a.pair.number bytes 0 c.in_ok-facts.facts (sym c.opened.ensures ∙ c.in_ok-facts.was) c.in-Some.piece c.in-Some.is in
+    let T = told a.lent.profile b a.lent.len a.lent.room a.lent.used a.pair.usage a.pair.number bytes 0 c.in_ok-facts.facts
+    (sym c.opened.ensures ∙ c.in_ok-facts.was) c.in-Some.piece c.in-Some.is in
     shrinks a.lent.profile b a.lent.len a.lent.room a.lent.used a.pair.usage a.pair.number bytes c.in-Some.piece T.found T.piece_is
     c.gone_size-size.result c.gone_size-size.ensures
 
@@ -77,7 +84,8 @@ overflow_sub-lent c =
     let a = c.args in
     let b = a.buf.now in
     let bytes : All Byte (take a.lent.len b) = all_take Byte a.lent.len b (bytes-all b (λ i. omega (arith, c.type_inv.buf i))) in
-    let T = told a.lent.profile b a.lent.len a.lent.room a.lent.used a.pair.usage a.pair.number bytes 0 c.in_ok-facts.facts (sym c.opened.ensures ∙ c.in_ok-facts.was) c.in-Some.piece c.in-Some.is in
+    let T = told a.lent.profile b a.lent.len a.lent.room a.lent.used a.pair.usage a.pair.number bytes 0 c.in_ok-facts.facts
+    (sym c.opened.ensures ∙ c.in_ok-facts.was) c.in-Some.piece c.in-Some.is in
     T.found.used_in
 
 pub returns-in_err-with_room : goal.returns-in_err-with_room
@@ -85,7 +93,8 @@ returns-in_err-with_room c =
     let a = c.args in
     let b = a.buf.now in
     let bytes : All Byte (take a.lent.len b) = all_take Byte a.lent.len b (bytes-all b (λ i. omega (arith, c.type_inv.buf i))) in
-    let T = told a.lent.profile b a.lent.len a.lent.room a.lent.used a.pair.usage a.pair.number bytes 0 c.in_ok-facts.facts (sym c.opened.ensures ∙ c.in_ok-facts.was) c.in-Some.piece c.in-Some.is in
+    let T = told a.lent.profile b a.lent.len a.lent.room a.lent.used a.pair.usage a.pair.number bytes 0 c.in_ok-facts.facts
+    (sym c.opened.ensures ∙ c.in_ok-facts.was) c.in-Some.piece c.in-Some.is in
     let p = err_from_is_err_and c.from_residual-in_err-with_room.result c.from_residual-in_err-with_room.ensures.1 in
     rw (p.1, p.2) (plan_full a.lent.profile b a.lent.len a.lent.room a.lent.used a.pair.usage a.pair.number bytes c.in_ok-facts.facts c.in-Some.piece T
     c.gone_size-size.result c.gone_size-size.ensures c.remove_fault.result c.remove_fault.ensures (ap verdict_of c.in_ok-remove_fault.was)
@@ -96,7 +105,8 @@ returns c =
     let a = c.args in
     let b = a.buf.now in
     let bytes : All Byte (take a.lent.len b) = all_take Byte a.lent.len b (bytes-all b (λ i. omega (arith, c.type_inv.buf i))) in
-    let T = told a.lent.profile b a.lent.len a.lent.room a.lent.used a.pair.usage a.pair.number bytes 0 c.in_ok-facts.facts (sym c.opened.ensures ∙ c.in_ok-facts.was) c.in-Some.piece c.in-Some.is in
+    let T = told a.lent.profile b a.lent.len a.lent.room a.lent.used a.pair.usage a.pair.number bytes 0 c.in_ok-facts.facts
+    (sym c.opened.ensures ∙ c.in_ok-facts.was) c.in-Some.piece c.in-Some.is in
     plan_fine a.lent.profile b a.lent.len a.lent.room a.lent.used a.pair.usage a.pair.number bytes c.in_ok-facts.facts c.in-Some.piece T
     c.gone_size-size.result c.gone_size-size.ensures c.remove_fault.result c.remove_fault.ensures (ap verdict_of c.in_ok-remove_fault.was)
     c.kept_number-body.result c.kept_number-body.ensures c.with_room.result c.with_room.ensures (ap verdict_of c.in_ok-with_room.was)

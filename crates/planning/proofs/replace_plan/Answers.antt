@@ -20,37 +20,44 @@ returns-in_err-facts c =
     let b = a.buf.now in
     let bytes : All Byte (take a.lent.len b) = all_take Byte a.lent.len b (bytes-all b (λ i. omega (arith, c.type_inv.buf i))) in
     let p = err_from_is_err_and c.from_residual.result c.from_residual.ensures.1 in
-    rw (p.1, p.2) (plan_unopened a.lent.profile b a.lent.len a.lent.room a.lent.used a.pair.usage a.pair.number a.kind a.d.now bytes 0 _ (sym c.opened.ensures ∙ c.in_err-facts.was))
+    rw (p.1, p.2) (plan_unopened a.lent.profile b a.lent.len a.lent.room a.lent.used a.pair.usage a.pair.number a.kind a.d.now bytes 0 _
+    (sym c.opened.ensures ∙ c.in_err-facts.was))
 
 pub returns-in_default : goal.returns-in_default
 returns-in_default c =
     let a = c.args in
     let b = a.buf.now in
     let bytes : All Byte (take a.lent.len b) = all_take Byte a.lent.len b (bytes-all b (λ i. omega (arith, c.type_inv.buf i))) in
-    plan_22 a.lent.profile b a.lent.len a.lent.room a.lent.used a.pair.usage a.pair.number a.kind a.d.now bytes 0 c.in_ok-facts.facts (sym c.opened.ensures ∙ c.in_ok-facts.was) c.in_default.is
+    plan_22 a.lent.profile b a.lent.len a.lent.room a.lent.used a.pair.usage a.pair.number a.kind a.d.now bytes 0 c.in_ok-facts.facts
+    (sym c.opened.ensures ∙ c.in_ok-facts.was) c.in_default.is
 
 pub returns-then-piece : goal.returns-then-piece
 returns-then-piece c =
     let a = c.args in
     let b = a.buf.now in
     let bytes : All Byte (take a.lent.len b) = all_take Byte a.lent.len b (bytes-all b (λ i. omega (arith, c.type_inv.buf i))) in
-    let T = told a.lent.profile b a.lent.len a.lent.room a.lent.used a.pair.usage a.pair.number bytes 0 c.in_ok-facts.facts (sym c.opened.ensures ∙ c.in_ok-facts.was) c.in-Some.piece c.in-Some.is in
-    plan_23 a.lent.profile b a.lent.len a.lent.room a.lent.used a.pair.usage a.pair.number a.kind a.d.now bytes c.in_ok-facts.facts c.in-Some.piece T c.if-piece.true
+    let T = told a.lent.profile b a.lent.len a.lent.room a.lent.used a.pair.usage a.pair.number bytes 0 c.in_ok-facts.facts
+    (sym c.opened.ensures ∙ c.in_ok-facts.was) c.in-Some.piece c.in-Some.is in
+    plan_23 a.lent.profile b a.lent.len a.lent.room a.lent.used a.pair.usage a.pair.number a.kind a.d.now bytes c.in_ok-facts.facts c.in-Some.piece T
+    c.if-piece.true
 
 pub returns-then-not-whole : goal.returns-then-not-whole
 returns-then-not-whole c =
     let a = c.args in
     let b = a.buf.now in
     let bytes : All Byte (take a.lent.len b) = all_take Byte a.lent.len b (bytes-all b (λ i. omega (arith, c.type_inv.buf i))) in
-    let T = told a.lent.profile b a.lent.len a.lent.room a.lent.used a.pair.usage a.pair.number bytes 0 c.in_ok-facts.facts (sym c.opened.ensures ∙ c.in_ok-facts.was) c.in-Some.piece c.in-Some.is in
-    plan_30 a.lent.profile b a.lent.len a.lent.room a.lent.used a.pair.usage a.pair.number a.kind a.d.now bytes c.in_ok-facts.facts c.in-Some.piece T c.if-piece.false (sym c.is_whole-whole.ensures ∙ c.if-not-whole.true)
+    let T = told a.lent.profile b a.lent.len a.lent.room a.lent.used a.pair.usage a.pair.number bytes 0 c.in_ok-facts.facts
+    (sym c.opened.ensures ∙ c.in_ok-facts.was) c.in-Some.piece c.in-Some.is in
+    plan_30 a.lent.profile b a.lent.len a.lent.room a.lent.used a.pair.usage a.pair.number a.kind a.d.now bytes c.in_ok-facts.facts c.in-Some.piece T
+    c.if-piece.false (sym c.is_whole-whole.ensures ∙ c.if-not-whole.true)
 
 pub gone_size-old-requires : goal.gone_size-old-requires
 gone_size-old-requires c =
     let a = c.args in
     let b = a.buf.now in
     let bytes : All Byte (take a.lent.len b) = all_take Byte a.lent.len b (bytes-all b (λ i. omega (arith, c.type_inv.buf i))) in
-    let T = told a.lent.profile b a.lent.len a.lent.room a.lent.used a.pair.usage a.pair.number bytes 0 c.in_ok-facts.facts (sym c.opened.ensures ∙ c.in_ok-facts.was) c.in-Some.piece c.in-Some.is in
+    let T = told a.lent.profile b a.lent.len a.lent.room a.lent.used a.pair.usage a.pair.number bytes 0 c.in_ok-facts.facts
+    (sym c.opened.ensures ∙ c.in_ok-facts.was) c.in-Some.piece c.in-Some.is in
     body_short a.lent.profile b a.lent.len a.lent.room a.lent.used a.pair.usage a.pair.number bytes c.in-Some.piece T.found T.piece_is
 
 pub slice_bounds-s-end : goal.slice_bounds-s-end
@@ -58,7 +65,8 @@ slice_bounds-s-end c =
     let a = c.args in
     let b = a.buf.now in
     let bytes : All Byte (take a.lent.len b) = all_take Byte a.lent.len b (bytes-all b (λ i. omega (arith, c.type_inv.buf i))) in
-    let T = told a.lent.profile b a.lent.len a.lent.room a.lent.used a.pair.usage a.pair.number bytes 0 c.in_ok-facts.facts (sym c.opened.ensures ∙ c.in_ok-facts.was) c.in-Some.piece c.in-Some.is in
+    let T = told a.lent.profile b a.lent.len a.lent.room a.lent.used a.pair.usage a.pair.number bytes 0 c.in_ok-facts.facts
+    (sym c.opened.ensures ∙ c.in_ok-facts.was) c.in-Some.piece c.in-Some.is in
     sym (length-take-le a.lent.len b T.found.stands.inside)
 
 pub replace_fault-requires : goal.replace_fault-requires
@@ -66,33 +74,41 @@ replace_fault-requires c =
     let a = c.args in
     let b = a.buf.now in
     let bytes : All Byte (take a.lent.len b) = all_take Byte a.lent.len b (bytes-all b (λ i. omega (arith, c.type_inv.buf i))) in
-    let T = told a.lent.profile b a.lent.len a.lent.room a.lent.used a.pair.usage a.pair.number bytes 0 c.in_ok-facts.facts (sym c.opened.ensures ∙ c.in_ok-facts.was) c.in-Some.piece c.in-Some.is in
-    own a.lent.profile b a.lent.len a.lent.room a.lent.used a.pair.usage a.pair.number a.kind a.d.now bytes c.in_ok-facts.facts c.in-Some.piece T c.if-piece.false
+    let T = told a.lent.profile b a.lent.len a.lent.room a.lent.used a.pair.usage a.pair.number bytes 0 c.in_ok-facts.facts
+    (sym c.opened.ensures ∙ c.in_ok-facts.was) c.in-Some.piece c.in-Some.is in
+    own a.lent.profile b a.lent.len a.lent.room a.lent.used a.pair.usage a.pair.number a.kind a.d.now bytes c.in_ok-facts.facts c.in-Some.piece T
+    c.if-piece.false
 
 pub returns-in_err-replace_fault : goal.returns-in_err-replace_fault
 returns-in_err-replace_fault c =
     let a = c.args in
     let b = a.buf.now in
     let bytes : All Byte (take a.lent.len b) = all_take Byte a.lent.len b (bytes-all b (λ i. omega (arith, c.type_inv.buf i))) in
-    let T = told a.lent.profile b a.lent.len a.lent.room a.lent.used a.pair.usage a.pair.number bytes 0 c.in_ok-facts.facts (sym c.opened.ensures ∙ c.in_ok-facts.was) c.in-Some.piece c.in-Some.is in
+    let T = told a.lent.profile b a.lent.len a.lent.room a.lent.used a.pair.usage a.pair.number bytes 0 c.in_ok-facts.facts
+    (sym c.opened.ensures ∙ c.in_ok-facts.was) c.in-Some.piece c.in-Some.is in
     let p = err_from_is_err_and c.from_residual-in_err-replace_fault.result c.from_residual-in_err-replace_fault.ensures.1 in
-    rw (p.1, p.2) (plan_judged a.lent.profile b a.lent.len a.lent.room a.lent.used a.pair.usage a.pair.number a.kind a.d.now bytes c.in_ok-facts.facts c.in-Some.piece T c.if-piece.false
-    (sym c.is_whole-whole.ensures ∙ c.if-not-whole.false) c.held-body.result.now c.held-body.ensures c.replace_fault.result c.replace_fault.ensures _ c.in_err-replace_fault.was)
+    rw (p.1, p.2) (plan_judged a.lent.profile b a.lent.len a.lent.room a.lent.used a.pair.usage a.pair.number a.kind a.d.now bytes c.in_ok-facts.facts
+    c.in-Some.piece T c.if-piece.false
+    (sym c.is_whole-whole.ensures ∙ c.if-not-whole.false) c.held-body.result.now c.held-body.ensures c.replace_fault.result c.replace_fault.ensures _
+    c.in_err-replace_fault.was)
 
 pub overflow_sub-size : goal.overflow_sub-size
 overflow_sub-size c =
     let a = c.args in
     let b = a.buf.now in
     let bytes : All Byte (take a.lent.len b) = all_take Byte a.lent.len b (bytes-all b (λ i. omega (arith, c.type_inv.buf i))) in
-    let T = told a.lent.profile b a.lent.len a.lent.room a.lent.used a.pair.usage a.pair.number bytes 0 c.in_ok-facts.facts (sym c.opened.ensures ∙ c.in_ok-facts.was) c.in-Some.piece c.in-Some.is in
-    inside a.lent.profile b a.lent.len a.lent.room a.lent.used a.pair.usage a.pair.number a.kind a.d.now bytes c.in-Some.piece T.found T.piece_is c.gone_size-old.result c.gone_size-old.ensures
+    let T = told a.lent.profile b a.lent.len a.lent.room a.lent.used a.pair.usage a.pair.number bytes 0 c.in_ok-facts.facts
+    (sym c.opened.ensures ∙ c.in_ok-facts.was) c.in-Some.piece c.in-Some.is in
+    inside a.lent.profile b a.lent.len a.lent.room a.lent.used a.pair.usage a.pair.number a.kind a.d.now bytes c.in-Some.piece T.found T.piece_is
+    c.gone_size-old.result c.gone_size-old.ensures
 
 pub overflow_add-size-3 : goal.overflow_add-size-3
 overflow_add-size-3 c =
     let a = c.args in
     let b = a.buf.now in
     let bytes : All Byte (take a.lent.len b) = all_take Byte a.lent.len b (bytes-all b (λ i. omega (arith, c.type_inv.buf i))) in
-    let T = told a.lent.profile b a.lent.len a.lent.room a.lent.used a.pair.usage a.pair.number bytes 0 c.in_ok-facts.facts (sym c.opened.ensures ∙ c.in_ok-facts.was) c.in-Some.piece c.in-Some.is in
+    let T = told a.lent.profile b a.lent.len a.lent.room a.lent.used a.pair.usage a.pair.number bytes 0 c.in_ok-facts.facts
+    (sym c.opened.ensures ∙ c.in_ok-facts.was) c.in-Some.piece c.in-Some.is in
     omega (arith, T.found.stands.short)
 
 pub overflow_sub-lent : goal.overflow_sub-lent
@@ -100,7 +116,8 @@ overflow_sub-lent c =
     let a = c.args in
     let b = a.buf.now in
     let bytes : All Byte (take a.lent.len b) = all_take Byte a.lent.len b (bytes-all b (λ i. omega (arith, c.type_inv.buf i))) in
-    let T = told a.lent.profile b a.lent.len a.lent.room a.lent.used a.pair.usage a.pair.number bytes 0 c.in_ok-facts.facts (sym c.opened.ensures ∙ c.in_ok-facts.was) c.in-Some.piece c.in-Some.is in
+    let T = told a.lent.profile b a.lent.len a.lent.room a.lent.used a.pair.usage a.pair.number bytes 0 c.in_ok-facts.facts
+    (sym c.opened.ensures ∙ c.in_ok-facts.was) c.in-Some.piece c.in-Some.is in
     T.found.used_in
 
 pub returns-in_err-with_room : goal.returns-in_err-with_room
@@ -108,9 +125,11 @@ returns-in_err-with_room c =
     let a = c.args in
     let b = a.buf.now in
     let bytes : All Byte (take a.lent.len b) = all_take Byte a.lent.len b (bytes-all b (λ i. omega (arith, c.type_inv.buf i))) in
-    let T = told a.lent.profile b a.lent.len a.lent.room a.lent.used a.pair.usage a.pair.number bytes 0 c.in_ok-facts.facts (sym c.opened.ensures ∙ c.in_ok-facts.was) c.in-Some.piece c.in-Some.is in
+    let T = told a.lent.profile b a.lent.len a.lent.room a.lent.used a.pair.usage a.pair.number bytes 0 c.in_ok-facts.facts
+    (sym c.opened.ensures ∙ c.in_ok-facts.was) c.in-Some.piece c.in-Some.is in
     let p = err_from_is_err_and c.from_residual-in_err-with_room.result c.from_residual-in_err-with_room.ensures.1 in
-    rw (p.1, p.2) (plan_full a.lent.profile b a.lent.len a.lent.room a.lent.used a.pair.usage a.pair.number a.kind a.d.now bytes c.in_ok-facts.facts c.in-Some.piece T c.if-piece.false
+    rw (p.1, p.2) (plan_full a.lent.profile b a.lent.len a.lent.room a.lent.used a.pair.usage a.pair.number a.kind a.d.now bytes c.in_ok-facts.facts
+    c.in-Some.piece T c.if-piece.false
     (sym c.is_whole-whole.ensures ∙ c.if-not-whole.false) c.held-body.result.now c.held-body.ensures c.replace_fault.result c.replace_fault.ensures
     (ap verdict_of c.in_ok-replace_fault.was) c.gone_size-old.result c.gone_size-old.ensures c.with_room.result c.with_room.ensures _ c.in_err-with_room.was)
 
@@ -119,7 +138,10 @@ returns c =
     let a = c.args in
     let b = a.buf.now in
     let bytes : All Byte (take a.lent.len b) = all_take Byte a.lent.len b (bytes-all b (λ i. omega (arith, c.type_inv.buf i))) in
-    let T = told a.lent.profile b a.lent.len a.lent.room a.lent.used a.pair.usage a.pair.number bytes 0 c.in_ok-facts.facts (sym c.opened.ensures ∙ c.in_ok-facts.was) c.in-Some.piece c.in-Some.is in
-    plan_fine a.lent.profile b a.lent.len a.lent.room a.lent.used a.pair.usage a.pair.number a.kind a.d.now bytes c.in_ok-facts.facts c.in-Some.piece T c.if-piece.false
+    let T = told a.lent.profile b a.lent.len a.lent.room a.lent.used a.pair.usage a.pair.number bytes 0 c.in_ok-facts.facts
+    (sym c.opened.ensures ∙ c.in_ok-facts.was) c.in-Some.piece c.in-Some.is in
+    plan_fine a.lent.profile b a.lent.len a.lent.room a.lent.used a.pair.usage a.pair.number a.kind a.d.now bytes c.in_ok-facts.facts c.in-Some.piece T
+    c.if-piece.false
     (sym c.is_whole-whole.ensures ∙ c.if-not-whole.false) c.held-body.result.now c.held-body.ensures c.replace_fault.result c.replace_fault.ensures
-    (ap verdict_of c.in_ok-replace_fault.was) c.gone_size-old.result c.gone_size-old.ensures c.with_room.result c.with_room.ensures (ap verdict_of c.in_ok-with_room.was)
+    (ap verdict_of c.in_ok-replace_fault.was) c.gone_size-old.result c.gone_size-old.ensures c.with_room.result c.with_room.ensures
+    (ap verdict_of c.in_ok-with_room.was)

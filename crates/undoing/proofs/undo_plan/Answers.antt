@@ -49,13 +49,16 @@ returns-in_err-facts c =
     let a = c.args in
     let q = c.of-asked.result in
     let p = err_from_is_err_and c.from_residual.result c.from_residual.ensures.1 in
-    rw (p.1, p.2) (unread a.profile a.buf.now a.len a.jrn.now a.used (known (goal.at.returns-in_err-facts c).After-inspect) (file-lent (goal.at.returns-in_err-facts c).After-inspect) (journal_lent (goal.at.returns-in_err-facts c).After-inspect) q.usage q.number q.at _ _ (sym c.inspect.ensures ∙ c.in_err-facts.was))
+    rw (p.1, p.2) (unread a.profile a.buf.now a.len a.jrn.now a.used (known (goal.at.returns-in_err-facts c).After-inspect)
+    (file-lent (goal.at.returns-in_err-facts c).After-inspect) (journal_lent (goal.at.returns-in_err-facts c).After-inspect) q.usage q.number q.at _ _
+    (sym c.inspect.ensures ∙ c.in_err-facts.was))
 
 pub returns-then-used-eq0 : goal.returns-then-used-eq0
 returns-then-used-eq0 c =
     let a = c.args in
     let q = c.of-asked.result in
-    nothing_used a.profile a.buf.now a.len a.jrn.now a.used (known (goal.at.returns-then-used-eq0 c).After-inspect) (file-lent (goal.at.returns-then-used-eq0 c).After-inspect) (journal_lent (goal.at.returns-then-used-eq0 c).After-inspect) q.usage q.number q.at
+    nothing_used a.profile a.buf.now a.len a.jrn.now a.used (known (goal.at.returns-then-used-eq0 c).After-inspect)
+    (file-lent (goal.at.returns-then-used-eq0 c).After-inspect) (journal_lent (goal.at.returns-then-used-eq0 c).After-inspect) q.usage q.number q.at
     c.in_ok-facts.facts (sym c.inspect.ensures ∙ c.in_ok-facts.was) c.if-used-eq0.true
 
 pub returns-in_err-r : goal.returns-in_err-r
@@ -65,7 +68,8 @@ returns-in_err-r c =
     let p = err_from_is_err_and c.from_residual-in_err-r.result c.from_residual-in_err-r.ensures.1 in
     let none : c.last_record-last.result ≡ None = grind arith in
     let e : ◌≡◌ {A = ℕ × ℕ} c.in_err-r.field-0.0 (21, 0) = grind arith in
-    rw (p.1, p.2, e) (unformed a.profile a.buf.now a.len a.jrn.now a.used (known (goal.at.returns-in_err-r c).After-inspect) (file-lent (goal.at.returns-in_err-r c).After-inspect) (journal_lent (goal.at.returns-in_err-r c).After-inspect) q.usage q.number q.at
+    rw (p.1, p.2, e) (unformed a.profile a.buf.now a.len a.jrn.now a.used (known (goal.at.returns-in_err-r c).After-inspect)
+    (file-lent (goal.at.returns-in_err-r c).After-inspect) (journal_lent (goal.at.returns-in_err-r c).After-inspect) q.usage q.number q.at
     c.in_ok-facts.facts (sym c.inspect.ensures ∙ c.in_ok-facts.was) c.if-used-eq0.false (sym c.last_record-last.ensures ∙ none))
 
 pub plan_fitting-requires : goal.plan_fitting-requires
@@ -77,7 +81,8 @@ plan_fitting-requires c =
     let bb : All Byte a.buf.now = bytes-all a.buf.now (λ i. omega (arith, file-known i)) in
     let bj : All Byte a.jrn.now = bytes-all a.jrn.now (λ i. omega (arith, journal-known i)) in
     let some : c.last_record-last.result ≡ Some c.in_ok-r.r = grind arith in
-    asked a.profile a.buf.now a.len a.jrn.now a.used (known (goal.at.plan_fitting-requires c).After-inspect) (file-lent (goal.at.plan_fitting-requires c).After-inspect) (journal_lent (goal.at.plan_fitting-requires c).After-inspect) q.usage q.number q.at
+    asked a.profile a.buf.now a.len a.jrn.now a.used (known (goal.at.plan_fitting-requires c).After-inspect)
+    (file-lent (goal.at.plan_fitting-requires c).After-inspect) (journal_lent (goal.at.plan_fitting-requires c).After-inspect) q.usage q.number q.at
     c.in_ok-facts.facts (sym c.inspect.ensures ∙ c.in_ok-facts.was) c.if-used-eq0.false
     c.in_ok-r.r (sym c.last_record-last.ensures ∙ some) bb bj (c.of-asked.ensures ∙ ap question_of some)
 
@@ -89,8 +94,10 @@ returns-in_err-plan c =
     let some : c.last_record-last.result ≡ Some c.in_ok-r.r = grind arith in
     let none : c.plan_fitting.result ≡ None = grind arith in
     let e : ◌≡◌ {A = ℕ × ℕ} c.in_err-plan.field-0.0 (21, 0) = grind arith in
-    rw (p.1, p.2, e) (unfit a.profile a.buf.now a.len a.jrn.now a.used (known (goal.at.returns-in_err-plan c).After-inspect) (file-lent (goal.at.returns-in_err-plan c).After-inspect) (journal_lent (goal.at.returns-in_err-plan c).After-inspect) q.usage q.number q.at
-    c.in_ok-facts.facts (sym c.inspect.ensures ∙ c.in_ok-facts.was) c.if-used-eq0.false c.in_ok-r.r (sym c.last_record-last.ensures ∙ some) (sym c.plan_fitting.ensures ∙ none))
+    rw (p.1, p.2, e) (unfit a.profile a.buf.now a.len a.jrn.now a.used (known (goal.at.returns-in_err-plan c).After-inspect)
+    (file-lent (goal.at.returns-in_err-plan c).After-inspect) (journal_lent (goal.at.returns-in_err-plan c).After-inspect) q.usage q.number q.at
+    c.in_ok-facts.facts (sym c.inspect.ensures ∙ c.in_ok-facts.was) c.if-used-eq0.false c.in_ok-r.r (sym c.last_record-last.ensures ∙ some)
+    (sym c.plan_fitting.ensures ∙ none))
 
 pub returns-then-buf-plan : goal.returns-then-buf-plan
 returns-then-buf-plan c =
@@ -98,7 +105,8 @@ returns-then-buf-plan c =
     let q = c.of-asked.result in
     let some : c.last_record-last.result ≡ Some c.in_ok-r.r = grind arith in
     let planned : c.plan_fitting.result ≡ Some c.in_ok-plan.plan = grind arith in
-    no_room a.profile a.buf.now a.len a.jrn.now a.used (known (goal.at.returns-then-buf-plan c).After-inspect) (file-lent (goal.at.returns-then-buf-plan c).After-inspect) (journal_lent (goal.at.returns-then-buf-plan c).After-inspect) q.usage q.number q.at
+    no_room a.profile a.buf.now a.len a.jrn.now a.used (known (goal.at.returns-then-buf-plan c).After-inspect)
+    (file-lent (goal.at.returns-then-buf-plan c).After-inspect) (journal_lent (goal.at.returns-then-buf-plan c).After-inspect) q.usage q.number q.at
     c.in_ok-facts.facts (sym c.inspect.ensures ∙ c.in_ok-facts.was) c.if-used-eq0.false c.in_ok-r.r (sym c.last_record-last.ensures ∙ some)
     c.in_ok-plan.plan (sym c.plan_fitting.ensures ∙ planned) c.if-buf-plan.true
 
@@ -108,6 +116,7 @@ returns c =
     let q = c.of-asked.result in
     let some : c.last_record-last.result ≡ Some c.in_ok-r.r = grind arith in
     let planned : c.plan_fitting.result ≡ Some c.in_ok-plan.plan = grind arith in
-    room_for a.profile a.buf.now a.len a.jrn.now a.used (known (goal.at.returns c).After-inspect) (file-lent (goal.at.returns c).After-inspect) (journal_lent (goal.at.returns c).After-inspect) q.usage q.number q.at
+    room_for a.profile a.buf.now a.len a.jrn.now a.used (known (goal.at.returns c).After-inspect) (file-lent (goal.at.returns c).After-inspect)
+    (journal_lent (goal.at.returns c).After-inspect) q.usage q.number q.at
     c.in_ok-facts.facts (sym c.inspect.ensures ∙ c.in_ok-facts.was) c.if-used-eq0.false c.in_ok-r.r (sym c.last_record-last.ensures ∙ some)
     c.in_ok-plan.plan (sym c.plan_fitting.ensures ∙ planned) c.if-buf-plan.false

@@ -51,7 +51,8 @@ returns-then-not-allows c =
     out_114 a.profile f a.count a.target a.pair.usage a.pair.number a.kind a.d.now bytes
     c.requires (omega arith) (omega arith) (omega arith)
     c.if-len-m-gt16777216.false c.if-kind-eq-RIDX.false c.if-count-gt4096.false
-    (known_is _ _ (sym c.of_code.ensures ∙ c.in-Some.is)).0 (sym (c.allows.ensures ∙ allows_known _ _ _ _ (sym c.of_code.ensures ∙ c.in-Some.is)) ∙ c.if-not-allows.true)
+    (known_is _ _ (sym c.of_code.ensures ∙ c.in-Some.is)).0 (sym (c.allows.ensures ∙ allows_known _ _ _ _ (sym c.of_code.ensures ∙ c.in-Some.is)) ∙
+    c.if-not-allows.true)
 
 pub returns-then-not-number_fits : goal.returns-then-not-number_fits
 returns-then-not-number_fits c =
