@@ -8,7 +8,8 @@ use mathlib.Core.List.{List}
 use mathlib.Core.Bool.{Bool, true, false, cond, ◌&&◌}
 use native.Mathlib.Omega.{arith}
 use native.Mathlib.Numerals.{add-one}
-use native.Mathlib.Nat.{mul_assoc, mul_comm, add_comm, one-mul, zero-mul, mul-pos, mul-le-mul, eq_of_mul-eq-mul_right, add-zero, pow-suc, lt_of_lt_of_le, div-eq_of_lt}
+use native.Mathlib.Nat.{mul_assoc, mul_comm, add_comm, one-mul, zero-mul, mul-pos, mul-le-mul, add-zero, pow-suc, lt_of_lt_of_le, div-eq_of_lt}
+use lib.Arith.{mod-mul}
 use lib.Pow.{pow-add, pow_pos, pow_mono, shr-shr, shl-shr, shl_exact, mod-pow-add}
 use native.Mathlib.Nat.{mul-mod_left, mul-div_cancel, div-add-mod'}
 use lib.ListN.{drop, get_or}
@@ -21,35 +22,6 @@ use Rattle.std.specs.Option.{SomeIff}
 use Rattle.aiff.specs.Rate.{rd16, numerator, denominator, whole_of, rate_of, rate_in}
 use Rattle.aiff.specs.Meaning.{Exactly}
 
--- an odd number of halves less than all of them is not whole
-odd_left : (m e j : ℕ) → (m % 2 ≡ 0 → ⊥) → m * 2 ^ e % 2 ^ (e + suc j) ≡ 0 → ⊥
-odd_left m e j h z =
-    let p : ℕ = 2 ^ e in
-    let q : ℕ = 2 ^ j in
-    let d : 2 ^ (e + suc j) ≡ p * (q * 2) = pow-add 2 e (suc j) ∙ rw (pow-suc 2 j) in
-    let t : ℕ = m * p / (p * (q * 2)) in
-    let y : m * p % (p * (q * 2)) ≡ 0 = rw d at z in
-    let x : t * (p * (q * 2)) + m * p % (p * (q * 2)) ≡ m * p = div-add-mod' (m * p) (p * (q * 2)) in
-    let w : t * (p * (q * 2)) ≡ m * p = omega arith in
-    let v : t * (q * 2) * p ≡ m * p = mul_assoc t (q * 2) p ∙ ap (λ (k : ℕ). t * k) (mul_comm (q * 2) p) ∙ w in
-    let u : t * (q * 2) ≡ m = eq_of_mul-eq-mul_right p (pow_pos e) (t * (q * 2)) m v in
-    h (ap (λ (k : ℕ). k % 2) (sym u ∙ sym (mul_assoc t q 2)) ∙ mul-mod_left (t * q) 2)
-
--- a number of 32 bits or more, doubled
-doubles : (m k j : ℕ) → m * 2 ^ (k + suc j) / 2 ^ k ≡ m * (2 ^ j * 2)
-doubles m k j =
-    let p : ℕ = 2 ^ k in
-    let q : ℕ = 2 ^ j in
-    let d : 2 ^ (k + suc j) ≡ p * (q * 2) = pow-add 2 k (suc j) ∙ rw (pow-suc 2 j) in
-    let e : m * (p * (q * 2)) ≡ m * (q * 2) * p = ap (λ (x : ℕ). m * x) (mul_comm p (q * 2)) ∙ sym (mul_assoc m (q * 2) p) in
-    rw (d, e) (mul-div_cancel (m * (q * 2)) (pow_pos k))
-
-grown : (m q : ℕ) → 0 < q → 2147483647 < m → 4294967295 < m * (q * 2)
-grown m q hq hm =
-    let a : 2 ≤ q * 2 = omega arith in
-    let b : 2147483648 ≤ m = omega arith in
-    omega (arith, mul-le-mul b a)
-
 last_false : (a b : Bool) → a && b && false ≡ false
 last_false true true = refl
 last_false true false = refl
@@ -59,14 +31,6 @@ last_false false b = refl
 denominator_pos : 0 < denominator
 unfolding denominator
 denominator_pos = pow_pos 16446
-
-pub whole_not : (n : ℕ) → (n % denominator ≡ 0 → ⊥) → None ≡ whole_of n
-unfolding whole_of
-whole_not n h = rw (ne_eqb (n % denominator) 0 h)
-
-pub whole_big : (n : ℕ) → 4294967295 < n / denominator → None ≡ whole_of n
-unfolding whole_of
-whole_big n h = rw (lt-leb (n / denominator) 4294967295 h, last_false (eqb (n % denominator) 0) (leb 1 (n / denominator)))
 
 numerator_unit : (m : ℕ) → numerator m 16446 ≡ m * denominator
 unfolding numerator denominator
@@ -82,9 +46,6 @@ module _ (m : ℕ) where
   range-zero : m ≡ 0 → None ≡ whole_of (numerator m 16446)
   unfolding whole_of
   range-zero e = rw (numerator_unit m, unit_mod, unit_div, e)
-
-  range_big : 4294967295 < m → None ≡ whole_of (numerator m 16446)
-  range_big h = rw (numerator_unit m) (whole_big (m * denominator) (rw unit_div h))
 
   range_whole : (m ≡ 0 → ⊥) → m ≤ 4294967295 → Some m ≡ whole_of (numerator m 16446)
   unfolding whole_of
@@ -205,7 +166,7 @@ module _ (m e : ℕ) where
           let b : 0 < m * u = mul-pos (omega arith) a in
           rw (timed, ← eq) (kept_if 0 q t refl (omega arith) o)
 
--- the code's loops keep the numerator
+-- halving and doubling the significand keep the numerator
 pub halve : (m e : ℕ) → m % 2 ≡ 0 → numerator (m / 2) (e + 1) ≡ numerator m e
 unfolding numerator
 halve m e h =
@@ -219,21 +180,27 @@ double m (suc k) h =
     let q : suc k - 1 ≡ k = omega arith in
     rw (q, pow-suc 2 k, mul_comm (2 ^ k) 2, mul_assoc m 2 (2 ^ k))
 
+-- what a power of two divides, 2 divides
+even : (m j : ℕ) → m % 2 ^ suc j ≡ 0 → m % 2 ≡ 0
+even m j z =
+    let e : m % (2 ^ j * 2) ≡ m / 2 % 2 ^ j * 2 + m % 2 = mod-mul m (pow_pos j) (omega arith) in
+    let y : m % (2 ^ j * 2) ≡ 0 = rw pow-suc at z in
+    omega arith
+
 pub odd-none : (m e : ℕ) → e < 16446 → (m % 2 ≡ 0 → ⊥) → None ≡ whole_of (numerator m e)
-unfolding numerator denominator
 odd-none m e l h =
     let j : ℕ = 16446 - e - 1 in
-    let q : e + suc j ≡ 16446 = omega arith in
-    let z : m * 2 ^ e % 2 ^ 16446 ≡ 0 → ⊥ = rw q at (odd_left m e j h) in
-    whole_not (m * 2 ^ e) z
+    rw (below m e (suc j) (omega arith)) (kept_left (m % 2 ^ suc j) (m / 2 ^ suc j) (λ z. h (even m j z)))
 
 pub large_none : (m e : ℕ) → 16446 < e → 2147483647 < m → None ≡ whole_of (numerator m e)
-unfolding numerator denominator
 large_none m e l h =
     let j : ℕ = e - 16446 - 1 in
-    let q : 16446 + suc j ≡ e = omega arith in
-    let d : m * 2 ^ e / 2 ^ 16446 ≡ m * (2 ^ j * 2) = rw q at (doubles m 16446 j) in
-    whole_big (m * 2 ^ e) (rw d (grown m (2 ^ j) (pow_pos j) h))
+    let p : 1 ≤ suc j = omega arith in
+    let a : 2 ^ 1 ≤ 2 ^ suc j = pow_mono p in
+    let b : 2147483648 ≤ m = omega arith in
+    let c : 2147483648 * 2 ^ 1 ≤ m * 2 ^ suc j = mul-le-mul b a in
+    let d : 4294967295 < m * 2 ^ suc j = omega arith in
+    rw (above m e (suc j) (omega arith)) (kept_large 0 (m * 2 ^ suc j) d)
 
 -- the rate's own branches
 module _ (sign e m : ℕ) where
