@@ -1,5 +1,7 @@
 -- What the two ways of reading promise (02, P7): by entry every entry is given, whether its resource is in the index or not; by pair only those whose
 -- resource is; and 39 stands at the first byte behind the longest good beginning.
+use Rattle.std.specs.Prelude.{Ok}
+use Rattle.blorb.specs.Refusals.{Refused}
 use mathlib.Core.Path.{◌≡◌, ◌∙◌}
 use Prim.Native.Nat.{ℕ, ◌+◌, ◌≤◌, ◌<◌}
 use mathlib.Core.List.{List, ◌++◌, ◌∷◌}
@@ -16,11 +18,10 @@ use Rattle.rdes.specs.Rdes.{RDes, Desc, offset_of, pair_among, good_text, entrie
 use Rattle.locate.specs.Located.{located_of, data_at}
 use Rattle.locate.specs.declared.Located.TheVariants as located
 use Rattle.descriptions.specs.Texts.{rdes_verdict, given_at, described_of, told_of}
-use Rattle.descriptions.specs.declared.Told.TheVariants.{Refused}
 
 -- by entry: each entry of the one good 'RDes' is given as it stands, "from 0", whatever the index has
-pub each_entry : (profile : ℕ) (f : List ℕ) (x m i : ℕ) → located_of profile f RDes ≡ located.One x m → rdes_verdict profile f ≡ accept
-    → i < rd32 (data_at f x m) → described_of profile f i ≡ given_at (data_at f x m) x (offset_of (data_at f x m) i 4)
+pub each_entry : (profile : ℕ) (f : List ℕ) (x m i : ℕ) → located_of profile f RDes ≡ Ok (located.One x m) → rdes_verdict profile f ≡ accept
+    → i < rd32 (data_at f x m) → described_of profile f i ≡ Ok (given_at (data_at f x m) x (offset_of (data_at f x m) i 4))
 unfolding described_of
 each_entry profile f x m i one good h = rw (good, one, lt-ltb i (rd32 (data_at f x m)) h)
 

@@ -7,8 +7,7 @@ use Rattle.blorb.specs.Verdict.{refuse}
 use Rattle.rdes.specs.Rdes.{RDes}
 use Rattle.locate.proofs.Promises.{located_unknown}
 use Rattle.descriptions.specs.Texts.{rdes_verdict, described_of, told_of, text_of, told_text_of}
-use Rattle.descriptions.specs.declared.Described.TheVariants.{Refused}
-use Rattle.descriptions.specs.declared.Told.TheVariants.{Refused as Untold}
+use Rattle.blorb.specs.Refusals.{Refused}
 
 unknown_rdes : (profile : ℕ) (f : List ℕ) → 1 < profile → rdes_verdict profile f ≡ refuse 52 0
 unfolding rdes_verdict
@@ -16,6 +15,6 @@ unknown_rdes profile f h = rw (located_unknown profile f RDes h)
 
 pub unknown_texts : (profile : ℕ) (f : List ℕ) → 1 < profile
     → ((i : ℕ) → (described_of profile f i ≡ Refused 52 0) × (text_of (described_of profile f i) f ≡ []))
-    × ((u k : ℕ) → (told_of profile f u k ≡ Untold 52 0) × (told_text_of (told_of profile f u k) f ≡ []))
+    × ((u k : ℕ) → (told_of profile f u k ≡ Refused 52 0) × (told_text_of (told_of profile f u k) f ≡ []))
 unfolding described_of told_of
 unknown_texts profile f h = let v = unknown_rdes profile f h in ((λ i. (rw v, rw v)), λ u k. (rw v, rw v))

@@ -121,9 +121,10 @@ impl<'a> Entries<'a> {
         requires { (at + 12 ≤ length self.now.bytes) × (next_at self.now.bytes at ≤ length self.now.bytes) }
         ensures { result ≡ told_with (self.now.start + 8 + at + 12) (size_at self.now.bytes at) }
     {
+        let length = blorb::be32_at(self.bytes, at + 8) as usize;
         Told {
             start: self.place(at + 12),
-            length: blorb::be32_at(self.bytes, at + 8) as usize,
+            length,
         }
     }
 

@@ -70,10 +70,10 @@ fn open_rdes(file: &[u8], profile: u32) -> Result<Option<Entries<'_>>, Refusal>
 pub fn describe(file: &[u8], profile: u32, i: u64) -> Result<Described, Refusal>
     ensures { result ≡ described_of profile file.now i }
 {
-    let Some(entries) = open_rdes(file, profile)? else {
-        return Err(not_there());
-    };
-    entries.get(i as usize).ok_or(not_there())
+    match open_rdes(file, profile)? {
+        Some(entries) => entries.get(i as usize).ok_or(not_there()),
+        None => Err(not_there()),
+    }
 }
 
 // The text that `describe` names: these very bytes, where they lie. It is empty where `describe` refuses.
@@ -94,22 +94,19 @@ fn code(usage: [u8; 4]) -> u64
 }
 
 // Where the text of the pair is, under a profile; 22 for a pair that is not in the index, as for one without a text.
-pub fn tell(
-    file: &[u8],
-    profile: u32,
-    usage: [u8; 4],
-    number: u32,
-) -> Result<Told, Refusal>
+pub fn tell(file: &[u8], profile: u32, usage: [u8; 4], number: u32) -> Result<Told, Refusal>
     ensures { result ≡ told_of profile file.now (rd32 usage) number }
 {
-    let Some(entries) = open_rdes(file, profile)? else {
-        return Err(not_there());
-    };
-    let pair = code(usage);
-    if !locate::in_index(file, pair, number as u64) {
-        return Err(not_there());
+    match open_rdes(file, profile)? {
+        Some(entries) => {
+            let pair = code(usage);
+            if !locate::in_index(file, pair, number as u64) {
+                return Err(not_there());
+            }
+            entries.tell(pair, number as u64).ok_or(not_there())
+        }
+        None => Err(not_there()),
     }
-    entries.tell(pair, number as u64).ok_or(not_there())
 }
 
 // The text that `tell` names: these very bytes, where they lie. It is empty where `tell` refuses.
