@@ -1,14 +1,13 @@
 -- Marks that are set stay set, so each marked entry has all its marks set. This is all that is known of the marks.
-use Prim.Native.Nat.{ℕ, ◌+◌, ◌*◌, ◌%◌, ◌^◌, ◌≤◌, ◌<◌}
+use Prim.Native.Nat.{ℕ, ◌+◌, ◌≤◌, ◌<◌}
 use mathlib.Core.Path.{◌≡◌, ap, sym, ◌∙◌, subst}
 use mathlib.Core.List.{List}
 use mathlib.Core.Logic.{⊎_elim}
 use native.Mathlib.Omega.{arith}
 use native.Mathlib.Numerals.{add-one}
-use native.Mathlib.Nat.{eq-or-lt_of_le, le_of_suc-le-suc, mod-eq_of_lt, mul-le-mul}
+use native.Mathlib.Nat.{eq-or-lt_of_le, le_of_suc-le-suc}
 use lib.ListN.{length, get_or, set}
 use lib.Seq.{get_or-set_same, get_or-set_other}
-use lib.Pow.{pow-lt}
 use lib.Bits.{bit_and, bit_or}
 use Rattle.repeats.specs.Marks.{word_of, bits_of, Covers, Marked}
 use Rattle.repeats.proofs.Bits.{cover_more, cover_own}
@@ -52,10 +51,3 @@ module _ (k : ℕ → ℕ) where
   pub marked_to : (f : ℕ) (ms : List ℕ) (b j e : ℕ) → e ≤ j → Marked ms f k b j → Marked ms f k b e
   unfolding Marked
   marked_to f ms b j e h m x l n = m x l (omega arith)
-
--- a bit's number, shifted
-pub bit_is : (x : ℕ) → x < 64 → (1 * 2 ^ x) % 18446744073709551616 ≡ 2 ^ x
-bit_is x h = let e : 1 * 2 ^ x ≡ 2 ^ x = omega arith in ap (λ (z : ℕ). z % 18446744073709551616) e ∙ mod-eq_of_lt (pow-lt {i = x} {j = 64} h)
-
-pub product_small : (y f : ℕ) → y < 4294967296 → f < 2048144776 → y * f ≤ 4294967295 * 2048144775
-product_small y f h g = mul-le-mul {n₁ = y} {m₁ = f} {n₂ = 4294967295} {m₂ = 2048144775} (omega arith) (omega arith)

@@ -1,7 +1,7 @@
-use mathlib.Core.Path.{◌≡◌, ◌∙◌}
+use mathlib.Core.Path.{◌∙◌}
 use native.Mathlib.Omega.{arith}
 use Rattle.repeats.specs.Source.{key}
-use Rattle.repeats.proofs.SearchLaws.{across_none, across_to, hit_among}
+use Rattle.repeats.proofs.SearchLaws.{across_none, hit_among}
 use Rattle.repeats.proofs.SuspectLaws.{across_round, held-among}
 use Rattle.repeats.proofs.SourceLaws.{inside_to, inside_in}
 use Rattle.repeats.proofs.first_across.Goals as goal

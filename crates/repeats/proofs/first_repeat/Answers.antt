@@ -1,8 +1,7 @@
-use mathlib.Core.Path.{◌≡◌, ◌∙◌}
+use mathlib.Core.Path.{◌∙◌}
 use native.Mathlib.Omega.{arith}
 use Prim.Native.Nat.{◌+◌}
 use Rattle.repeats.specs.Source.{key}
-use Rattle.repeats.specs.Repeats.{Apart}
 use Rattle.repeats.proofs.Answers.{first-at, first-none}
 use Rattle.repeats.proofs.SearchLaws.{apart_join, apart_to, hit_among}
 use Rattle.repeats.proofs.SourceLaws.{inside_in}

@@ -1,9 +1,5 @@
 -- The entries of this list can be read, and its keys are those of the contract.
-use mathlib.Core.Path.{◌≡◌, ap, ◌∙◌}
-use mathlib.Core.List.{List}
-use Prim.Native.Nat.{ℕ}
-use Rattle.repeats.specs.Source.{of_numbers, key}
-use Rattle.repeats.specs.Repeats.{first_repeat_of}
+use mathlib.Core.Path.{◌∙◌}
 use Rattle.repeats.proofs.SourceLaws.{list_inside, list_answer}
 use Rattle.repeats.proofs.in_list.Goals as goal
 

@@ -2,7 +2,7 @@ use mathlib.Core.Path.{◌≡◌, refl, ◌∙◌}
 use borrow.Author.Rules.{rules}
 use native.Mathlib.Omega.{arith}
 use Rattle.repeats.specs.Source.{key}
-use Rattle.repeats.proofs.MarkLaws.{marked_none, marked_at, marked_to}
+use Rattle.repeats.proofs.MarkLaws.{marked_none, marked_at}
 use Rattle.repeats.proofs.SourceLaws.{reads_in}
 use Rattle.repeats.proofs.mark_all.Goals as goal
 

@@ -1,8 +1,6 @@
 use mathlib.Core.Path.{◌≡◌, refl, ◌∙◌}
 use borrow.Author.Rules.{rules}
 use native.Mathlib.Omega.{arith}
-use Prim.Native.Nat.{◌<◌}
-use lib.ListN.{length}
 use Rattle.repeats.specs.Source.{key}
 use Rattle.repeats.proofs.MarkLaws.{marked_at}
 use Rattle.repeats.proofs.SuspectLaws.{repeats-none, repeats_more}
