@@ -132,7 +132,8 @@ rate_at_lem f at = rw (drop-drop 2 at f, drop-drop 6 at f)
 
 rate_take : (s : List ℕ) → rate_in (drop 8 (take 18 s)) ≡ rate_in (drop 8 s)
 rate_take s =
-    rate_at_lem (take 18 s) 8 ∙ rw (rd16_within 18 8 s (omega arith), rd32_within 18 10 s (omega arith), rd32_within 18 14 s (omega arith)) (sym (rate_at_lem s 8))
+    rate_at_lem (take 18 s) 8
+    ∙ rw (rd16_within 18 8 s (omega arith), rd32_within 18 10 s (omega arith), rd32_within 18 14 s (omega arith)) (sym (rate_at_lem s 8))
 
 -- a 'COMM' chunk's fields, from the file's bytes
 pub sound-at : (f : List ℕ) (at : ℕ) → sound_of (take 18 (drop (at + 8) f))

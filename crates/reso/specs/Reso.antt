@@ -1,6 +1,7 @@
 -- The 'Reso' chunk's data (02, P4; 001, section 11.2): "24 bytes of standard, least and greatest window, each width then height, then 28 bytes an entry:
 -- picture number and three fractions, standard, least and greatest ratio". d is the data.
-use Rattle.std.specs.Prelude.{ℕ, zero, suc, ◌+◌, ◌-◌, ◌/◌, ◌%◌, List, [], ◌∷◌, map, Bool, true, ◌&&◌, ◌||◌, not, cond, length, drop, eqb, leb, Option, Some, None}
+use Rattle.std.specs.Prelude.{ℕ, zero, suc, ◌+◌, ◌-◌, ◌/◌, ◌%◌, List, [], ◌∷◌, map, length, drop, Option, Some, None}
+use Rattle.std.specs.Prelude.{Bool, true, ◌&&◌, ◌||◌, not, cond, eqb, leb}
 use Rattle.blorb.specs.Bytes.{rd32}
 use Rattle.blorb.specs.Rules.{one_of}
 use Rattle.ratio.specs.declared.Fraction.{Fraction}

@@ -38,7 +38,8 @@ pub record Has (profile : ℕ) (f : List ℕ) (p : ℕ) (d : List ℕ) (l : Opti
   pub row : row_of p (rows_of d) ≡ l
 
 -- an answer that is not a refusal
-picks : (p q s : Bool) (v : Result Sides Refusal) (x w h : ℕ) → cond p (cond (q && s) v (Refused 33 0)) (Refused 32 x) ≡ sides w h → (q ≡ true) × (v ≡ sides w h)
+picks : (p q s : Bool) (v : Result Sides Refusal) (x w h : ℕ) → cond p (cond (q && s) v (Refused 33 0)) (Refused 32 x) ≡ sides w h
+    → (q ≡ true) × (v ≡ sides w h)
 picks true true true v x w h e = (refl, e)
 picks true true false v x w h e = cc
 picks true false s v x w h e = cc
@@ -136,8 +137,8 @@ module _ (across down wider higher p width height : ℕ) (la : across ≤ wider)
       (over higher (word_at d 4)) sb (mul-le-mul_right (word_at d 0) la) (mul-le-mul_right (word_at d 4) ld))
 
   module _ (w h v g : ℕ) where
-    rows-larger : (d : List ℕ) → reso_good d ≡ true → (l : Option Row) → row_of p (rows_of d) ≡ l → row_sides d (asking across down p width height) l ≡ sides w h
-        → row_sides d (asking wider higher p width height) l ≡ sides v g → (w ≤ v) × (h ≤ g)
+    rows-larger : (d : List ℕ) → reso_good d ≡ true → (l : Option Row) → row_of p (rows_of d) ≡ l
+        → row_sides d (asking across down p width height) l ≡ sides w h → row_sides d (asking wider higher p width height) l ≡ sides v g → (w ≤ v) × (h ≤ g)
     rows-larger d good None e x y = let s = same_sides _ _ _ _ (sym x ∙ y) in (omega (arith, s.0), omega (arith, s.1))
     rows-larger d good (Some r) e x y =
         let k = good_found d p r good e in

@@ -110,6 +110,7 @@ module _ (profile : ℕ) (f : List ℕ) (a : Asking) where
   unfolding scaled_of
   scaled-none e = rw e
 
-  pub scaled-one : (x m : ℕ) → located_of profile f Reso ≡ Ok (located.One x m) → reso_scaled (take (x + 8 + m - (x + 8)) (drop (x + 8) f)) x a ≡ scaled_of profile f a
+  pub scaled-one : (x m : ℕ) → located_of profile f Reso ≡ Ok (located.One x m)
+      → reso_scaled (take (x + 8 + m - (x + 8)) (drop (x + 8) f)) x a ≡ scaled_of profile f a
   unfolding scaled_of
   scaled-one x m e = let q : x + 8 + m - (x + 8) ≡ m = omega arith in rw (e, q)
