@@ -13,7 +13,8 @@ Wrote out from t to after = (to ≡ from + length t) × (after ≡ sets out from
 
 -- a page with t written behind what it had, in the same buffer
 abbrev pub Writes : Page → List ℕ → Page → Type 0
-Writes before t after = Wrote before.out.now before.at t after.at after.out.now × (after.out.ghost_name ≡ before.out.ghost_name)
+Writes before t after =
+    Wrote before.out.now before.at t after.at after.out.now × (after.out.ghost_name ≡ before.out.ghost_name) × (length after.out.now ≡ length before.out.now)
 
 -- the line of the entry at p: its fields, then type of the chunk that starts where it says and length of what a lookup gives of it
 unfoldable pub fields_at : List ℕ → ℕ → List ℕ

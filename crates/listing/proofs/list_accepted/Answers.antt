@@ -6,7 +6,7 @@ use mathlib.Core.List.{◌++◌}
 use Rattle.reader.specs.Reading.{index_of}
 use Rattle.reader.proofs.Promises.{accepted_is}
 use Rattle.listing.specs.Listing.{head_line, lines_of}
-use Rattle.listing.proofs.WriteLaws.{kept, more}
+use Rattle.listing.proofs.WriteLaws.{more}
 use Rattle.listing.proofs.ListLaws.{size_known, no_room, written}
 use Rattle.listing.proofs.list_accepted.Goals as goal
 
@@ -26,12 +26,7 @@ pub entries-requires : goal.entries-requires
 entries-requires c =
     let a = c.args in (
       size_known a.file.now a.accepted.length a.accepted.count c.requires,
-      omega (
-        arith,
-        c.if-out-accepted.false,
-        c.head.ensures.1,
-        kept _ _ (head_line a.accepted.length a.accepted.count) _ _ c.head.ensures.0.0,
-      ),
+      omega arith,
     )
 
 pub returns : goal.returns
@@ -41,5 +36,5 @@ returns c =
     let head = head_line a.accepted.length a.accepted.count in
     let lines = lines_of f (index_of f) in
     written a.out.now (64 + 48 * a.accepted.count) (head ++ lines) _ _ _ (search rules) c.if-out-accepted.false
-    (omega (arith, c.head.ensures.1, c.entries.ensures.1))
+    (omega arith)
     (more a.out.now 0 head _ _ c.head.ensures.0.0 lines _ _ c.entries.ensures.0.0)

@@ -1,42 +1,18 @@
 -- The pieces are written one behind the other: a space, the type, the length of what a lookup gives of the chunk, the line's end.
-use Prim.Native.Nat.{◌+◌, ◌-◌}
 use native.Mathlib.Omega.{arith}
-use mathlib.Core.List.{◌++◌}
 use mathlib.Core.Path.{ap, ◌∙◌}
-use lib.ListN.{drop}
-use Rattle.blorb.specs.Bytes.{be32, rd32}
 use Rattle.blorb.specs.Lookup.{left_out_of}
-use Rattle.listing.specs.Text.{text, decimal}
 use Rattle.listing.proofs.TextLaws.{decimal-size}
-use Rattle.listing.proofs.WriteLaws.{kept}
 use Rattle.listing.proofs.LineLaws.{chunk-text}
 use Rattle.listing.proofs.Page.chunk.Goals as goal
 
 pub number-requires : goal.number-requires
 number-requires c =
-    omega (
-      arith,
-      decimal-size _ c.left_out.result c.be32_at.ensures.1,
-      c.text.ensures.0.0,
-      kept _ _ (text " ") _ _ c.text.ensures.0,
-      c.tag.ensures.1,
-      kept _ _ (be32 (rd32 (drop c.args.start c.args.file.now))) _ _ c.tag.ensures.0.0,
-      c.requires.1,
-    )
+    omega (arith, decimal-size _ c.left_out.result c.be32_at.ensures.1)
 
 pub text-requires-2 : goal.text-requires-2
 text-requires-2 c =
-    omega (
-      arith,
-      decimal-size _ c.left_out.result c.be32_at.ensures.1,
-      c.text.ensures.0.0,
-      kept _ _ (text " ") _ _ c.text.ensures.0,
-      c.tag.ensures.1,
-      kept _ _ (be32 (rd32 (drop c.args.start c.args.file.now))) _ _ c.tag.ensures.0.0,
-      c.number.ensures.0.0,
-      kept _ _ (text " " ++ decimal (8 + c.be32_at.result - c.left_out.result)) _ _ c.number.ensures.0,
-      c.requires.1,
-    )
+    omega (arith, decimal-size _ c.left_out.result c.be32_at.ensures.1)
 
 pub returns : goal.returns
 returns c =
@@ -46,4 +22,4 @@ returns c =
     c.text.ensures.0
     (c.tag.ensures.0.0, c.tag.ensures.1)
     c.number.ensures.0 c.text-2.ensures.0 in
-    ((w.0, c.text-2.ensures.1 ∙ c.number.ensures.1 ∙ c.tag.ensures.0.1 ∙ c.text.ensures.1), w.1)
+    ((w.0, c.text-2.ensures.1 ∙ c.number.ensures.1 ∙ c.tag.ensures.0.1 ∙ c.text.ensures.1, c.text-2.ensures.2 ∙ c.number.ensures.2 ∙ c.tag.ensures.0.2 ∙ c.text.ensures.2), w.1)

@@ -1,16 +1,14 @@
 -- The line of an entry is its fields and what is told of its chunk, one behind the other.
 use native.Mathlib.Omega.{arith}
 use mathlib.Core.Path.{◌∙◌}
-use Rattle.listing.specs.InPlace.{fields_at}
-use Rattle.listing.proofs.WriteLaws.{kept}
 use Rattle.listing.proofs.LineLaws.{entry-text}
 use Rattle.listing.proofs.Page.entry.Goals as goal
 
 pub chunk-requires : goal.chunk-requires
 chunk-requires c =
     let a = c.args in (
-      omega (arith, c.be32_at-start.ensures.0, c.requires.1),
-      omega (arith, c.requires.2, c.fields.ensures.1, kept _ _ (fields_at a.file.now a.p) _ _ c.fields.ensures.0.0),
+      omega arith,
+      omega arith,
     )
 
 pub returns : goal.returns
@@ -19,4 +17,4 @@ returns c =
     let w =
     entry-text a.file.now a.self.now.out.now _ _ a.p _ a.self.now.at _ _ c.be32_at-start.ensures.0 (c.fields.ensures.0.0, c.fields.ensures.1)
     (c.chunk.ensures.0.0, c.chunk.ensures.1) in
-    ((w.0, c.chunk.ensures.0.1 ∙ c.fields.ensures.0.1), w.1)
+    ((w.0, c.chunk.ensures.0.1 ∙ c.fields.ensures.0.1, c.chunk.ensures.0.2 ∙ c.fields.ensures.0.2), w.1)

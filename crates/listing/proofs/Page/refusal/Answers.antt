@@ -1,42 +1,23 @@
 -- The line is two numbers of at most 20 digits and the words around them.
 use native.Mathlib.Omega.{arith}
 use mathlib.Core.Path.{◌∙◌}
-use mathlib.Core.List.{◌++◌}
-use Rattle.listing.specs.Text.{text, decimal}
 use Rattle.listing.proofs.TextLaws.{decimal_20}
-use Rattle.listing.proofs.WriteLaws.{kept}
 use Rattle.listing.proofs.LineLaws.{refused_line_lem}
 use Rattle.listing.proofs.Page.refusal.Goals as goal
 
 pub number-requires : goal.number-requires
-number-requires c = omega (arith, decimal_20 c.args.number, c.requires)
+number-requires c = omega (arith, decimal_20 c.args.number)
 
 pub number-requires-2 : goal.number-requires-2
 number-requires-2 c =
-    omega (
-      arith,
-      decimal_20 c.args.number,
-      decimal_20 c.args.place,
-      c.number.ensures.0.0,
-      kept _ _ (text "refused " ++ decimal c.args.number) _ _ c.number.ensures.0,
-      c.requires,
-    )
+    omega (arith, decimal_20 c.args.number, decimal_20 c.args.place)
 
 pub text-requires : goal.text-requires
 text-requires c =
-    omega (
-      arith,
-      decimal_20 c.args.number,
-      decimal_20 c.args.place,
-      c.number.ensures.0.0,
-      kept _ _ (text "refused " ++ decimal c.args.number) _ _ c.number.ensures.0,
-      c.number-2.ensures.0.0,
-      kept _ _ (text " at " ++ decimal c.args.place) _ _ c.number-2.ensures.0,
-      c.requires,
-    )
+    omega (arith, decimal_20 c.args.number, decimal_20 c.args.place)
 
 pub returns : goal.returns
 returns c =
     let a = c.args in
     let w = refused_line_lem a.self.now.out.now a.self.now.at _ _ _ _ _ _ a.number a.place c.number.ensures.0 c.number-2.ensures.0 c.text.ensures.0 in
-    ((w.0, c.text.ensures.1 ∙ c.number-2.ensures.1 ∙ c.number.ensures.1), w.1)
+    ((w.0, c.text.ensures.1 ∙ c.number-2.ensures.1 ∙ c.number.ensures.1, c.text.ensures.2 ∙ c.number-2.ensures.2 ∙ c.number.ensures.2), w.1)

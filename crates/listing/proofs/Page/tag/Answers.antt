@@ -16,4 +16,4 @@ returns c =
     let f = a.file.now in
     let bytes : All Byte f = bytes-all f (λ i. omega (arith, c.type_inv.file i)) in
     let w = rw (tag_is f a.from (a.from + 4) bytes refl c.requires.0) at c.text.ensures.0 in
-    ((w, c.text.ensures.1), omega (arith, w.0, length-be32 (rd32 (drop a.from f))))
+    ((w, c.text.ensures.1, c.text.ensures.2), omega (arith, w.0, length-be32 (rd32 (drop a.from f))))
