@@ -59,7 +59,7 @@ impl Fraction {
         }
     }
 
-    // The limit, where there is one and the fraction does not keep it.
+    // The limit, where there is one and the fraction does not keep it; else the fraction itself.
     fn limited(self, limit: Fraction, keeps: bool) -> Fraction
         ensures { result ≡ cond (is_none limit) self (cond keeps self limit) }
     {
