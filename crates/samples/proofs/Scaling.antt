@@ -1,5 +1,5 @@
 -- Samples of 02's P4, scaled pictures, in one table. What the code does follows by its contract, which is an equation with scaled_of.
-use Rattle.std.specs.Prelude.{Result}
+use Rattle.std.specs.Prelude.{Result, Some}
 use Rattle.blorb.specs.declared.refusal.Refusal.{Refusal}
 use Rattle.blorb.specs.Refusals.{Refused}
 use Rattle.scaling.specs.declared.Sides.{Sides}
@@ -12,7 +12,7 @@ use Rattle.blorb.specs.All.{All}
 use Rattle.blorb.specs.Bytes.{be32}
 use Rattle.locate.specs.Located.{of_type, located_of}
 use Rattle.ratio.specs.Ratio.{over, smaller, times, raised, lowered, ratio_by, side_by}
-use Rattle.reso.specs.Reso.{Row, listed, rows_from, shaped, row_good_of, rows_good_of, distinct, window_good_of, reso_good, row_of}
+use Rattle.reso.specs.Reso.{Row, rows_from, shaped, row_good_of, rows_good_of, distinct, window_good_of, reso_good, row_of}
 use Rattle.scaling.specs.declared.Asking.{Asking}
 use Rattle.scaling.specs.Scaled.{Reso, sides, asking, sides_fit_of, reso_scaled, unscaled, scaled_of}
 use Rattle.scaling.proofs.Promises.{Has, Between, between}
@@ -96,7 +96,7 @@ scaled-samples = (refl, (refl, (refl, (refl, (refl, (refl, (refl, (refl, (refl, 
 abbrev both : Row
 both = record { picture = 1; standard = over 1 1; least = over 1 2; greatest = over 3 2 }
 
-pub listed-one : Has 1 (scalable 1 2 3 2) 1 (limited 1 2 3 2) (listed both)
+pub listed-one : Has 1 (scalable 1 2 3 2) 1 (limited 1 2 3 2) (Some both)
 unfolding computed scaling
 listed-one = record { start = 76; size = 52; only = refl; body = refl; row = refl }
 
