@@ -1,5 +1,4 @@
 -- The answer is the definition's, once the first differing row is known.
-use native.Mathlib.Omega.{arith}
 use mathlib.Core.Path.{sym, ◌∙◌}
 use Rattle.std.proofs.lemmas.Result.{err_from_is_err_and}
 use Rattle.table.proofs.FileLaws.{indexed}

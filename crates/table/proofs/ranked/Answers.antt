@@ -1,20 +1,9 @@
 use native.Mathlib.Omega.{arith}
 use lib.Dec.{ltb}
-use Prim.Native.Nat.{◌+◌, ◌≤◌}
-use mathlib.Core.Path.{refl, ◌∙◌}
+use mathlib.Core.Path.{◌∙◌}
 use Rattle.rows.proofs.OrderLaws.{counted, one_small}
 use Rattle.table.proofs.CheckLaws.{rank-turn, held-turn, ranked_end}
 use Rattle.table.proofs.ranked.Goals as goal
-
-pub overflow_add-below : goal.overflow_add-below
-overflow_add-below c =
-    let o = c.from-below.ensures ∙ counted (ltb c.key-k.result c.key-sought.result) in
-    let l = c.loop-j.invariant.few in
-    let h : c.loop-j.below + c.from-below.result ≤ c.args.index.now.count = omega (arith, o, one_small (ltb c.key-k.result c.key-sought.result)) in
-    omega (arith, c.args.index.now.few)
-
-pub loop-j-init : goal.loop-j-init
-loop-j-init c = record { few = omega arith; rank = omega arith; held = refl }
 
 pub loop-j-preserved : goal.loop-j-preserved
 loop-j-preserved c =

@@ -1,5 +1,4 @@
 -- Whichever row is handed back was compared with the entry.
-use native.Mathlib.Omega.{arith}
 use Rattle.rows.proofs.RowLaws.{row-there, spot_in}
 use Rattle.table.proofs.row_of.Goals as goal
 

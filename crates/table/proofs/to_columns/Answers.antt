@@ -1,8 +1,6 @@
 -- There is room, or 34; where there is, the slice has the columns at its front and behind them what it had.
-use native.Mathlib.Omega.{arith}
-use Prim.Native.Nat.{ℕ, ◌*◌, ◌/◌}
+use Prim.Native.Nat.{ℕ, ◌*◌}
 use mathlib.Core.Path.{refl, ap, sym, ◌∙◌}
-use lib.ListN.{length}
 use Rattle.std.proofs.lemmas.Result.{err_from_is_err_and}
 use Rattle.rows.specs.Rows.{rows_of, flat_columns}
 use Rattle.rows.proofs.FlatLaws.{length-rows_of}
