@@ -31,7 +31,7 @@ turn t c =
 pub members_in-loop-spot-init : goal.members_in-loop-spot-init
 members_in-loop-spot-init t c =
     let h = c.within-spot.ensures in
-    (h.0, h.2, h.3, refl, refl, omega (arith, h.4, c.requires.4), rw (h.0, h.1, h.2, h.3, h.4) refl)
+    (h.0, h.2, h.3, refl, refl, omega (arith, h.4, c.requires.4), rw (h.0, h.1, h.2, h.3, h.4))
 
 pub members_in-returns-in_err-next-clause-shown : goal.members_in-returns-in_err-next-clause-shown
 members_in-returns-in_err-next-clause-shown t c =
