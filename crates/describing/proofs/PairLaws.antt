@@ -11,11 +11,11 @@ use Rattle.rdes.proofs.EntryLaws.{pair_snoc}
 use Rattle.repeats.specs.Keys.{list_key}
 use Rattle.repeats.specs.Repeats.{among, first_repeat_of, Apart}
 use Rattle.repeats.proofs.Answers.{among_none, answer_at, answer_nothing}
-use Rattle.repeats.specs.declared.First.TheVariants.{At, Nothing}
+use Rattle.std.specs.Prelude.{Option, Some, None}
 use Rattle.describing.specs.List.{usage_of, number_of, row_at, rows_from}
 use Rattle.blorb.specs.Verdict.{accept, refuse}
 use Rattle.describing.specs.Writing.{repeated, rows_fault}
-use Rattle.describing.specs.Judging.{FirstBad}
+use Rattle.describing.specs.Judging.{FirstBad, repeated_by, repeat_fault}
 use Rattle.describing.proofs.JudgeLaws.{judged_38, judged_39, judged-good}
 
 -- the rows up to one, and that one
@@ -55,13 +55,28 @@ module _ (rows texts : List ℕ) (b : (i : ℕ) → get_or rows i 0 < 4294967296
   fresh : (m : ℕ) → Apart (list_key rows) 0 m → (i : ℕ) → i < m → repeated rows texts i ≡ false
   fresh m d i l = sym (key-repeats rows texts b i) ∙ apart_none (list_key rows) m d i l
 
-  pub found_38 : (m j : ℕ) → first_repeat_of (list_key rows) m ≡ At j → m ≤ n → m ≤ t + 1 → refuse 38 j ≡ rows_fault rows texts n 0
+  found_38 : (m j : ℕ) → first_repeat_of (list_key rows) m ≡ Some j → m ≤ n → m ≤ t + 1 → refuse 38 j ≡ rows_fault rows texts n 0
   found_38 m j e h l =
       let f = answer_at (list_key rows) m j e in
       judged_38 rows texts n t bad j (omega (arith, f.0)) (omega (arith, f.0)) (fresh j f.2) (sym (key-repeats rows texts b j) ∙ f.1)
 
-  pub found_39 : (m : ℕ) → first_repeat_of (list_key rows) m ≡ Nothing → t < n → t < m → refuse 39 t ≡ rows_fault rows texts n 0
-  found_39 m e h l = judged_39 rows texts n t bad h (λ i k. fresh m (answer_nothing (list_key rows) m e) i (omega arith))
+  pub again_38 : (m k p : ℕ) → refuse k p ≡ repeat_fault rows m → m ≤ n → m ≤ t + 1 → refuse k p ≡ rows_fault rows texts n 0
+  again_38 m k p q h l = go (first_repeat_of (list_key rows) m) refl q
+    where
+      go : (r : Option ℕ) → first_repeat_of (list_key rows) m ≡ r → refuse k p ≡ repeated_by r → refuse k p ≡ rows_fault rows texts n 0
+      go (Some j) f e = e ∙ found_38 m j f h l
+      go None f e = let z : ◌≡◌ {A = ℕ} 0 1 = cc in absurd (omega arith)
 
-  pub found_none : n ≤ t → first_repeat_of (list_key rows) n ≡ Nothing → accept ≡ rows_fault rows texts n 0
-  found_none h e = judged-good rows texts n t bad h (fresh n (answer_nothing (list_key rows) n e))
+  pub found_39 : (m : ℕ) → accept ≡ repeat_fault rows m → t < n → t < m → refuse 39 t ≡ rows_fault rows texts n 0
+  found_39 m q h l = go (first_repeat_of (list_key rows) m) refl q
+    where
+      go : (r : Option ℕ) → first_repeat_of (list_key rows) m ≡ r → accept ≡ repeated_by r → refuse 39 t ≡ rows_fault rows texts n 0
+      go (Some j) f e = let z : ◌≡◌ {A = ℕ} 0 1 = cc in absurd (omega arith)
+      go None f e = judged_39 rows texts n t bad h (λ i k. fresh m (answer_nothing (list_key rows) m f) i (omega arith))
+
+  pub found-all : n ≤ t → repeat_fault rows n ≡ rows_fault rows texts n 0
+  found-all h = go (first_repeat_of (list_key rows) n) refl
+    where
+      go : (r : Option ℕ) → first_repeat_of (list_key rows) n ≡ r → repeated_by r ≡ rows_fault rows texts n 0
+      go (Some j) f = found_38 n j f (omega arith) (omega arith)
+      go None f = judged-good rows texts n t bad h (fresh n (answer_nothing (list_key rows) n f))

@@ -19,7 +19,8 @@ use Rattle.rdes.specs.Rdes.{RDes, body_of}
 use Rattle.describing.specs.List.{count_of, list_of, rows_from}
 use Rattle.describing.specs.Writing.{rows_fault, whole_size, write_fault, writing_of, written_of}
 use Rattle.describing.specs.Bridging.{Within, entries_size, capped}
-use Rattle.describing.specs.declared.Writing.TheVariants.{Written, Refused}
+use Rattle.std.specs.Prelude.{Ok}
+use Rattle.blorb.specs.Refusals.{Refused}
 use Rattle.describing.proofs.ChunkLaws.{capped_fits, capped-over, entries-length}
 use Rattle.describing.proofs.JudgeLaws.{told-within}
 
@@ -109,7 +110,7 @@ module _ (rows texts b : List ℕ) where
               absurd (omega arith)
 
       -- the chunk
-      pub list_made : (Written (8 + (m + m % 2)) ≡ writing_of rows texts (length b))
+      pub list_made : (Ok (8 + (m + m % 2)) ≡ writing_of rows texts (length b))
           × (noted b 0 (chunk_bytes (chunk_of RDes (body_of (list_of rows texts)))) ≡ written_of rows texts b)
       unfolding writing_of written_of write_fault noted
       list_made =

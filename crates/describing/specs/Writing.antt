@@ -1,11 +1,11 @@
 -- What the writer answers, and the buffer afterwards (02, P7). In all of this rows are the numbers of the list and texts the slice that they name.
-use Rattle.std.specs.Prelude.{ℕ, zero, suc, ◌+◌, List, ◌++◌, Bool, ◌&&◌, not, length, drop, leb}
+use Rattle.std.specs.Prelude.{ℕ, zero, suc, ◌+◌, List, ◌++◌, Bool, ◌&&◌, not, length, drop, leb, Result}
 use Rattle.blorb.specs.Format.{chunk_of, chunk_bytes, sized}
 use Rattle.blorb.specs.Verdict.{Verdict, accept, refuse, ◌then◌, check}
 use Rattle.rdes.specs.Rdes.{Desc, RDes, body_of, pair_among, good_text}
 use Rattle.describing.specs.List.{usage_of, number_of, place_of, length_of, row_text, rows_from, count_of, list_of}
-use Rattle.describing.specs.declared.Writing.{Writing}
-use Rattle.describing.specs.declared.Writing.TheVariants.{Written, Refused}
+use Rattle.blorb.specs.Refusals.{answer_by}
+use Rattle.blorb.specs.declared.refusal.Refusal.{Refusal}
 
 -- 38: "a repeated pair": an earlier row has row i's
 unfoldable pub repeated : List ℕ → List ℕ → ℕ → Bool
@@ -34,13 +34,9 @@ write_fault rows texts room =
     rows_fault rows texts (count_of rows) 0
     then check (leb (whole_size (list_of rows texts)) room && leb (whole_size (list_of rows texts)) 16777216) 40 0
 
--- the answer
-abbrev pub answered : Verdict → ℕ → Writing
-answered accept n = Written n
-answered (refuse k p) n = Refused k p
-
-unfoldable pub writing_of : List ℕ → List ℕ → ℕ → Writing
-writing_of rows texts room = answered (write_fault rows texts room) (whole_size (list_of rows texts))
+-- the answer: how long the chunk is
+unfoldable pub writing_of : List ℕ → List ℕ → ℕ → Result ℕ Refusal
+writing_of rows texts room = answer_by (write_fault rows texts room) (whole_size (list_of rows texts))
 
 -- the buffer afterwards: "write the whole chunk from a list", "bytes behind it stay"; a refusal leaves it as it was
 abbrev pub written_by : Verdict → List Desc → List ℕ → List ℕ

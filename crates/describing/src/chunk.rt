@@ -7,6 +7,8 @@ ghost use Rattle.describing.specs.Bridging.{entry_bytes};
 ghost use Rattle.describing.specs.List.{place_of, length_of, row_at, rows_from};
 ghost use Rattle.describing.specs.Bridging.{Within, entries_size, capped};
 
+use crate::row::Row;
+
 const RDES: u64 = 0x52446573;
 
 // The chunk's data length for `n` rows; where that is over the limit, a number over the limit. The sum stops there, so it can't wrap.
@@ -15,13 +17,11 @@ pub(crate) fn data_size(rows: &[u32], n: usize) -> usize
     ensures { (result ≡ capped (4 + entries_size rows.now n 0)) × (result ≤ 16777217) }
 {
     let mut size: usize = 4;
-    let mut i: usize = 0;
-    while i < n {
-        size += 12 + rows[4 * i + 3] as usize;
+    for i in 0..n {
+        size += 12 + Row::at(rows, i).length;
         if 16777216 < size {
             return 16777217;
         }
-        i += 1;
     }
     size
 }
@@ -42,16 +42,10 @@ fn put_row(buf: &mut [u8], at: usize, rows: &[u32], texts: &[u8], i: usize) -> u
     ensures { (result ≡ at + (12 + length_of rows.now i))
         × (buf.new ≡ noted buf.old at (entry_bytes (row_at rows.now texts.now i))) }
 {
-    let from = rows[4 * i + 2] as usize;
-    let size = rows[4 * i + 3] as usize;
-    put_entry(
-        buf,
-        at,
-        rows[4 * i],
-        rows[4 * i + 1],
-        &texts[from..from + size],
-    );
-    at + (12 + size)
+    let row = Row::at(rows, i);
+    let text = &texts[row.place..row.place + row.length];
+    put_entry(buf, at, row.usage, row.number, text);
+    at + (12 + row.length)
 }
 
 // The entries of the first `n` rows, from offset 12 on.
@@ -60,10 +54,8 @@ fn put_entries(buf: &mut [u8], rows: &[u32], texts: &[u8], n: usize)
     ensures { buf.new ≡ noted buf.old 12 (entries_bytes (rows_from rows.now texts.now n 0)) }
 {
     let mut at: usize = 12;
-    let mut i: usize = 0;
-    while i < n {
+    for i in 0..n {
         at = put_row(buf, at, rows, texts, i);
-        i += 1;
     }
 }
 

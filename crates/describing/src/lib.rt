@@ -4,35 +4,28 @@
 ghost use Rattle.std.specs.Prelude.{◌≡◌, length};
 ghost use Rattle.describing.specs.Writing.{writing_of, written_of};
 
-use chunks::Check;
+use blorb::{Fault, Refusal};
 
 mod chunk;
 mod judge;
+mod row;
 
-#[derive(Clone, Copy)]
-pub enum Writing {
-    Written { length: usize },
-    Refused { number: u64, place: usize },
-}
-
-// A row of the list is four numbers: usage, number, and place and length of its text in `texts`. A partial last row is none. A call that is refused
-// has written nothing; one that isn't leaves the bytes behind the chunk as they were.
-pub fn write(rows: &[u32], texts: &[u8], buf: &mut [u8]) -> Writing
+// Writes the list and answers how long the chunk is. A row of the list is four numbers: usage, number, and place and length of its text in `texts`. A
+// partial last row is none. A call that is refused has written nothing; one that isn't leaves the bytes behind the chunk as they were.
+pub fn write(rows: &[u32], texts: &[u8], buf: &mut [u8]) -> Result<usize, Refusal>
     ensures { (result ≡ writing_of rows.now texts.now (length buf.old))
         × (buf.new ≡ written_of rows.now texts.now buf.old) }
 {
     let n = rows.len() / 4;
-    if let Check::Refused { number, place } = judge::judge(rows, texts, n) {
-        return Writing::Refused { number, place };
-    }
+    judge::judge(rows, texts, n)?;
     let m = chunk::data_size(rows, n);
     let size = 8 + (m + m % 2);
     if (16777216 < size) | (buf.len() < size) {
-        return Writing::Refused {
-            number: 40,
+        return Err(Refusal {
+            fault: Fault::RdesRoom,
             place: 0,
-        };
+        });
     }
     chunk::put_list(buf, rows, texts, n, m);
-    Writing::Written { length: size }
+    Ok(size)
 }

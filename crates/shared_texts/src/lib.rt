@@ -60,6 +60,7 @@ fn with_bit(word: u64, i: u64) -> u64
 }
 
 // A slice of texts, and what is remembered of it.
+#[derive(Drop)]
 pub struct Segments<'a> {
     texts: &'a [u8],
     known: &'a mut [u64; WORDS],
@@ -84,6 +85,13 @@ impl<'a> Segments<'a> {
         ensures { result ≡ texts.now }
     {
         Segments { texts, known }
+    }
+
+    // How many bytes the texts have.
+    pub fn len(&self) -> usize
+        ensures { result ≡ length self.now }
+    {
+        self.texts.len()
     }
 
     // The bytes of a segment. A short text is walked faster than it is looked up.

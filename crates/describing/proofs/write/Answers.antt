@@ -1,34 +1,26 @@
 -- The rows' verdict comes first, then the room's; each way out is a law of WriteLaws.
-use mathlib.Core.Path.{◌≡◌, ap, sym, ◌∙◌}
-use borrow.Author.Rules.{rules}
-use Rattle.blorb.specs.Verdict.{accept}
-use Rattle.chunks.specs.Walk.{verdict_of}
+use Rattle.std.proofs.Common.{◌≡◌, sym, ap, ◌∙◌, arith, rules}
+use Rattle.std.proofs.lemmas.Result.{err_from_is_err_and}
 use Rattle.describing.specs.List.{count_of}
 use Rattle.describing.specs.Writing.{rows_fault}
 use Rattle.describing.proofs.WriteLaws.{rows-refused, room-refused, told, fits, size_is, list_made}
 use Rattle.describing.proofs.write.Goals as goal
-use Rattle.describing.proofs.write.Goals.{After-data_size-m}
 
--- the rows are accepted
-fine : (c : After-data_size-m) → let a = c.args in
-    accept ≡ rows_fault a.rows.now a.texts.now (count_of a.rows.now) 0
-fine c = sym (ap verdict_of c.in_default.is) ∙ c.judge.ensures
-
-pub returns-in-Refused : goal.returns-in-Refused
-returns-in-Refused c =
+pub returns-in_err-judge : goal.returns-in_err-judge
+returns-in_err-judge c =
     let a = c.args in
-    let refused = sym (ap verdict_of c.in-Refused.is) ∙ c.judge.ensures in
-    rows-refused a.rows.now a.texts.now a.buf.now _ _ refused
+    let p = err_from_is_err_and c.from_residual.result c.from_residual.ensures.1 in
+    rw (p.1, p.2) (rows-refused a.rows.now a.texts.now a.buf.now _ _ c.in_err-judge.ensures)
 
 pub returns-then-size-buf : goal.returns-then-size-buf
 returns-then-size-buf c =
     let a = c.args in
-    room-refused a.rows.now a.texts.now a.buf.now _ (fine (goal.at.returns-then-size-buf c).After-data_size-m) c.data_size-m.ensures.0 c.if-size-buf.true
+    room-refused a.rows.now a.texts.now a.buf.now _ c.in_ok-judge.ensures c.data_size-m.ensures.0 c.if-size-buf.true
 
 pub put_list-requires : goal.put_list-requires
 put_list-requires c =
     let a = c.args in
-    let f = fine (goal.at.put_list-requires c).After-data_size-m in
+    let f = c.in_ok-judge.ensures in
     let d = c.data_size-m.ensures.0 in
     let t = c.if-size-buf.false in
     let within = told a.rows.now a.texts.now a.buf.now _ f d in
@@ -38,6 +30,5 @@ put_list-requires c =
 pub returns : goal.returns
 returns c =
     let a = c.args in
-    let fit = c.if-size-buf.false in
-    let w = list_made a.rows.now a.texts.now a.buf.now _ (fine (goal.at.returns c).After-data_size-m) c.data_size-m.ensures.0 fit in
+    let w = list_made a.rows.now a.texts.now a.buf.now _ c.in_ok-judge.ensures c.data_size-m.ensures.0 c.if-size-buf.false in
     (w.0, c.put_list.ensures ∙ w.1)

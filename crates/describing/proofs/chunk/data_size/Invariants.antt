@@ -5,7 +5,4 @@ use Rattle.describing.specs.Bridging.{entries_size}
 use Rattle.describing.proofs.chunk.data_size.Given as goal
 
 abbrev pub invariant-loop-i : goal.invariant-loop-i
-invariant-loop-i l = (l.i ≤ l.n) × (l.size ≤ 16777216) × (l.size + entries_size l.rows (l.n - l.i) l.i ≡ 4 + entries_size l.rows l.n 0)
-
-abbrev pub decreases-loop-i : goal.decreases-loop-i
-decreases-loop-i l = l.n - l.i
+invariant-loop-i l = (l.size ≤ 16777216) × (l.size + entries_size l.rows (l.n - l.i) l.i ≡ 4 + entries_size l.rows l.n 0)

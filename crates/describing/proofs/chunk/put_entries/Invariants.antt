@@ -10,8 +10,5 @@ use Rattle.describing.proofs.chunk.put_entries.Given as goal
 
 abbrev pub invariant-loop-i : goal.invariant-loop-i
 invariant-loop-i l =
-    (l.i ≤ l.n) × (length l.buf ≡ length l.initial.buf) × (l.at + entries_size l.rows (l.n - l.i) l.i ≤ length l.initial.buf)
+    (length l.buf ≡ length l.initial.buf) × (l.at + entries_size l.rows (l.n - l.i) l.i ≤ length l.initial.buf)
     × (noted l.buf l.at (entries_bytes (rows_from l.rows l.texts (l.n - l.i) l.i)) ≡ noted l.initial.buf 12 (entries_bytes (rows_from l.rows l.texts l.n 0)))
-
-abbrev pub decreases-loop-i : goal.decreases-loop-i
-decreases-loop-i l = l.n - l.i

@@ -1,43 +1,33 @@
 -- The rows up to the first bad text are asked for a repeated pair: one there comes first, else the bad text does.
-use Prim.Native.Nat.{ℕ, ◌<◌}
-use mathlib.Core.Path.{refl, sym, ◌∙◌}
-use native.Mathlib.Omega.{arith}
-use lib.ListN.{get_or}
+use Rattle.std.proofs.Common.{◌≡◌, ◌<◌, ℕ, sym, ◌∙◌, arith, get_or}
+use Rattle.std.proofs.lemmas.Result.{err_from_is_err_and}
 use Rattle.shared_texts.proofs.SegmentLaws.{remembers_none}
-use Rattle.describing.proofs.PairLaws.{found_38, found_39, found_none}
+use Rattle.describing.proofs.PairLaws.{again_38, found_39, found-all}
 use Rattle.describing.proofs.judge.judge.Goals as goal
-use Rattle.describing.proofs.judge.judge.Goals.{After-first_bad-bad}
+use Rattle.describing.proofs.judge.judge.Goals.{After-first_bad}
 
 -- the list's numbers have 32 bits
-small : (c : After-first_bad-bad) → (i : ℕ) → get_or c.args.rows.now i 0 < 4294967296
+small : (c : After-first_bad) → (i : ℕ) → get_or c.args.rows.now i 0 < 4294967296
 small c i = omega (arith, c.type_inv.rows i)
 
-pub first_bad-bad-requires : goal.first_bad-bad-requires
-first_bad-bad-requires c = (c.requires, refl, remembers_none c.args.texts.now)
+pub new-requires : goal.new-requires
+new-requires c = remembers_none c.args.texts.now
 
-pub returns-in-At : goal.returns-in-At
-returns-in-At c =
-    let a = c.args in
-    let found = sym c.in_list.ensures ∙ c.in-At.is in
-    found_38 a.rows.now a.texts.now (small (goal.at.returns-in-At c).After-first_bad-bad) a.n _ c.first_bad-bad.ensures.0 _ _ found
-    (omega (arith, c.if-bad-n.true)) (omega arith)
+pub returns-in-None : goal.returns-in-None
+returns-in-None c =
+    let bad = rw c.new.ensures at c.in-None.ensures in
+    c.distinct.ensures ∙ found-all c.args.rows.now c.args.texts.now (small (goal.at.returns-in-None c).After-first_bad) c.args.n c.args.n bad (omega arith)
 
-pub returns-in-Nothing : goal.returns-in-Nothing
-returns-in-Nothing c =
-    let a = c.args in
-    let found = sym c.in_list.ensures ∙ c.in-Nothing.is in
-    found_39 a.rows.now a.texts.now (small (goal.at.returns-in-Nothing c).After-first_bad-bad) a.n _ c.first_bad-bad.ensures.0 _ found
-    c.if-bad-n.true (omega arith)
+pub returns-in_err-distinct-in-Some : goal.returns-in_err-distinct-in-Some
+returns-in_err-distinct-in-Some c =
+    let bad = rw c.new.ensures at c.in-Some.ensures.1 in
+    let p = err_from_is_err_and c.from_residual.result c.from_residual.ensures.1 in
+    rw (p.1, p.2)
+    (again_38 c.args.rows.now c.args.texts.now (small (goal.at.returns-in_err-distinct-in-Some c).After-first_bad) c.args.n _ bad _ _ _
+    c.in_err-distinct-in-Some.ensures (omega (arith, c.in-Some.ensures.0)) (omega arith))
 
-pub returns-in-At-in_list : goal.returns-in-At-in_list
-returns-in-At-in_list c =
-    let a = c.args in
-    let found = sym c.in_list-2.ensures ∙ c.in-At-in_list.is in
-    found_38 a.rows.now a.texts.now (small (goal.at.returns-in-At-in_list c).After-first_bad-bad) a.n _ c.first_bad-bad.ensures.0 _ _ found
-    (omega arith) (omega (arith, c.if-bad-n.false))
-
-pub returns-in-Nothing-in_list : goal.returns-in-Nothing-in_list
-returns-in-Nothing-in_list c =
-    let a = c.args in
-    let found = sym c.in_list-2.ensures ∙ c.in-Nothing-in_list.is in
-    found_none a.rows.now a.texts.now (small (goal.at.returns-in-Nothing-in_list c).After-first_bad-bad) a.n _ c.first_bad-bad.ensures.0 c.if-bad-n.false found
+pub returns-in_ok-distinct-in-Some : goal.returns-in_ok-distinct-in-Some
+returns-in_ok-distinct-in-Some c =
+    let bad = rw c.new.ensures at c.in-Some.ensures.1 in
+    found_39 c.args.rows.now c.args.texts.now (small (goal.at.returns-in_ok-distinct-in-Some c).After-first_bad) c.args.n _ bad _
+    c.in_ok-distinct-in-Some.ensures c.in-Some.ensures.0 (omega arith)

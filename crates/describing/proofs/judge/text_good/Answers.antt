@@ -1,28 +1,18 @@
--- Numbers of 32 bits, so their sum does not wrap; what is judged is the row's text.
-use Prim.Native.Nat.{◌+◌, ◌*◌}
-use native.Mathlib.Omega.{arith}
+-- What is judged is the row's text.
+use Rattle.std.proofs.Common.{◌≡◌, ◌+◌, ◌≤◌, refl, ◌∙◌, length, arith}
+use borrow.Author.Tests.{lt-leb}
 use Rattle.describing.proofs.JudgeLaws.{text-past, text-told}
 use Rattle.describing.proofs.judge.text_good.Goals as goal
 
-pub overflow_cast-from : goal.overflow_cast-from
-overflow_cast-from c = omega (arith, c.type_inv.rows (4 * c.args.i + 2))
-
-pub overflow_cast-size : goal.overflow_cast-size
-overflow_cast-size c = omega (arith, c.type_inv.rows (4 * c.args.i + 3))
-
-pub overflow_add-from-2 : goal.overflow_add-from-2
-overflow_add-from-2 c =
-    let small = c.type_inv.rows in
-    let i = c.args.i in
-    omega (arith, small (4 * i + 2), small (4 * i + 3))
-
-pub returns-then-texts-from : goal.returns-then-texts-from
-returns-then-texts-from c =
+pub returns-then-end-len : goal.returns-then-end-len
+returns-then-end-len c =
     let a = c.args in
-    (text-past a.rows.now a.texts.now a.i c.if-texts-from.true, c.requires.1, c.requires.2)
+    let row = c.at-row.ensures in
+    let told = rw (row.2, row.3) at c.is_text.ensures.0 in
+    (text-told a.rows.now a.texts.now a.i _ (omega (arith, row.2, row.3, c.len.ensures, c.if-end-len.true)) told, c.is_text.ensures.1)
 
-pub returns : goal.returns
-returns c =
+pub returns-else-end-len : goal.returns-else-end-len
+returns-else-end-len c =
     let a = c.args in
-    let told = c.is_text.ensures in
-    (text-told a.rows.now a.texts.now a.i _ c.if-texts-from.false told.0, told.1, told.2)
+    let row = c.at-row.ensures in
+    (lt-leb _ _ c.if-end-len.false ∙ text-past a.rows.now a.texts.now a.i (omega (arith, row.2, row.3, c.len.ensures, c.if-end-len.false)), refl)
