@@ -1,4 +1,4 @@
--- The faults by their numbers (01, Refusal numbers; 02): a refusal is seen as its number and place.
+-- The faults by their numbers: a refusal is seen as its number and place.
 use Rattle.std.specs.Prelude.{ℕ, ◌≡◌, ◌==◌, refl, if◌then◌else◌}
 use Rattle.std.proofs.Common.{ap}
 use Rattle.blorb.specs.declared.refusal.Fault.{Fault}
@@ -64,9 +64,9 @@ number_of fault.ResultExecNumber = 115
 number_of fault.ResultRepeated = 116
 number_of fault.ResultFrontispiece = 119
 
--- the fault with a number
-abbrev pub fault_of : ℕ → Fault
-fault_of n =
+-- the fault with this number; of a number that none has, the last
+abbrev pub fault_numbered : ℕ → Fault
+fault_numbered n =
     if n == 1 then fault.TooLong else
     if n == 2 then fault.TooShort else
     if n == 3 then fault.NoForm else
@@ -129,66 +129,66 @@ abbrev pub view_of : Inside → ℕ × ℕ
 view_of r = (number_of r.fault, r.place)
 
 abbrev pub inside_of : ℕ × ℕ → Inside
-inside_of d = record { fault = fault_of d.0; place = d.1 }
+inside_of d = record { fault = fault_numbered d.0; place = d.1 }
 
-pub fault_of_number : (f : Fault) → fault_of (number_of f) ≡ f
-fault_of_number fault.TooLong = refl
-fault_of_number fault.TooShort = refl
-fault_of_number fault.NoForm = refl
-fault_of_number fault.NoIfrs = refl
-fault_of_number fault.FormLength = refl
-fault_of_number fault.ChunkCut = refl
-fault_of_number fault.Padding = refl
-fault_of_number fault.NoIndex = refl
-fault_of_number fault.SecondIndex = refl
-fault_of_number fault.IndexLength = refl
-fault_of_number fault.TooMany = refl
-fault_of_number fault.UnknownUsage = refl
-fault_of_number fault.Start = refl
-fault_of_number fault.Type = refl
-fault_of_number fault.ExecNumber = refl
-fault_of_number fault.Repeated = refl
-fault_of_number fault.SecondOptional = refl
-fault_of_number fault.OptionalLength = refl
-fault_of_number fault.Frontispiece = refl
-fault_of_number fault.Lengths = refl
-fault_of_number fault.Record = refl
-fault_of_number fault.NotThere = refl
-fault_of_number fault.Shared = refl
-fault_of_number fault.FileRoom = refl
-fault_of_number fault.JournalRoom = refl
-fault_of_number fault.NothingToUndo = refl
-fault_of_number fault.Order = refl
-fault_of_number fault.ChunkLength = refl
-fault_of_number fault.NoPadding = refl
-fault_of_number fault.WholeForm = refl
-fault_of_number fault.SecondReso = refl
-fault_of_number fault.ResoLength = refl
-fault_of_number fault.ResoNumber = refl
-fault_of_number fault.TableRoom = refl
-fault_of_number fault.TableStale = refl
-fault_of_number fault.SecondRdes = refl
-fault_of_number fault.RdesLength = refl
-fault_of_number fault.RdesRepeated = refl
-fault_of_number fault.RdesText = refl
-fault_of_number fault.RdesRoom = refl
-fault_of_number fault.GroupSize = refl
-fault_of_number fault.GroupDepth = refl
-fault_of_number fault.GroupMember = refl
-fault_of_number fault.GroupPadding = refl
-fault_of_number fault.FormsRoom = refl
-fault_of_number fault.NotAiff = refl
-fault_of_number fault.Common = refl
-fault_of_number fault.Rate = refl
-fault_of_number fault.Profile = refl
-fault_of_number fault.ResultTooLong = refl
-fault_of_number fault.ResultSecondIndex = refl
-fault_of_number fault.ResultTooMany = refl
-fault_of_number fault.ResultUsage = refl
-fault_of_number fault.ResultType = refl
-fault_of_number fault.ResultExecNumber = refl
-fault_of_number fault.ResultRepeated = refl
-fault_of_number fault.ResultFrontispiece = refl
+pub fault_numbered_back : (f : Fault) → fault_numbered (number_of f) ≡ f
+fault_numbered_back fault.TooLong = refl
+fault_numbered_back fault.TooShort = refl
+fault_numbered_back fault.NoForm = refl
+fault_numbered_back fault.NoIfrs = refl
+fault_numbered_back fault.FormLength = refl
+fault_numbered_back fault.ChunkCut = refl
+fault_numbered_back fault.Padding = refl
+fault_numbered_back fault.NoIndex = refl
+fault_numbered_back fault.SecondIndex = refl
+fault_numbered_back fault.IndexLength = refl
+fault_numbered_back fault.TooMany = refl
+fault_numbered_back fault.UnknownUsage = refl
+fault_numbered_back fault.Start = refl
+fault_numbered_back fault.Type = refl
+fault_numbered_back fault.ExecNumber = refl
+fault_numbered_back fault.Repeated = refl
+fault_numbered_back fault.SecondOptional = refl
+fault_numbered_back fault.OptionalLength = refl
+fault_numbered_back fault.Frontispiece = refl
+fault_numbered_back fault.Lengths = refl
+fault_numbered_back fault.Record = refl
+fault_numbered_back fault.NotThere = refl
+fault_numbered_back fault.Shared = refl
+fault_numbered_back fault.FileRoom = refl
+fault_numbered_back fault.JournalRoom = refl
+fault_numbered_back fault.NothingToUndo = refl
+fault_numbered_back fault.Order = refl
+fault_numbered_back fault.ChunkLength = refl
+fault_numbered_back fault.NoPadding = refl
+fault_numbered_back fault.WholeForm = refl
+fault_numbered_back fault.SecondReso = refl
+fault_numbered_back fault.ResoLength = refl
+fault_numbered_back fault.ResoNumber = refl
+fault_numbered_back fault.TableRoom = refl
+fault_numbered_back fault.TableStale = refl
+fault_numbered_back fault.SecondRdes = refl
+fault_numbered_back fault.RdesLength = refl
+fault_numbered_back fault.RdesRepeated = refl
+fault_numbered_back fault.RdesText = refl
+fault_numbered_back fault.RdesRoom = refl
+fault_numbered_back fault.GroupSize = refl
+fault_numbered_back fault.GroupDepth = refl
+fault_numbered_back fault.GroupMember = refl
+fault_numbered_back fault.GroupPadding = refl
+fault_numbered_back fault.FormsRoom = refl
+fault_numbered_back fault.NotAiff = refl
+fault_numbered_back fault.Common = refl
+fault_numbered_back fault.Rate = refl
+fault_numbered_back fault.Profile = refl
+fault_numbered_back fault.ResultTooLong = refl
+fault_numbered_back fault.ResultSecondIndex = refl
+fault_numbered_back fault.ResultTooMany = refl
+fault_numbered_back fault.ResultUsage = refl
+fault_numbered_back fault.ResultType = refl
+fault_numbered_back fault.ResultExecNumber = refl
+fault_numbered_back fault.ResultRepeated = refl
+fault_numbered_back fault.ResultFrontispiece = refl
 
 pub inside_of_view : (r : Inside) → inside_of (view_of r) ≡ r
-inside_of_view r = ap (λ (f : Fault). record { fault = f; place = r.place }) (fault_of_number r.fault)
+inside_of_view r = ap (λ (f : Fault). record { fault = f; place = r.place }) (fault_numbered_back r.fault)

@@ -1,5 +1,6 @@
 pub mod Bytes
 pub mod All
+pub mod Little
 pub mod Tags
 pub mod Format
 pub mod Layout

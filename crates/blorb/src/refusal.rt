@@ -82,9 +82,9 @@ pub enum Fault {
     RdesLength = 37,
     /// An earlier text has this usage and number.
     RdesRepeated = 38,
-    /// A text is no UTF-8.
+    /// A text is no UTF-8, or runs past its slice.
     RdesText = 39,
-    /// The buffer is too small for the 'RDes'.
+    /// The buffer is too small for the 'RDes', or that is longer than 16 MiB.
     RdesRoom = 40,
     /// A member is cut short or runs past what holds it.
     GroupSize = 41,

@@ -2,7 +2,7 @@
 use Rattle.std.specs.Prelude.{Result, Ok}
 use Rattle.blorb.specs.declared.refusal.Refusal.{Refusal}
 use Rattle.blorb.specs.Refusals.{Refused}
-use Rattle.groups.specs.declared.Picked.{Picked}
+use Rattle.groups.specs.declared.part.Picked.{Picked}
 use Rattle.capi.specs.TableNumbers.{build_numbers_of}
 use mathlib.Core.Path.{◌≡◌, refl}
 use Prim.Native.Nat.{ℕ, zero, suc, ◌+◌, ◌*◌, ◌<◌}

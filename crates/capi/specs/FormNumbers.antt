@@ -3,10 +3,8 @@
 use Rattle.std.specs.Prelude.{Result, Ok}
 use Rattle.blorb.specs.declared.refusal.Refusal.{Refusal}
 use Rattle.blorb.specs.Refusals.{Refused}
-use Rattle.groups.specs.declared.Picked.{Picked}
+use Rattle.groups.specs.declared.part.Picked.{Picked}
 use Rattle.capi.specs.declared.forms.PickAnswer.{PickAnswer}
-
--- how many FORMs there are
 
 -- where a FORM's bytes are
 abbrev pub pick_numbers_of : Result Picked Refusal → PickAnswer

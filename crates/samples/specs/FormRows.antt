@@ -1,6 +1,6 @@
 -- What a row of the group files' samples says, and the pieces that their files are made of.
 use Rattle.blorb.specs.declared.refusal.Refusal.{Refusal}
-use Rattle.groups.specs.declared.Picked.{Picked}
+use Rattle.groups.specs.declared.part.Picked.{Picked}
 use Rattle.std.specs.Prelude.{◌≡◌, ℕ, zero, suc, List, [], ◌∷◌, ◌++◌, length, Result}
 use Rattle.blorb.specs.Bytes.{be32}
 use Rattle.blorb.specs.Tags.{tag, FORM}
