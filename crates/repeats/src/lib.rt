@@ -55,6 +55,7 @@ fn mark_round<L: Keys>(
     ensures within { result.entry ≤ e }
     ensures held { RepeatsHeld suspects.new.keys suspects.new.count (key (L.source from.list)) b from.entry result.entry }
 {
+    // The suspects are counted in a local, and each key is stored before it counts: so a turn has no branch for it.
     let mut here = from;
     let mut count: usize = 0;
     while here.entry < e && count < 32 {

@@ -109,6 +109,7 @@ pub struct Cursor<L: Keys> {
     ghost stands: { at ≡ spot (L.source list) entry },
 }
 
+// By hand: a derive has no place for the ghost field.
 impl<L: Keys> Clone for Cursor<L> {
     fn clone(&self) -> Result<Self, AllocError> {
         Ok(*self)

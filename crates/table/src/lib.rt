@@ -64,7 +64,7 @@ fn by_columns(numbers: &[u32]) -> Table<'_>
 fn code(usage: [u8; 4]) -> u32
     ensures { result ≡ rd32 usage }
 {
-    blorb::be32_at(&usage, 0) as u32
+    u32::from_be_bytes(usage)
 }
 
 fn find(t: &Table<'_>, usage: [u8; 4], number: u32) -> Searched
@@ -223,7 +223,7 @@ fn ranked(index: &Index<'_>, usage: u32, number: u32, start: u32, at: usize) -> 
     (below == at) & there
 }
 
-// The pair of the last row, or 0 where there is none.
+// The pair of the last row, or 0 where there is none: no pair stands before it.
 fn last_key(t: &Table<'_>) -> u64
     ensures { (0 < t.now.rows → (result ≡ get_or t.now.numbers.now ((t.now.rows - 1) * t.now.step) 0 * 4294967296
         + get_or t.now.numbers.now ((t.now.rows - 1) * t.now.step + t.now.gap) 0)

@@ -4,7 +4,9 @@ use Prim.Native.Nat.{◌≤◌}
 use lib.ListN.{length, length-set}
 use native.Mathlib.Omega.{arith}
 use Rattle.repeats.specs.Source.{key}
-use Rattle.repeats.proofs.SeenLaws.{none_there, first_there, once_none, once_empty, once_more, some_none, some_skip, some_more, all_none, all_skip, all_more, seen_again}
+use Rattle.repeats.proofs.SeenLaws.{none_there, first_there, once_none, once_empty, once_more, some_none, some_skip}
+use Rattle.repeats.proofs.SeenLaws.{some_more, all_none, all_skip, all_more, seen_again}
+use Rattle.std.specs.Prelude.{None}
 use Rattle.repeats.proofs.SourceLaws.{reads_in}
 use Rattle.repeats.proofs.first_again.Goals as goal
 use Rattle.repeats.proofs.first_again.Goals.{in-Some+else-seen-c, in_default}
@@ -61,6 +63,7 @@ loop-here-preserved g c =
     let t = c.next-here.ensures in
     let e : c.key-k.result ≡ key x l.here.entry = rw i.list at c.key-k.ensures in
     let h : s.count ≤ length s.keys = search rules in
+    let absent = λ (z : c.position.result ≡ None). none_there s.keys s.count c.key-k.result h (sym z ∙ c.position.ensures) in
     record {
       list = t.list ∙ i.list;
       first = omega arith;
@@ -74,8 +77,8 @@ loop-here-preserved g c =
             let p = first_there s.keys s.count c.key-k.result h w.in-Some.c w.in-Some.ensures in
             once_more (key x) l.seen s.keys s.count a.from.entry l.here.entry w.in-Some.c _ e (omega (arith, p.0)) p.2 (λ _. p.1) (λ _ z. cc) i.all i.once
         | in_default w ↦
-            once_more (key x) l.seen s.keys s.count a.from.entry l.here.entry s.count _ e (omega arith) (none_there s.keys s.count c.key-k.result h (sym w.in_default.is ∙ c.position.ensures)) (λ m. absurd (omega arith)) (λ m. absurd (omega arith))
-            i.all i.once
+            once_more (key x) l.seen s.keys s.count a.from.entry l.here.entry s.count _ e (omega arith) (absent w.in_default.is)
+            (λ m. absurd (omega arith)) (λ m. absurd (omega arith)) i.all i.once
       ]);
       some = rw t.entry (elim c.match-position.branch [
         | in-Some+else-seen-c w ↦
@@ -87,6 +90,6 @@ loop-here-preserved g c =
         | in-Some+else-seen-c w ↦
             let p = first_there s.keys s.count c.key-k.result h w.in-Some.c w.in-Some.ensures in
             rw w.seen-is (all_more (key x) l.seen s.keys s.count a.from.entry l.here.entry w.in-Some.c _ e p.0 (omega (arith, p.0, h, i.seen)) p.2 p.1 i.all)
-        | in_default w ↦ rw w.seen-is (all_skip (key x) l.seen s.keys s.count a.from.entry l.here.entry _ e (none_there s.keys s.count c.key-k.result h (sym w.in_default.is ∙ c.position.ensures)) i.all)
+        | in_default w ↦ rw w.seen-is (all_skip (key x) l.seen s.keys s.count a.from.entry l.here.entry _ e (absent w.in_default.is) i.all)
       ]);
     }
