@@ -1,6 +1,6 @@
 // Lists and picks the FORMs of the group files that stand packed on standard input, and says what is answered.
 //
-// A packed sample: four numbers of four bytes (the length of its the length of its file, how many numbers its slice
+// A packed sample: four numbers of four bytes (the length of its name, the length of its file, how many numbers its slice
 // has, how many rows are picked), the name, the file. The next sample follows at once; tests/make_form_samples.py writes them.
 #![tactic(auto)]
 

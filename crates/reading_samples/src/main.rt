@@ -1,6 +1,6 @@
 // Runs the reader on the sample files that stand packed on standard input, and says what it answers.
 //
-// A packed sample: five numbers of four bytes (the length of its the length of its file, how many entries and
+// A packed sample: five numbers of four bytes (the length of its name, the length of its file, how many entries and
 // how many pairs are asked, and the profile), the name, the file, eight bytes for each entry's number, four bytes of usage
 // and four of number for each pair. The next sample follows at once; tests/make_reading_samples.py writes them.
 #![tactic(auto)]

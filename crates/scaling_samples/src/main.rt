@@ -1,6 +1,6 @@
 // Runs the call on scaled pictures on the samples that stand packed on standard input, and says what it answers.
 //
-// A packed sample: twelve numbers of four bytes (the length of its the length of its file, the profile, the picture's
+// A packed sample: twelve numbers of four bytes (the length of its name, the length of its file, the profile, the picture's
 // number, and window width, window height, width and height in two numbers each, the higher one first), the name, the file.
 // The next sample follows at once; tests/make_scaling_samples.py writes them.
 #![tactic(auto)]

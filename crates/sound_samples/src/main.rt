@@ -1,6 +1,6 @@
 // Runs the call on sound lengths on the samples that stand packed on standard input, and says what it answers.
 //
-// A packed sample: two numbers of four bytes (the length of its name and of its bytes), the the bytes. The next sample
+// A packed sample: two numbers of four bytes (the length of its name and of its bytes), the name, the bytes. The next sample
 // follows at once; tests/make_sound_samples.py writes them.
 #![tactic(auto)]
 

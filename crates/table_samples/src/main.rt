@@ -1,6 +1,6 @@
 // Runs the finding table on the samples that stand packed on standard input, and says what it answers.
 //
-// A packed sample: six numbers of four bytes (the length of its the length of its file, how many numbers its slice
+// A packed sample: six numbers of four bytes (the length of its name, the length of its file, how many numbers its slice
 // has, how many a second slice has, how many pairs are sought, and the profile), the name, the file, four bytes for each
 // number of the slice, four bytes of usage and four of number for each pair. The next sample follows at once;
 // tests/make_table_samples.py writes them.

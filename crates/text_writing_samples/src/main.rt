@@ -1,6 +1,6 @@
 // Runs the writer of descriptions on the samples that stand packed on standard input, and says what it answers and what the buffer holds.
 //
-// A packed sample: four numbers of four bytes (the length of its how many numbers its list has, the length of its texts
+// A packed sample: four numbers of four bytes (the length of its name, how many numbers its list has, the length of its texts
 // and that of the buffer), the name, four bytes for each number, the texts. The next sample follows at once;
 // tests/make_text_writing_samples.py writes them.
 #![tactic(auto)]
