@@ -1,5 +1,5 @@
 // The journal's last record, read back (01, The undo journal).
-ghost use Rattle.std.specs.Prelude.{◌≡◌, ◌+◌, ◌≤◌, length, take};
+ghost use Rattle.std.specs.Prelude.{◌≡◌, ◌+◌, ◌≤◌, length};
 ghost use Rattle.edits.specs.KindRule.{kind_rule};
 ghost use Rattle.undoing.specs.Kinds.{number_of, Names};
 ghost use Rattle.undoing.specs.LastRecord.{record_at_of, last_of};
@@ -102,15 +102,14 @@ fn record_at(jrn: &[u8], at: usize, kind: Kind) -> Record
     }
 }
 
-// The last record of the journal's first `used` bytes, if it is well formed.
-pub fn last_record(jrn: &[u8], used: usize) -> Option<Record>
-    requires { used ≤ length jrn.now }
-    ensures { result ≡ last_of (take used jrn.now) }
+// The last record of the journal's bytes, if it is well formed.
+pub fn last_record(jrn: &[u8]) -> Option<Record>
+    ensures { result ≡ last_of jrn.now }
 {
-    if used < 29 {
+    if jrn.len() < 29 {
         return None;
     }
-    let end = used - 4;
+    let end = jrn.len() - 4;
     let t = blorb::be32_at(jrn, end) as usize;
     if t < 25 {
         return None;

@@ -313,7 +313,7 @@ impl Question {
     }
 }
 
-// An undo's refusal, or how it goes on.
+// An undo's refusal, or how it goes on. The lengths stand beside the buffers, as C gives them, for 20 is refused here.
 pub fn undo_plan(
     buf: &[u8],
     len: usize,
@@ -341,7 +341,7 @@ pub fn undo_plan(
             place: 0,
         });
     }
-    let last = journal::last_record(jrn, used);
+    let last = journal::last_record(&jrn[..used]);
     let asked = Question::of(last);
     let facts = reader::inspect(&buf[..len], profile, asked.usage, asked.number, asked.at)?;
     if used == 0 {

@@ -41,6 +41,9 @@ returns-then-jrn-used c =
     let a = c.args in
     short_journal a.profile a.buf.now a.len a.jrn.now a.used c.if-profile-gt1.false c.if-jrn-used.true
 
+pub slice_bounds-last_record-end : goal.slice_bounds-last_record-end
+slice_bounds-last_record-end c = sym (length-take-le _ _ c.if-jrn-used.false)
+
 pub slice_bounds-inspect-end : goal.slice_bounds-inspect-end
 slice_bounds-inspect-end c = sym (length-take-le _ _ c.if-buf-len.false)
 
