@@ -40,7 +40,8 @@ fn prop_in(prop: &Spot, close: usize) -> Result<(), Refusal>
     let mut spot = prop.within(Place::InProp, close);
     while spot.at < spot.end {
         spot.fault()?;
-        spot = spot.moved_to(spot.next(), Place::InProp);
+        let next = spot.next();
+        spot.move_to(next, Place::InProp);
     }
     Ok(())
 }
@@ -160,11 +161,11 @@ fn members_in(holder: &Spot, inside: Place, close: usize, rows: &mut Rows) -> Re
     while spot.at < spot.end {
         match next_member(&spot)? {
             Member::Passed { next, after } => {
-                spot = spot.moved_to(next, after);
+                spot.move_to(next, after);
             }
             Member::Form { close, next, after } => {
                 form_in(&spot, close, rows)?;
-                spot = spot.moved_to(next, after);
+                spot.move_to(next, after);
             }
             Member::Group {
                 inside,
@@ -173,7 +174,7 @@ fn members_in(holder: &Spot, inside: Place, close: usize, rows: &mut Rows) -> Re
                 after,
             } => {
                 members_in(&spot, inside, close, rows)?;
-                spot = spot.moved_to(next, after);
+                spot.move_to(next, after);
             }
         }
     }

@@ -130,17 +130,12 @@ impl<'a> Spot<'a> {
         }
     }
 
-    // A place further on in the same FORM, group or PROP.
-    pub fn moved_to(&self, at: usize, place: Place) -> Spot<'a>
-        ensures { (result.file ≡ self.now.file) × (result.place ≡ place) × (result.depth ≡ self.now.depth)
-            × (result.end ≡ self.now.end) × (result.at ≡ at) }
+    // On to a place further on in the same FORM, group or PROP.
+    pub fn move_to(&mut self, at: usize, place: Place)
+        ensures { (self.new.file ≡ self.old.file) × (self.new.place ≡ place) × (self.new.depth ≡ self.old.depth)
+            × (self.new.end ≡ self.old.end) × (self.new.at ≡ at) }
     {
-        Spot {
-            file: self.file,
-            place,
-            depth: self.depth,
-            end: self.end,
-            at,
-        }
+        self.at = at;
+        self.place = place;
     }
 }

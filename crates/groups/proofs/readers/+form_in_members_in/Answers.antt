@@ -43,14 +43,14 @@ pub members_in-loop-spot-smaller-in-Passed : goal.members_in-loop-spot-smaller-i
 members_in-loop-spot-smaller-in-Passed t c =
     let u = turn t (goal.at.members_in-loop-spot-smaller-in-Passed t c).After-next_member in
     let n = passed_on u _ _ (sym c.in_ok-next.ensures ∙ ap Ok c.in-Passed.is) in
-    let m = c.moved_to-spot.ensures in
+    let m = c.move_to.ensures in
     omega (arith, n.on, m.3, m.4, c.loop-spot-test.true)
 
 pub members_in-loop-spot-preserved-in-Passed : goal.members_in-loop-spot-preserved-in-Passed
 members_in-loop-spot-preserved-in-Passed t c =
     let u = turn t (goal.at.members_in-loop-spot-preserved-in-Passed t c).After-next_member in
     let n = passed_on u _ _ (sym c.in_ok-next.ensures ∙ ap Ok c.in-Passed.is) in
-    let m = c.moved_to-spot.ensures in
+    let m = c.move_to.ensures in
     let i = c.loop-spot.invariant in
     (m.0 ∙ i.0, m.2 ∙ i.1, m.3 ∙ i.2, i.3, i.4, rw m.4 n.counted, rw (m.0, m.1, m.2, m.3, m.4) (n.same ∙ i.6))
 
@@ -77,7 +77,7 @@ members_in-loop-spot-smaller-in-Form t c =
     let w = c.form_in in
     let told = sym c.in_ok-next.ensures ∙ ap Ok c.in-Form.is in
     let n = form_goes u w.result w.new.rows.count w.new.rows.slice.now _ _ _ told w.ensures.shown _ c.in_ok-form_in-in-Form.was in
-    let m = c.moved_to-spot-in-Form.ensures in
+    let m = c.move_to-in-Form.ensures in
     omega (arith, n.on, m.3, m.4, c.loop-spot-test.true)
 
 pub members_in-loop-spot-preserved-in-Form : goal.members_in-loop-spot-preserved-in-Form
@@ -86,7 +86,7 @@ members_in-loop-spot-preserved-in-Form t c =
     let w = c.form_in in
     let told = sym c.in_ok-next.ensures ∙ ap Ok c.in-Form.is in
     let n = form_goes u w.result w.new.rows.count w.new.rows.slice.now _ _ _ told w.ensures.shown _ c.in_ok-form_in-in-Form.was in
-    let m = c.moved_to-spot-in-Form.ensures in
+    let m = c.move_to-in-Form.ensures in
     let i = c.loop-spot.invariant in (
       m.0 ∙ i.0,
       m.2 ∙ i.1,
@@ -120,7 +120,7 @@ members_in-loop-spot-smaller t c =
     let w = c.members_in in
     let told = sym c.in_ok-next.ensures ∙ ap Ok c.in-Group.is in
     let n = group_goes u w.result w.new.rows.count w.new.rows.slice.now _ _ _ _ told w.ensures.shown _ c.in_ok-members_in-in-Group.was in
-    let m = c.moved_to-spot-in-Group.ensures in
+    let m = c.move_to-in-Group.ensures in
     omega (arith, n.on, m.3, m.4, c.loop-spot-test.true)
 
 pub members_in-loop-spot-preserved : goal.members_in-loop-spot-preserved
@@ -129,7 +129,7 @@ members_in-loop-spot-preserved t c =
     let w = c.members_in in
     let told = sym c.in_ok-next.ensures ∙ ap Ok c.in-Group.is in
     let n = group_goes u w.result w.new.rows.count w.new.rows.slice.now _ _ _ _ told w.ensures.shown _ c.in_ok-members_in-in-Group.was in
-    let m = c.moved_to-spot-in-Group.ensures in
+    let m = c.move_to-in-Group.ensures in
     let i = c.loop-spot.invariant in (
       m.0 ∙ i.0,
       m.2 ∙ i.1,

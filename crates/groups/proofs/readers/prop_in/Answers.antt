@@ -25,26 +25,26 @@ returns-in_err-fault c =
     let told = rw c.loop-spot.invariant.1 at e in
     rw (p.1, p.2) (prop_fault s.file.now s.depth s.end s.at c.loop-spot-test.true s.inside _ _ told ∙ c.loop-spot.invariant.4)
 
-pub next-requires : goal.next-requires
-next-requires c =
+pub next-next-requires : goal.next-next-requires
+next-next-requires c =
     let s = c.loop-spot.spot in
-    let g = good-facts s.file.now InProp s.depth s.end s.at (no_fault (goal.at.next-requires c).In_ok-fault) in
+    let g = good-facts s.file.now InProp s.depth s.end s.at (no_fault (goal.at.next-next-requires c).In_ok-fault) in
     omega (arith, g.head, s.inside)
 
 pub loop-spot-smaller : goal.loop-spot-smaller
-loop-spot-smaller c = let m = c.moved_to-spot.ensures in omega (arith, c.next.ensures, m.3, m.4, c.loop-spot-test.true)
+loop-spot-smaller c = let m = c.move_to.ensures in omega (arith, c.next-next.ensures, m.3, m.4, c.loop-spot-test.true)
 
 pub loop-spot-preserved : goal.loop-spot-preserved
 loop-spot-preserved c =
     let s = c.loop-spot.spot in
     let i = c.loop-spot.invariant in
-    let m = c.moved_to-spot.ensures in
+    let m = c.move_to.ensures in
     let told = no_fault (goal.at.loop-spot-preserved c).In_ok-fault in (
       m.0 ∙ i.0,
       m.1,
       m.2 ∙ i.2,
       m.3 ∙ i.3,
-      rw (m.0, m.2, m.3, m.4, c.next.ensures) (prop_next s.file.now s.depth s.end s.at c.loop-spot-test.true s.inside told ∙ i.4),
+      rw (m.0, m.2, m.3, m.4, c.next-next.ensures) (prop_next s.file.now s.depth s.end s.at c.loop-spot-test.true s.inside told ∙ i.4),
     )
 
 pub returns : goal.returns
