@@ -1,5 +1,6 @@
 -- 02, P7: "A list whose pairs are all in the index, written and then read as the one 'RDes' of an accepted file, has the same pairs and texts in the same
 -- order": by entry and by pair. What is written has no fault of its own, so nothing is asked of the verdict on the texts.
+use Rattle.std.specs.Prelude.{Some, Ok}
 use mathlib.Core.Path.{◌≡◌, refl, sym, ap, ◌∙◌}
 use Prim.Native.Nat.{ℕ, zero, suc, ◌+◌, ◌%◌, ◌≤◌, ◌<◌}
 use mathlib.Core.List.{List, [], ◌∷◌, ◌++◌, append_assoc}
@@ -11,6 +12,8 @@ use lib.Seq.{drop-drop, take-take, take_at, length-take-le}
 use lib.Dec.{eqb}
 use borrow.Author.Tests.{lt-ltb, le-ltb, eq-eqb}
 use Rattle.blorb.proofs.Checks.{neither}
+use Rattle.blorb.specs.Refusals.{Refused, answer_by}
+use Rattle.blorb.proofs.RefusalLaws.{not_refused}
 use Rattle.blorb.specs.Bytes.{be32, rd32}
 use Rattle.blorb.specs.Sound.{W}
 use Rattle.blorb.specs.Format.{chunk_bytes, chunk_of, size}
@@ -25,14 +28,11 @@ use Rattle.rdes.proofs.ReadBack.{read_back}
 use Rattle.locate.specs.Located.{located_of, data_at}
 use Rattle.locate.specs.declared.Located.TheVariants as located
 use Rattle.locate.proofs.Promises.{located_stood}
-use Rattle.descriptions.specs.Texts.{rdes_verdict, described_of, told_of}
+use Rattle.descriptions.specs.Texts.{rdes_verdict, described_of, told_with, told_of, or_22}
 use Rattle.descriptions.proofs.Telling.{tell-first}
-use Rattle.descriptions.specs.declared.Described.TheVariants.{Refused}
-use Rattle.descriptions.specs.declared.Told.TheVariants.{Text}
 use Rattle.described.specs.ReadsBack.{Gives, Tells, ReadsBack}
 use Rattle.describing.specs.List.{usage_of, number_of, row_text, row_at, rows_from, count_of, list_of}
-use Rattle.describing.specs.Writing.{repeated, whole_size, write_fault, answered, writing_of, written_of}
-use Rattle.describing.specs.declared.Writing.TheVariants.{Written}
+use Rattle.describing.specs.Writing.{repeated, whole_size, write_fault, writing_of, written_of}
 use Rattle.describing.proofs.JudgeLaws.{row_told, rows_told}
 use Rattle.describing.proofs.ChunkLaws.{length-rows}
 use Rattle.describing.proofs.Taken.{rows_get, rows_fine, fit, short, body_short, written_taken}
@@ -53,7 +53,7 @@ not_among u k (d ∷ es) zero z e h = (neither (eqb d.usage u && eqb d.number k)
 not_among u k (d ∷ es) (suc j) z e h = not_among u k es j z (neither (eqb d.usage u && eqb d.number k) (pair_among u k es) e).1 (omega arith)
 
 module _ (rows texts : List ℕ) (room : ℕ) (small : (i : ℕ) → get_or rows i 0 < W) (e : write_fault rows texts room ≡ accept)
-    (profile : ℕ) (f : List ℕ) (x m : ℕ) (one : located_of profile f RDes ≡ located.One x m) (held : data_at f x m ≡ body_of (list_of rows texts)) where
+    (profile : ℕ) (f : List ℕ) (x m : ℕ) (one : located_of profile f RDes ≡ Ok (located.One x m)) (held : data_at f x m ≡ body_of (list_of rows texts)) where
   good : rdes_verdict profile f ≡ accept
   unfolding rdes_verdict
   good = rw one (ap (λ (d : List ℕ). chunk_fault d x) held ∙ written_taken rows texts room small e x)
@@ -73,7 +73,7 @@ module _ (rows texts : List ℕ) (room : ℕ) (small : (i : ℕ) → get_or rows
       ∙ rw held (fills-all (body_of (list_of rows texts)) (read_back (list_of rows texts) (fit rows texts room small e) (short rows texts room small e)).2).1
 
   long : length (data_at f x m) ≡ m
-  long = let s = located_stood profile f RDes (located.One x m) one in length-take-le m (drop (x + 8) f) (simp length-drop (omega (arith, s.room)))
+  long = let s = located_stood profile f RDes (Ok (located.One x m)) one in length-take-le m (drop (x + 8) f) (simp length-drop (omega (arith, s.room)))
 
   module _ (i : ℕ) (h : i < count_of rows) where
     abbrev at : ℕ
@@ -131,7 +131,7 @@ module _ (rows texts : List ℕ) (room : ℕ) (small : (i : ℕ) → get_or rows
       = rw (usage_is i h, number_is i h, eq-eqb (usage_of rows i) (usage_of rows i) refl, eq-eqb (number_of rows i) (number_of rows i) refl) in
       let told = tell-first (usage_of rows i) (number_of rows i) (data_at f x m) (x + 8) (count_of rows) 4 i h
       (λ j l. rw (usage_is j (omega arith), number_is j (omega arith)) (other i h j l)) hit in
-      record { start = x + 8 + at i h + 12; answer = rw (good, one, known, counted) (told ∙ ap (Text (x + 8 + at i h + 12)) (size_is i h)); text = text-is i h }
+      record { start = x + 8 + at i h + 12; answer = rw (good, one, known, counted) (ap or_22 (told ∙ ap (λ n. Some (told_with (x + 8 + at i h + 12) n)) (size_is i h))); text = text-is i h }
 
   no_more : (i : ℕ) → count_of rows ≤ i → described_of profile f i ≡ Refused 22 0
   unfolding described_of
@@ -142,10 +142,10 @@ module _ (rows texts : List ℕ) (room : ℕ) (small : (i : ℕ) → get_or rows
   reads_back = record { entry = gives; no_more = no_more; pair = tells }
 
 -- the same of the bytes that the writer has written: the n bytes at the front of its buffer stand in the file as its one 'RDes'
-module _ (rows texts buf : List ℕ) (n : ℕ) (small : (i : ℕ) → get_or rows i 0 < W) (w : writing_of rows texts (length buf) ≡ Written n) where
-  taken : (v : Verdict) (k : ℕ) → answered v k ≡ Written n → (v ≡ accept) × (k ≡ n)
+module _ (rows texts buf : List ℕ) (n : ℕ) (small : (i : ℕ) → get_or rows i 0 < W) (w : writing_of rows texts (length buf) ≡ Ok n) where
+  taken : (v : Verdict) (k : ℕ) → answer_by v k ≡ Ok n → (v ≡ accept) × (k ≡ n)
   taken accept k q = (refl, cc)
-  taken (refuse a p) k q = let z : ◌≡◌ {A = ℕ} 0 1 = cc in absurd (omega arith)
+  taken (refuse a p) k q = absurd (not_refused (sym q))
 
   accepted : (write_fault rows texts (length buf) ≡ accept) × (whole_size (list_of rows texts) ≡ n)
   unfolding writing_of
@@ -158,7 +158,7 @@ module _ (rows texts buf : List ℕ) (n : ℕ) (small : (i : ℕ) → get_or row
       (take_at (chunk_bytes (chunk_of RDes (body_of (list_of rows texts)))) (drop (whole_size (list_of rows texts)) buf) n
       (length-chunk_bytes (chunk_of RDes (body_of (list_of rows texts))) ∙ (unfold size in accepted.1)))
 
-  module _ (profile : ℕ) (f : List ℕ) (x m : ℕ) (one : located_of profile f RDes ≡ located.One x m)
+  module _ (profile : ℕ) (f : List ℕ) (x m : ℕ) (one : located_of profile f RDes ≡ Ok (located.One x m))
       (same : take n (drop x f) ≡ take n (written_of rows texts buf)) where
     behind : List ℕ
     behind = replicate (length (body_of (list_of rows texts)) % 2) 0 ++ drop n (drop x f)
@@ -169,7 +169,7 @@ module _ (rows texts buf : List ℕ) (n : ℕ) (small : (i : ℕ) → get_or row
 
     amount : m ≡ length (body_of (list_of rows texts))
     amount =
-        sym (located_stood profile f RDes (located.One x m) one).field ∙ ap rd32 (sym (drop-drop 4 x f) ∙ ap (drop 4) whole ∙ drop-be32 RDes _)
+        sym (located_stood profile f RDes (Ok (located.One x m)) one).field ∙ ap rd32 (sym (drop-drop 4 x f) ∙ ap (drop 4) whole ∙ drop-be32 RDes _)
         ∙ rd32-be32 (length (body_of (list_of rows texts))) _ (body_short rows texts (length buf) small accepted.0)
 
     held : data_at f x m ≡ body_of (list_of rows texts)

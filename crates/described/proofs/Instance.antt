@@ -1,5 +1,6 @@
 -- A list and a file that meet all conditions of `written_back` together. The list has two texts over one slice, in another order than the index: "eel"
 -- for a picture, the letter é for a data resource. Written, it stands behind the two chunks of an accepted file. All of it computes.
+use Rattle.std.specs.Prelude.{Ok}
 use mathlib.Core.Path.{◌≡◌, refl}
 use Prim.Native.Nat.{ℕ, zero, suc, ◌<◌}
 use mathlib.Core.List.{List, [], ◌∷◌, ◌++◌}
@@ -22,7 +23,6 @@ use Rattle.locate.specs.Located.{of_type, located_of}
 use Rattle.locate.specs.declared.Located.TheVariants as located
 use Rattle.describing.specs.List.{usage_of, number_of, row_at, rows_from, count_of}
 use Rattle.describing.specs.Writing.{repeated, text_good_of, row_fault, rows_fault, write_fault, writing_of, written_of}
-use Rattle.describing.specs.declared.Writing.TheVariants.{Written}
 use Rattle.described.specs.ReadsBack.{Tells, ReadsBack}
 use Rattle.described.proofs.FileBack.{written_back}
 
@@ -72,11 +72,11 @@ fit : All (λ (x : ℕ). x < W) rows
 fit = (lit< tt, (lit< tt, (lit< tt, (lit< tt, (lit< tt, (lit< tt, (lit< tt, (lit< tt, tt))))))))
 
 -- the writer takes the list; its chunk is the one 'RDes' of the file, which is accepted
-written : writing_of rows texts (length buffer) ≡ Written 42
+written : writing_of rows texts (length buffer) ≡ Ok 42
 unfolding format verdicts writing
 written = refl
 
-one : located_of 0 file RDes ≡ located.One 76 33
+one : located_of 0 file RDes ≡ Ok (located.One 76 33)
 unfolding format verdicts writing
 one = refl
 

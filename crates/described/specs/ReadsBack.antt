@@ -1,23 +1,22 @@
 -- What it means that a file gives back a list of descriptions (02, P7: "has the same pairs and texts in the same order").
-use Rattle.std.specs.Prelude.{◌≡◌, ℕ, ◌≤◌, ◌<◌, List, true, length, take, drop}
+use Rattle.std.specs.Prelude.{◌≡◌, ℕ, ◌≤◌, ◌<◌, List, true, length, take, drop, Ok}
 use Rattle.blorb.specs.Verdict.{pair_in}
+use Rattle.blorb.specs.Refusals.{Refused}
 use Rattle.blorb.specs.Model.{model}
 use Rattle.rdes.specs.Rdes.{Desc}
-use Rattle.descriptions.specs.Texts.{described_of, told_of}
-use Rattle.descriptions.specs.declared.Described.TheVariants.{Given, Refused}
-use Rattle.descriptions.specs.declared.Told.TheVariants.{Text}
+use Rattle.descriptions.specs.Texts.{described_with, described_of, told_with, told_of}
 use Rattle.describing.specs.List.{usage_of, number_of, row_at, count_of}
 
 -- entry i of the file is this description: its pair, and its text where the answer says
 pub record Gives (profile : ℕ) (f : List ℕ) (i : ℕ) (e : Desc) : Type 0 where
   pub start : ℕ
-  pub answer : described_of profile f i ≡ Given e.usage e.number start (length e.text)
+  pub answer : described_of profile f i ≡ Ok (described_with e.usage e.number start (length e.text))
   pub text : take (length e.text) (drop start f) ≡ e.text
 
 -- so is what the file tells of its pair
 pub record Tells (profile : ℕ) (f : List ℕ) (e : Desc) : Type 0 where
   pub start : ℕ
-  pub answer : told_of profile f e.usage e.number ≡ Text start (length e.text)
+  pub answer : told_of profile f e.usage e.number ≡ Ok (told_with start (length e.text))
   pub text : take (length e.text) (drop start f) ≡ e.text
 
 -- "the same pairs and texts in the same order": the file's entries are the list's rows and no more, and each row's pair that is in the index has its text
