@@ -21,6 +21,9 @@ pub capped_fits : (m : ℕ) → m ≤ 16777216 → capped m ≡ m
 unfolding capped
 capped_fits m h = rw (le-leb m 16777216 h)
 
+pub same_capped : {m s : ℕ} → m ≡ s → m ≤ 16777216 → m ≡ capped s
+same_capped {m} {s} e h = let l : s ≤ 16777216 = omega arith in e ∙ sym (capped_fits s l)
+
 pub capped-over : (m : ℕ) → 16777216 < m → capped m ≡ 16777217
 unfolding capped
 capped-over m h = rw (lt-leb m 16777216 h)
@@ -35,14 +38,14 @@ module _ (rows : List ℕ) (n i : ℕ) where
   size-next h = let e : n - i ≡ suc (n - (i + 1)) = omega arith in rw e
 
   module _ (size : ℕ) (inv : size + entries_size rows (n - i) i ≡ 4 + entries_size rows n 0) where
-    pub size-over : i < n → 16777216 < size + (12 + length_of rows i) → 16777217 ≡ capped (4 + entries_size rows n 0)
-    size-over h l = let e = size-next h in sym (capped-over _ (omega arith))
+    pub size-over : i < n → 16777216 < size + (12 + length_of rows i) → 16777216 < 4 + entries_size rows n 0
+    size-over h l = let e = size-next h in omega arith
 
     pub size-turn : i < n → size + (12 + length_of rows i) + entries_size rows (n - (i + 1)) (i + 1) ≡ 4 + entries_size rows n 0
     size-turn h = let e = size-next h in omega arith
 
-    pub size-done : n ≤ i → size ≤ 16777216 → size ≡ capped (4 + entries_size rows n 0)
-    size-done h l = let e = size_end h in let q : size ≡ 4 + entries_size rows n 0 = omega arith in q ∙ sym (capped_fits _ (omega arith))
+    pub size-done : n ≤ i → size ≡ 4 + entries_size rows n 0
+    size-done h = let e = size_end h in omega arith
 
 pub size-start : (rows : List ℕ) (n : ℕ) → entries_size rows (n - 0) 0 ≡ entries_size rows n 0
 size-start rows n = let e : n - 0 ≡ n = omega arith in rw e

@@ -1,29 +1,29 @@
 // The chunk's bytes: its size, and the writing.
-ghost use Rattle.std.specs.Prelude.{◌≡◌, ◌+◌, ◌*◌, ◌%◌, ◌≤◌, length};
+ghost use Rattle.std.specs.Prelude.{◌≡◌, ◌+◌, ◌*◌, ◌%◌, ◌≤◌, ◌<◌, length, MatchOption};
 ghost use Rattle.blorb.specs.Format.{chunk_bytes, chunk_of};
 ghost use Rattle.edits.specs.Run.{noted};
 ghost use Rattle.rdes.specs.Rdes.{RDes, desc, entries_bytes, body_of};
 ghost use Rattle.describing.specs.Bridging.{entry_bytes};
 ghost use Rattle.describing.specs.List.{place_of, length_of, row_at, rows_from};
-ghost use Rattle.describing.specs.Bridging.{Within, entries_size, capped};
+ghost use Rattle.describing.specs.Bridging.{Within, entries_size};
 
 use crate::row::Row;
 
 const RDES: u64 = 0x52446573;
 
-// The chunk's data length for `n` rows; where that is over the limit, a number over the limit. The sum stops there, so it can't wrap.
-pub(crate) fn data_size(rows: &[u32], n: usize) -> usize
+// The chunk's data length for `n` rows, none where it is over the limit. The sum stops there, so it can't wrap.
+pub(crate) fn data_size(rows: &[u32], n: usize) -> Option<usize>
     requires { 4 * n ≤ length rows.now }
-    ensures { (result ≡ capped (4 + entries_size rows.now n 0)) × (result ≤ 16777217) }
+    ensures { MatchOption result (16777216 < 4 + entries_size rows.now n 0) (λ m. (m ≡ 4 + entries_size rows.now n 0) × (m ≤ 16777216)) }
 {
     let mut size: usize = 4;
     for i in 0..n {
         size += 12 + Row::at(rows, i).length;
         if 16777216 < size {
-            return 16777217;
+            return None;
         }
     }
-    size
+    Some(size)
 }
 
 // One entry at `at`.

@@ -8,7 +8,7 @@ loop-i-init c = (omega arith, ap (λ k. 4 + k) (size-start c.args.rows.now c.arg
 pub returns-then-size-gt16777216 : goal.returns-then-size-gt16777216
 returns-then-size-gt16777216 c =
     let l = c.loop-i in
-    (size-over c.args.rows.now _ _ _ l.invariant.1 c.loop-i-test.true (omega (arith, c.at.ensures.3, c.if-size-gt16777216.true)), omega arith)
+    size-over c.args.rows.now _ _ _ l.invariant.1 c.loop-i-test.true (omega (arith, c.at.ensures.3, c.if-size-gt16777216.true))
 
 pub loop-i-preserved : goal.loop-i-preserved
 loop-i-preserved c =
@@ -18,4 +18,4 @@ loop-i-preserved c =
 pub returns : goal.returns
 returns c =
     let l = c.loop-i in
-    (size-done c.args.rows.now _ _ _ l.invariant.1 c.loop-i-test.false l.invariant.0, omega (arith, l.invariant.0))
+    (size-done c.args.rows.now _ _ _ l.invariant.1 c.loop-i-test.false, l.invariant.0)

@@ -1,4 +1,4 @@
-use Rattle.std.proofs.Common.{◌≡◌, ◌≤◌, ◌∙◌, sym, refl, arith, below_more}
+use Rattle.std.proofs.Common.{◌∙◌, sym, refl, arith, below_more}
 use Rattle.describing.proofs.judge.first_bad.Goals as goal
 
 pub loop-i-init : goal.loop-i-init

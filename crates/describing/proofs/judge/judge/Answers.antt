@@ -1,5 +1,5 @@
 -- The rows up to the first bad text are asked for a repeated pair: one there comes first, else the bad text does.
-use Rattle.std.proofs.Common.{◌≡◌, ◌<◌, ℕ, sym, ◌∙◌, arith, get_or}
+use Rattle.std.proofs.Common.{◌<◌, ℕ, ◌∙◌, arith, get_or}
 use Rattle.std.proofs.lemmas.Result.{err_from_is_err_and}
 use Rattle.shared_texts.proofs.SegmentLaws.{remembers_none}
 use Rattle.describing.proofs.PairLaws.{again_38, found_39, found-all}

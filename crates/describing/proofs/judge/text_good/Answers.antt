@@ -1,5 +1,5 @@
 -- What is judged is the row's text.
-use Rattle.std.proofs.Common.{◌≡◌, ◌+◌, ◌≤◌, refl, ◌∙◌, length, arith}
+use Rattle.std.proofs.Common.{refl, ◌∙◌, arith}
 use borrow.Author.Tests.{lt-leb}
 use Rattle.describing.proofs.JudgeLaws.{text-past, text-told}
 use Rattle.describing.proofs.judge.text_good.Goals as goal
