@@ -1,6 +1,6 @@
 -- Laws of a whole file: what the code's walk says of the verdict, the list of FORMs and one FORM.
 use Prim.Native.Nat.{ℕ, zero, suc, ◌+◌, ◌*◌, ◌/◌, ◌≤◌, ◌<◌}
-use mathlib.Core.Path.{◌≡◌, refl, sym, ◌∙◌}
+use mathlib.Core.Path.{◌≡◌, refl, ◌∙◌}
 use mathlib.Core.List.{List, [], ◌∷◌, ◌++◌}
 use mathlib.Core.Bool.{Bool, true, false}
 use native.Mathlib.Omega.{arith}
@@ -235,8 +235,3 @@ pick_in f i k e = by (file_fault f) (ltb i (length (forms_of f))) refl e
         let w2 = rw q at w in
         let x : part (get_or (forms_of f) i no_row) ≡ k = cc in
         rw (← x) (row_inside (length f) i (events_of f) (inside_file f) (ltb-true i (length (forms_of f)) q))
-
--- what the code reads from a row fits
-pub pick-fits : (f : List ℕ) (i : ℕ) (rows : List ℕ) → file_fault f ≡ accept → length rows ≡ 4 → i < length (forms_of f)
-    → get_or (stores i 0 rows (forms_of f)) 1 0 + (8 + get_or (stores i 0 rows (forms_of f)) 2 0) ≤ length f
-pick-fits f i rows e l h = pick_in f i _ (sym (pick-one f i e rows l h))
