@@ -1,5 +1,5 @@
 -- Marks that are set stay set, so each marked entry has all its marks set. This is all that is known of the marks.
-use Prim.Native.Nat.{ℕ, ◌+◌, ◌≤◌, ◌<◌}
+use Prim.Native.Nat.{ℕ, ◌+◌, ◌<◌}
 use mathlib.Core.Path.{◌≡◌, ap, sym, ◌∙◌, subst}
 use mathlib.Core.List.{List}
 use mathlib.Core.Logic.{⊎_elim}
@@ -47,7 +47,3 @@ module _ (k : ℕ → ℕ) where
       let x : bits ≡ bits_of f (k j) = q ∙ ap (bits_of f) e in
       let h : w < length ms = omega arith in
       rw (u, x) (marked_more f ms b j (subst (λ (z : ℕ). z < length ms) u h) m)
-
-  pub marked_to : (f : ℕ) (ms : List ℕ) (b j e : ℕ) → e ≤ j → Marked ms f k b j → Marked ms f k b e
-  unfolding Marked
-  marked_to f ms b j e h m x l n = m x l (omega arith)

@@ -11,18 +11,6 @@ use Rattle.blorb.proofs.NumberLaws.{below?}
 
 module _ (k : ℕ → ℕ) where
   -- one entry more
-  pub without-none : (v b : ℕ) → Without k v b b
-  unfolding Without
-  without-none v b j l m e = absurd (omega arith)
-
-  pub without_more : (v b j : ℕ) → Without k v b j → (k j ≡ v → ⊥) → Without k v b (j + 1)
-  unfolding Without
-  without_more v b j w n i l m e =
-      ⊎_elim
-      (λ q. n (ap k (sym q) ∙ e))
-      (λ x. w i l x e)
-      (eq-or-lt_of_le (le_of_suc-le-suc (subst (λ (x : ℕ). i < x) (add-one j) m)))
-
   pub apart_none : (b : ℕ) → Apart k b b
   unfolding Apart
   apart_none b i j l m n e = absurd (omega arith)
@@ -79,7 +67,3 @@ module _ (k : ℕ → ℕ) where
       (λ (q : i ≡ j). subst (λ (z : ℕ). k z ≤ v) (sym q) (omega (arith, e)))
       (λ (m : i < j). let g = b i m in omega (arith, g, h))
       (eq-or-lt_of_le (le_of_suc-le-suc (subst (λ (z : ℕ). i < z) (add-one j) l)))
-
-  pub across_to : (i m b e : ℕ) → m ≤ i → Across k i b e → Across k m b e
-  unfolding Across
-  across_to i m b e h a x y l n o q = a x y (omega arith) n o q

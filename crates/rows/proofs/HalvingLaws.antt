@@ -7,7 +7,7 @@ use mathlib.Core.Logic.{◌⊎◌, inl, inr}
 use native.Mathlib.Omega.{arith}
 use lib.ListN.{length}
 use lib.Dec.{ltb}
-use borrow.Author.Tests.{lt-ltb, le-ltb, ltb-true, ltb-false}
+use borrow.Author.Tests.{lt-ltb, ltb-true, ltb-false}
 use Rattle.blorb.specs.Format.{Entry}
 use Rattle.rows.specs.Order.{before, is_pair, Rising}
 use Rattle.rows.specs.Halving.{row_of, middle, onward, while_rows, halve_go, halving, two_to, no_row}
@@ -20,10 +20,6 @@ abbrev pub Gives : List Entry → ℕ → ℕ → Spot → ℕ → ℕ → ℕ �
 Gives rows u n w k lo hi = (f : ℕ) × (hi ≤ lo + f) × (halve_go f rows u n k lo hi ≡ w)
 
 module _ (rows : List Entry) (u n : ℕ) (w : Spot) (k lo hi : ℕ) where
-  pub gives_end : hi ≤ lo → Gives rows u n w k lo hi → record { row = Err lo; probes = k } ≡ w
-  gives_end h (zero, b, e) = e
-  gives_end h (suc f, b, e) = rw (le-ltb lo hi h) at e
-
   module _ (h : lo < hi) where
     pub gives_same : is_pair u n (row_of rows (middle lo hi)) ≡ true → Gives rows u n w k lo hi
         → record { row = Ok (middle lo hi); probes = k + 1 } ≡ w
@@ -104,12 +100,17 @@ probes_few rows u n m l =
 pub record Hit (rows : List Entry) (u n : ℕ) (s : Spot) : Type 0 where
   pub there : (i : ℕ) → s.row ≡ Ok i → i < length rows
   pub pair : (i : ℕ) → s.row ≡ Ok i → is_pair u n (row_of rows i) ≡ true
+  pub within : (i : ℕ) → s.row ≡ Err i → i ≤ length rows
 
 pub hit : (rows : List Entry) (u n : ℕ) → Hit rows u n (halving rows u n)
 hit rows u n =
     halving_keeps rows u n (λ k lo hi. (lo ≤ hi) × (hi ≤ length rows)) (Hit rows u n)
-    (λ k lo hi i h. record { there = λ x e. cc; pair = λ x e. cc })
-    (λ k lo hi i h e. record { there = λ x q. let p : middle lo hi ≡ x = cc in omega arith; pair = λ x q. let p : middle lo hi ≡ x = cc in rw p at e })
+    (λ k lo hi i h. record { there = λ x e. cc; pair = λ x e. cc; within = λ x e. let p : lo ≡ x = cc in omega arith })
+    (λ k lo hi i h e. record {
+      there = λ x q. let p : middle lo hi ≡ x = cc in omega arith;
+      pair = λ x q. let p : middle lo hi ≡ x = cc in rw p at e;
+      within = λ x q. cc;
+    })
     (λ k lo hi i h e p. omega arith) (λ k lo hi i h e p. omega arith)
     (omega arith)
 

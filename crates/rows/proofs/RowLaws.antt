@@ -1,21 +1,19 @@
 -- Laws of the rows of a slice: row by row, rows that rise, and the turns of the loop that halves them.
 use mathlib.Core.Path.{◌≡◌, refl, ap, ◌∙◌}
-use Prim.Native.Nat.{ℕ, zero, suc, ◌+◌, ◌*◌, ◌-◌, ◌≤◌, ◌<◌}
+use Prim.Native.Nat.{ℕ, zero, suc, ◌+◌, ◌*◌, ◌≤◌, ◌<◌}
 use mathlib.Core.List.{List, Memᴰ}
-use mathlib.Core.Bool.{Bool, true, false}
+use mathlib.Core.Bool.{false}
 use native.Mathlib.Omega.{arith}
 use native.Mathlib.Nat.{not-suc-le-zero, le_of_suc-le-suc}
 use lib.ListN.{length, get_or}
 use Rattle.blorb.specs.Format.{Entry}
 use Rattle.rows.specs.Rows.{listed, row_in, rows_by}
-use Rattle.rows.specs.Order.{before, is_pair, Below, Rising}
+use Rattle.rows.specs.Order.{is_pair, Below, Rising}
 use Rattle.rows.specs.Halving.{row_of, middle, halving, no_row}
 use Rattle.std.specs.Prelude.{Ok}
 use Rattle.rows.specs.declared.Spot.{Spot}
 use Rattle.rows.proofs.OrderLaws.{key-before, key-same, key_differ, key_not, pair_is, pair_not}
 use Rattle.rows.proofs.HalvingLaws.{Gives, gives_same, gives_after, gives_before, hit}
-use lib.Dec.{ltb}
-use borrow.Author.Tests.{ltb-true, ltb-false}
 use Rattle.blorb.specs.All.{All}
 use Rattle.rows.proofs.SortLaws.{at_mem, below_trans}
 
@@ -82,22 +80,6 @@ row-there t rows step gap row e l w =
 
 abbrev pub Adjacent : List ℕ → ℕ → ℕ → ℕ → Type 0
 Adjacent t step gap i = (k : ℕ) → suc k < i → Below (row_in t step gap k) (row_in t step gap (suc k))
-
-pub adjacent_more : (t : List ℕ) (step gap i : ℕ) → 1 ≤ i → Adjacent t step gap i → get_or t ((i - 1) * step + gap) 0 < 4294967296 → get_or t (i * step + gap)
-    0 < 4294967296
-    → get_or t ((i - 1) * step) 0 * 4294967296 + get_or t ((i - 1) * step + gap) 0 < get_or t (i * step) 0 * 4294967296 + get_or t (i * step + gap) 0
-    → Adjacent t step gap (i + 1)
-adjacent_more t step gap i h a hb hn l k m = go (ltb (suc k) i) refl
-  where
-    b : before (get_or t ((i - 1) * step) 0) (get_or t ((i - 1) * step + gap) 0) (get_or t (i * step) 0) (get_or t (i * step + gap) 0) ≡ true
-    b = key-before _ _ _ _ hb hn l
-
-    go : (c : Bool) → ltb (suc k) i ≡ c → Below (row_in t step gap k) (row_in t step gap (suc k))
-    go true e = a k (ltb-true (suc k) i e)
-    go false e =
-        let q : i - 1 ≡ k = omega (arith, ltb-false (suc k) i e) in
-        let r : i ≡ suc k = omega (arith, ltb-false (suc k) i e) in
-        rw (q, r) at b
 
 chain : (x : Entry) (g : ℕ → Entry) (n : ℕ) → ((k : ℕ) → suc k < n → Below (g k) (g (suc k))) → (0 < n → Below x (g 0)) → All (Below x) (listed g n)
 unfolding listed

@@ -14,7 +14,7 @@ use Rattle.table.specs.Answers.{search_of, table_of, room_for, build_of, turn_of
 use Rattle.rows.specs.declared.Spot.{Spot}
 use Rattle.rows.proofs.OrderLaws.{more}
 use lib.Dec.{eqb, leb}
-use borrow.Author.Tests.{le-leb, lt-leb, leb-true, eq-eqb}
+use borrow.Author.Tests.{le-leb, leb-true, eq-eqb}
 use Rattle.reader.specs.Reading.{read_of, accepted_with}
 use Rattle.blorb.specs.Refusals.{Refused}
 use Rattle.std.specs.Prelude.{Ok, Err}
@@ -127,10 +127,6 @@ unfolding build_of
 build-refused profile f k p size e = rw e
 
 module _ (profile : ℕ) (f : List ℕ) (l count size : ℕ) (e : read_of profile f ≡ accepted_with l count) where
-  pub build_short : size < 3 * count → Refused 34 0 ≡ build_of profile f size
-  unfolding build_of
-  build_short h = rw (e, lt-leb (3 * count) size h)
-
   pub build-rows : 3 * count ≤ size → Ok count ≡ build_of profile f size
   unfolding build_of
   build-rows h = rw (e, le-leb (3 * count) size h)
@@ -144,10 +140,6 @@ module _ (profile : ℕ) (f : List ℕ) (l count size : ℕ) (e : read_of profil
 -- ---- turning n rows into numbers of the other form
 
 module _ (rows : List Entry) (n size : ℕ) (e : length rows ≡ n) where
-  pub turn_short : size < 3 * n → Refused 34 0 ≡ turn_of rows size
-  unfolding turn_of
-  turn_short h = rw (e, lt-leb (3 * n) size h)
-
   pub turn-rows : 3 * n ≤ size → Ok n ≡ turn_of rows size
   unfolding turn_of
   turn-rows h = rw (e, le-leb (3 * n) size h)
