@@ -22,7 +22,8 @@ use Rattle.members.specs.Kinds.{behind}
 use Rattle.members.specs.Faults.{next_at, end_at, kind_at, member_fault_of}
 use Rattle.groups.specs.Events.{Event, form, fault, chunk_by, unless_end, members_go, members, chunk}
 use Rattle.members.proofs.FaultLaws.{good-facts}
-use Rattle.groups.specs.Files.{no_row, first_fault, forms, events_of, forms_of, file_fault, row_numbers, rows_numbers, list_of, listed, part, pick_of, picked_by}
+use Rattle.groups.specs.Files.{no_row, first_fault, forms, events_of, forms_of, file_fault, row_numbers, rows_numbers}
+use Rattle.groups.specs.Files.{list_of, listed, part, pick_of, picked_by}
 use Rattle.groups.specs.Scan.{Outcome, good, bad, outcome, scan, and_scan, scan_file_of, pick_outcome}
 use Rattle.groups.specs.Store.{store}
 use Rattle.groups.proofs.StoreLaws.{stores, stores-all, stores-pick}
@@ -38,7 +39,8 @@ module _ (f : List ℕ) (base : ℕ) (rows : List ℕ) where
     unfolding scan_file_of
     file_bad k p r e = rw (le-leb (length f) 16777216 h, ← e)
 
-    pub file-tail : (n : ℕ) (r : List ℕ) → good n r ≡ scan base 0 rows (events_of f) → (next_at f 0 ≡ length f → ⊥) → bad 43 (next_at f 0) r ≡ scan_file_of base rows f
+    pub file-tail : (n : ℕ) (r : List ℕ) → good n r ≡ scan base 0 rows (events_of f) → (next_at f 0 ≡ length f → ⊥)
+        → bad 43 (next_at f 0) r ≡ scan_file_of base rows f
     unfolding scan_file_of
     file-tail n r e x = rw (le-leb (length f) 16777216 h, ← e, ne_eqb (next_at f 0) (length f) x)
 
@@ -216,7 +218,8 @@ inside_file f =
     (λ v. (good-facts f Top 1 (length f) 0 v).body)
     (λ v q. inside_go (length f) f q (1 + 1) (end_at f 0) (0 + 12) (length f) (good-facts f Top 1 (length f) 0 v).body)
 
-row_inside : (l j : ℕ) (es : List Event) → Inside l es → j < length (forms es) → (get_or (forms es) j no_row).start + (8 + (get_or (forms es) j no_row).size) ≤ l
+row_inside : (l j : ℕ) (es : List Event) → Inside l es → j < length (forms es)
+    → (get_or (forms es) j no_row).start + (8 + (get_or (forms es) j no_row).size) ≤ l
 unfolding forms Inside
 row_inside l j [] i h = absurd (omega arith)
 row_inside l zero (form t a m d ∷ es) i h = i.0

@@ -81,7 +81,8 @@ step-rising (refuse n q) k f d end at I rest a g l r s =
     let e : q ≡ at = a n q refl in
     rising-cons at end (fault n q) rest (omega arith) (omega arith) (rising-wide (next_at f at) end (suc q) end rest (omega arith) (omega arith) s)
 step-rising accept k f d end at I rest a g l r s =
-    rising-append at (next_at f at) end (chunk_by accept k f d at I) rest (omega arith) (g refl) (chunk-rising k f d at (next_at f at) I (omega arith) (r refl)) s
+    rising-append at (next_at f at) end (chunk_by accept k f d at I) rest (omega arith) (g refl)
+    (chunk-rising k f d at (next_at f at) I (omega arith) (r refl)) s
 
 rising_unless : (b : Bool) (lo hi : ℕ) (x : List Event) → (b ≡ false → Rising lo hi x) → Rising lo hi (unless_end b (λ z. x))
 rising_unless true lo hi x h = rising-nil lo hi
@@ -92,7 +93,8 @@ unfolding members_go
 rising_go zero f p d end at = rising-nil at end
 rising_go (suc n) f p d end at =
     rising_unless (leb end at) at end _ (λ b.
-    step-rising (member_fault_of f p d end at) (kind_at f at) f d end at _ _ (fault-at f p d end at) (λ v. (good-facts f p d end at v).next) (leb-false end at b)
+    step-rising (member_fault_of f p d end at) (kind_at f at) f d end at _ _ (fault-at f p d end at)
+    (λ v. (good-facts f p d end at v).next) (leb-false end at b)
     (λ v q. rising_go n f q (d + 1) (end_at f at) (at + 12)) (rising_go n f (behind p (kind_at f at)) d end (next_at f at)))
 
 top-rising : (v : Verdict) (k : Kind) (f : List ℕ) (I : Place → ℕ → ℕ → List Event) → ((n q : ℕ) → v ≡ refuse n q → q ≡ 0)

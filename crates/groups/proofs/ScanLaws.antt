@@ -61,7 +61,8 @@ module _ (f : List ℕ) (p : Place) (d end at base n : ℕ) (rows : List ℕ) wh
   good-fault (refuse m q) k r c I e = let z : ◌≡◌ {A = ℕ} 0 1 = cc in absurd (omega arith)
 
   -- what a good chunk tells the walk
-  pub good_in_lem : (k : ℕ) (r : List ℕ) → good k r ≡ scan base n rows (chunk f p d end at) → (at + 8 ≤ end) × (next_at f at ≤ end) × (n ≤ at → k ≤ next_at f at)
+  pub good_in_lem : (k : ℕ) (r : List ℕ) → good k r ≡ scan base n rows (chunk f p d end at)
+      → (at + 8 ≤ end) × (next_at f at ≤ end) × (n ≤ at → k ≤ next_at f at)
   unfolding chunk
   good_in_lem k r e =
       let g = good-facts f p d end at (good-fault (member_fault_of f p d end at) k r (kind_at f at) _ e) in
@@ -94,7 +95,8 @@ prop_go (suc k) f d end at base n rows = go (leb end at) refl (prop_go k f d end
     go : (b : Bool) → leb end at ≡ b
         → scan base n rows (members_go k f InProp d end (next_at f at)) ≡ by_verdict (first_fault (members_go k f InProp d end (next_at f at))) n rows
         → scan base n rows (unless_end (leb end at)
-        (λ z. chunk_by (member_fault_of f InProp d end at) (kind_at f at) f d at (λ q e a. members_go k f q (d + 1) e a) ++ members_go k f InProp d end (next_at f at)))
+        (λ z. chunk_by (member_fault_of f InProp d end at) (kind_at f at) f d at (λ q e a. members_go k f q (d + 1) e a)
+        ++ members_go k f InProp d end (next_at f at)))
         ≡ by_verdict (first_fault (unless_end (leb end at)
         (λ z. chunk_by (member_fault_of f InProp d end at) (kind_at f at) f d at (λ q e a. members_go k f q (d + 1) e a)
         ++ members_go k f InProp d end (next_at f at)))) n rows
@@ -172,7 +174,8 @@ pub record Opens (f : List ℕ) (p : Place) (d end at close next : ℕ) (after :
   pub room : at + 12 ≤ end
 
 module _ (f : List ℕ) (p : Place) (d end at base n : ℕ) (rows : List ℕ) where
-  propped : scan base n rows (members f InProp (d + 1) (end_at f at) (at + 12)) ≡ by_verdict (first_fault (members f InProp (d + 1) (end_at f at) (at + 12))) n rows
+  propped : scan base n rows (members f InProp (d + 1) (end_at f at) (at + 12))
+      ≡ by_verdict (first_fault (members f InProp (d + 1) (end_at f at) (at + 12))) n rows
   unfolding members
   propped = prop_go (length f) f (d + 1) (end_at f at) (at + 12) base n rows
 

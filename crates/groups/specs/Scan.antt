@@ -25,7 +25,7 @@ abbrev pub outcome : Result ℕ Refusal → List ℕ → Outcome
 outcome (Ok n) rows = good n rows
 outcome (Refused k p) rows = bad k p rows
 
--- the same, where the rows count
+-- what a reader leaves: the same, where the count stands beside the slice
 abbrev pub left : {A : Type 0} → Result A Refusal → ℕ → List ℕ → Outcome
 left (Ok x) n rows = good n rows
 left (Refused k p) n rows = bad k p rows

@@ -69,7 +69,8 @@ members_in-returns-in_err-form_in-in-Form-clause-shown t c =
     let p = err_from_is_err_and r.result r.ensures.1 in
     let w = c.form_in in
     let told = sym c.in_ok-next.ensures ∙ ap Ok c.in-Form.is in
-    rw (p.1, p.2) (form_stops u w.result w.new.rows.count w.new.rows.slice.now _ _ _ told w.ensures.shown _ c.in_err-form_in-in-Form.was ∙ c.loop-spot.invariant.6)
+    rw (p.1, p.2)
+    (form_stops u w.result w.new.rows.count w.new.rows.slice.now _ _ _ told w.ensures.shown _ c.in_err-form_in-in-Form.was ∙ c.loop-spot.invariant.6)
 
 pub members_in-loop-spot-smaller-in-Form : goal.members_in-loop-spot-smaller-in-Form
 members_in-loop-spot-smaller-in-Form t c =
@@ -112,7 +113,8 @@ members_in-returns-in_err-members_in-in-Group-clause-shown t c =
     let p = err_from_is_err_and r.result r.ensures.1 in
     let w = c.members_in in
     let told = sym c.in_ok-next.ensures ∙ ap Ok c.in-Group.is in
-    rw (p.1, p.2) (group_stops u w.result w.new.rows.count w.new.rows.slice.now _ _ _ _ told w.ensures.shown _ c.in_err-members_in-in-Group.was ∙ c.loop-spot.invariant.6)
+    rw (p.1, p.2)
+    (group_stops u w.result w.new.rows.count w.new.rows.slice.now _ _ _ _ told w.ensures.shown _ c.in_err-members_in-in-Group.was ∙ c.loop-spot.invariant.6)
 
 pub members_in-loop-spot-smaller : goal.members_in-loop-spot-smaller
 members_in-loop-spot-smaller t c =

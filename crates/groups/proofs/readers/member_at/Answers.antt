@@ -75,11 +75,13 @@ returns-in_ok-prop_in-in-Prop c =
 
 pub returns-in-Form : goal.returns-in-Form
 returns-in-Form c =
-    rw (c.close-close.ensures, c.next-next.ensures, c.behind-after.ensures, c.in-Form.is) (by_kind (goal.at.returns-in-Form c).In_ok-fault Form c.in-Form.ensures)
+    rw (c.close-close.ensures, c.next-next.ensures, c.behind-after.ensures, c.in-Form.is)
+    (by_kind (goal.at.returns-in-Form c).In_ok-fault Form c.in-Form.ensures)
 
 pub returns-in-List : goal.returns-in-List
 returns-in-List c =
-    rw (c.close-close.ensures, c.next-next.ensures, c.behind-after.ensures, c.in-List.is) (by_kind (goal.at.returns-in-List c).In_ok-fault Lst c.in-List.ensures)
+    rw (c.close-close.ensures, c.next-next.ensures, c.behind-after.ensures, c.in-List.is)
+    (by_kind (goal.at.returns-in-List c).In_ok-fault Lst c.in-List.ensures)
 
 pub returns-in-Cat : goal.returns-in-Cat
 returns-in-Cat c =
