@@ -15,7 +15,7 @@ pub const WORDS: usize = 896;
 // There are fewer whole segments than this.
 const SEGMENTS: usize = WORDS * 64;
 
-// The first offset from `x` on that can begin a character.
+// The first offset from `x` on that can begin a character. A loop: over `find` on a range the proof did not close.
 fn first_start(texts: &[u8], x: usize) -> usize
     requires { x ≤ length texts.now }
     ensures { Start texts.now x result × (result ≤ length texts.now) }
