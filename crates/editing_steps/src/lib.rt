@@ -105,6 +105,11 @@ pub struct Stage<'a> {
     pub profile: u32,
 }
 
+// The borrow check covers no field lent as `&` beside one lent as `&mut`, so that the journal is lent to this as `&mut`.
+fn undo(file: &mut [u8], len: usize, jrn: &mut [u8], used: usize, profile: u32) -> Answer {
+    editor::undo(file, len, jrn, used, profile)
+}
+
 impl Stage<'_> {
     fn call(&mut self, step: Step) -> Answer {
         let len = self.len;
@@ -131,7 +136,7 @@ impl Stage<'_> {
             Step::Remove { usage, number } => {
                 editor::remove(self.file, len, self.jrn, used, profile, usage, number)
             }
-            Step::Undo => editor::undo(self.file, len, self.jrn, used, profile),
+            Step::Undo => undo(self.file, len, self.jrn, used, profile),
             Step::Given { len, used } => Answer {
                 outcome: Ok(()),
                 len,
