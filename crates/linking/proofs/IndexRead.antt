@@ -16,7 +16,6 @@ use Rattle.blorb.specs.Format.{Ref, Entry, entry_from}
 use Rattle.blorb.specs.Model.{Model, entry_of, model, file}
 use Rattle.blorb.specs.Queries.{find, no_ref, ref_at, start}
 use Rattle.blorb.specs.Sound.{W, Sound}
-use Rattle.blorb.proofs.ModelLaws.{entries}
 use Rattle.blorb.proofs.Parts.{start_in_lem, index-entry}
 use Rattle.edits.proofs.UndoJudged.{AcceptedFile, accepted-facts}
 use Rattle.undoing.specs.UndoPlan.{start_in}

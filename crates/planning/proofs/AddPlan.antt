@@ -6,7 +6,7 @@ use mathlib.Core.Bool.{true, false, ◌&&◌, ◌||◌, not}
 use native.Mathlib.Omega.{arith}
 use lib.ListN.{length, take}
 use lib.Dec.{eqb, leb}
-use Rattle.blorb.specs.Verdict.{Verdict, accept, refuse, ◌then◌, check, verdict}
+use Rattle.blorb.specs.Verdict.{Verdict, accept, ◌then◌, check, verdict}
 use Rattle.blorb.specs.Tags.{FORM}
 use Rattle.blorb.specs.Rules.{rules_of}
 use Rattle.blorb.specs.Model.{model, file}

@@ -1,6 +1,6 @@
 -- The refusals of an edit in their order, as the plans find them: what opening tells, what is judged, 24 and 25.
 use mathlib.Core.Path.{◌≡◌, refl, sym, ap, ◌∙◌}
-use Prim.Native.Nat.{ℕ, ◌+◌, ◌-◌, ◌≤◌, ◌<◌}
+use Prim.Native.Nat.{ℕ, ◌+◌, ◌-◌, ◌≤◌}
 use mathlib.Core.List.{List}
 use mathlib.Core.Bool.{Bool, true, false, ◌&&◌}
 use native.Mathlib.Omega.{arith}
@@ -13,7 +13,7 @@ use Rattle.blorb.specs.Rules.{rules_of}
 use Rattle.blorb.specs.Model.{model, file}
 use Rattle.blorb.specs.All.{All}
 use Rattle.blorb.specs.Bytes.{Byte}
-use Rattle.blorb.proofs.Checks.{then_accept, check_accept, pass, accepts, stop, then_assoc, and_both}
+use Rattle.blorb.proofs.Checks.{then_accept, check_accept, accepts, then_assoc, and_both}
 use Rattle.blorb.proofs.Accept.{accept_back, accept_short}
 use Rattle.blorb.proofs.Parts.{file-length}
 use Rattle.edits.specs.Edit.{Edit}

@@ -9,7 +9,7 @@ use lib.ListN.{length, take, get_or}
 use lib.Dec.{leb, ltb}
 use borrow.Author.Tests.{lt-ltb, ltb-true}
 use Rattle.blorb.specs.Format.{Chunk, size, sized, total}
-use Rattle.blorb.specs.Verdict.{Verdict, accept, refuse, ◌then◌, check, verdict, no_chunk}
+use Rattle.blorb.specs.Verdict.{Verdict, accept, ◌then◌, check, verdict, no_chunk}
 use Rattle.blorb.specs.Rules.{rules_of}
 use Rattle.blorb.specs.Model.{Model, model, file, start_of, base}
 use Rattle.blorb.specs.Queries.{find, ref_at, chunk_at, shared, start}

@@ -2,14 +2,11 @@
 use native.Mathlib.Omega.{arith}
 use mathlib.Core.Path.{◌≡◌, refl, sym, ap, ◌∙◌}
 use mathlib.Core.Bool.{Bool, true, false, not}
-use Prim.Native.Nat.{ℕ, ◌≤◌, ◌<◌}
-use lib.ListN.{length}
+use Prim.Native.Nat.{ℕ}
 use Rattle.std.specs.Prelude.{Option, Some, None}
 use Rattle.std.specs.Option.{is_some}
 use Rattle.blorb.specs.Bytes.{Byte}
 use Rattle.blorb.specs.All.{All}
-use Rattle.blorb.specs.Model.{model}
-use Rattle.blorb.specs.Queries.{find}
 use Rattle.blorb.specs.Usages.{usage_of}
 use Rattle.blorb.specs.Verdict.{known_usage_of}
 use Rattle.blorb.specs.declared.Usage.{Usage}

@@ -1,6 +1,6 @@
 -- Kind by kind, what the code tests of the record and of what the reader told is what the definitions ask.
 use native.Mathlib.Omega.{arith}
-use Rattle.undoing.proofs.UndoAsked.{record_room, index_inside, asked-added, asked-replaced, asked-removed, asked_unlisted, asked-linked, asked-begins, file_is}
+use Rattle.undoing.proofs.UndoAsked.{record_room, index_inside, asked-added, asked-replaced, asked-removed, asked_unlisted, asked-linked, asked-begins}
 use Rattle.undoing.proofs.plan_fitting.Goals as goal
 
 pub overflow_sub-end : goal.overflow_sub-end

@@ -1,6 +1,6 @@
 -- Each way out is a law of ReplaceFault; the tests that came before it are the same at every later one.
 use native.Mathlib.Omega.{arith}
-use mathlib.Core.Path.{◌≡◌, sym, ap, ◌∙◌}
+use mathlib.Core.Path.{sym, ap, ◌∙◌}
 use mathlib.Core.Bool.{Bool, ◌&&◌}
 use lib.Dec.{eqb}
 use Rattle.blorb.specs.Tags.{Rect}

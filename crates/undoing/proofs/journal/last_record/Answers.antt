@@ -1,5 +1,5 @@
 -- Each way out is a law of the last record: what is too short, has a trailer, a kind or a length that does not fit, or a field that is not zero.
-use mathlib.Core.Path.{◌≡◌, refl, sym, ap, ◌∙◌}
+use mathlib.Core.Path.{◌≡◌, ap, ◌∙◌}
 use mathlib.Core.List.{List}
 use Prim.Native.Nat.{ℕ}
 use native.Mathlib.Omega.{arith}
