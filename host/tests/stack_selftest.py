@@ -13,7 +13,8 @@ from pathlib import Path
 import stack_archive
 import stack_source
 
-LIB = """// Comments count for nothing: read(s) [0u8; 65]
+LIB = """#![tactic(auto)]
+// Comments count for nothing: read(s) [0u8; 65]
 mod deep;
 ghost use one.specs.Reading.{read};
 pub struct Kept {
@@ -38,9 +39,107 @@ fn step(s: &[u8], n: usize) -> u64 {
     tops[n % 8]
 }
 
-pub fn read(s: &[u8]) -> u64 {
+pub fn read(s: &[u8], wide: &mut [u64; 9]) -> u64 {
     let kept = Kept { bytes: *b"Pict" };
-    step(s, 0) + kept.first()
+    step(s, 0) + kept.first() + forms(s, wide).unwrap_or(0)
+}
+
+#[derive(Clone, Copy)]
+pub struct Stop {
+    pub place: usize,
+}
+
+impl From<u64> for Stop {
+    ghost from_gives = { λ place stop. record { place = place; at = [0; 99] } };
+
+    fn from(place: u64) -> Stop {
+        Stop { place: place as usize }
+    }
+}
+
+pub trait Keys: Copy {
+    ghost source: { Self → List ℕ };
+
+    fn key(&self, at: usize) -> u64
+        requires inside { at < length (source self.now) }
+        ensures { result ≡ get_or (source self.now) at 0 };
+}
+
+#[derive(Clone, Copy)]
+struct List<'a> {
+    bytes: &'a [u8],
+    pub ghost few: { length bytes.now ≤ sum [0; 99] },
+}
+
+impl Keys for List<'_> {
+    ghost source = { λ l. l.bytes.now };
+
+    fn key(&self, at: usize) -> u64 {
+        u16::from_be_bytes([self.bytes[at], self.bytes[at + 1]]) as u64
+    }
+}
+
+impl<'a> List<'a> {
+    fn len(&self) -> usize {
+        self.bytes.len()
+    }
+
+    fn position(&self, k: u8) -> Option<usize> {
+        self.bytes[..self.len()].iter().position(|b| *b == k)
+    }
+}
+
+#[tactic(auto, unfolding(crate::specs::Reading::summed))]
+fn summed<L: Keys>(list: L, n: usize) -> Result<u64, u64>
+    ensures sum { result ≡ Ok (sum (L.source list)) }
+{
+    let mut total: u64 = 0;
+    for i in 0..n {
+        total = total.saturating_add(list.key(i));
+    }
+    if matches!(total, 0 | 7) { Err(total) } else { Ok(total) }
+}
+
+#[derive(Drop)]
+struct Marks {
+    marks: [u8; 64],
+    count: usize,
+}
+
+fn counted(marks: &mut Marks) -> usize {
+    marks.count
+}
+
+impl Marks {
+    fn new() -> Marks {
+        Marks { marks: [0; 64], count: 0 }
+    }
+}
+
+fn marked() -> Marks {
+    Marks::new()
+}
+
+fn cleared(wide: &mut [u64; 9]) {
+    *wide = [0; 9];
+}
+
+fn is_small(b: &u8) -> bool {
+    *b < 8
+}
+
+fn forms(s: &[u8], wide: &mut [u64; 9]) -> Result<u64, Stop> {
+    let list = List { bytes: s };
+    let total = summed(list, list.len())?;
+    cleared(wide);
+    let mut marks = marked();
+    if s.iter().all(is_small) {
+        return Ok(counted(&mut marks) as u64);
+    }
+    let Some(at) = list.position(0) else {
+        return Ok(total);
+    };
+    Ok(at as u64)
 }
 """
 DEEP = """// Two.
@@ -87,6 +186,31 @@ SOURCE = [
     ("marks in a call on a list", "deep", "[0u8; WIDTH]", "[0u64; 896]", "lists", None),
     ("marks twice at once in a call on a list", "deep", "[0u8; WIDTH]", "[[0u64; 896]; 2]", "lists", "bytes of arrays by one::read"),
     ("two arrays at once in an editing call", "deep", "[0u8; WIDTH]", "[[0u8; 2048]; 2]", "editing", "bytes of arrays by one::read"),
+    ("a method that calls itself and has a name of the library's", "lib", "self.bytes.len()", "self.len()", "reading", "recursion: one::List::len"),
+    ("recursion by a trait's method", "lib", "u16::from_be_bytes([self.bytes[at], self.bytes[at + 1]])", "summed(*self, at).unwrap_or(0)", "reading",
+     "recursion: one::summed calls one::List::key"),
+    ("recursion by a function that is named", "lib", "*b < 8", "[*b].iter().all(is_small)", "reading", "recursion: one::is_small"),
+    ("recursion within a closure", "lib", "|b| *b == k", "|b| self.position(*b).is_some()", "reading", "recursion: one::List::position"),
+    ("recursion by the conversion of a ?", "lib", "Stop { place: place", "Stop { place: forms(b\"\", wide).unwrap_or(0)", "reading",
+     "recursion: one::forms calls one::Stop::from"),
+    ("a ? that converts to what is not written", "lib", "Result<u64, Stop> {", "Answer {", "reading", "neither an Option nor a Result"),
+    ("a loop's trait by hand", "lib", "impl<'a> List<'a>", "impl Iterator for List<'_>", "reading", "an impl of Iterator"),
+    ("an unknown macro", "lib", "matches!(", "assert!(", "reading", "the macro assert!"),
+    ("a parameter that is called", "lib", "list.key(i)", "n(i)", "reading", "calls its parameter n"),
+    ("a field that is called", "lib", "list.key(i)", "(list.key)(i)", "reading", "what an expression gives"),
+    ("a trait's method by its path", "lib", "list.key(i)", "Keys::key(&list, i)", "reading", "does not find"),
+    ("an unknown method of a slice", "lib", "s.iter().all(is_small)", "s.iter().eq(s)", "reading", "does not know"),
+    ("a function of a number's type that is unknown", "lib", "u16::from_be_bytes", "u16::from_text", "reading", "does not find"),
+    ("an array of 65 bytes in what is given back", "lib", "marks: [u8; 64]", "marks: [u8; 65]", "reading", "array of 65 bytes"),
+    ("a large structure that is lent", "lib", "marks: [u8; 64]", "marks: [u8; 2048]", "editing", None),
+    ("a large structure that is taken besides", "lib", "marks: [u8; 64],\n    count: usize,\n}\n\nfn counted(marks: &mut Marks)",
+     "marks: [u8; 2048],\n    count: usize,\n}\n\nfn counted(marks: Marks)", "editing", "bytes of arrays by one::read"),
+    ("nine numbers beside those that they are assigned to", "lib", "*wide = [0; 9]", "let other = [0; 9]", "reading", "array of 72 bytes"),
+    ("nine numbers that are copied out of what is lent", "lib", "*wide = [0; 9]", "let other = *wide", "reading", "array of 72 bytes"),
+    ("an array that is copied out of a field", "lib", "marks: [u8; 64],\n    count: usize,\n}\n\nfn counted(marks: &mut Marks) -> usize {\n    marks.count",
+     "marks: [u8; 2048],\n    count: usize,\n}\n\nfn counted(marks: &mut Marks) -> usize {\n    let other = marks.marks;\n    marks.count", "editing",
+     "bytes of arrays by one::read"),
+    ("an array of what is unknown", "lib", "bytes: &'a [u8],", "bytes: &'a [u8],\n    more: [Other; 2],", "reading", "whose type this check does not know"),
 ]
 
 # What may recurse in a planted grouping call.
