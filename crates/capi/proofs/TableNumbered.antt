@@ -1,5 +1,5 @@
 -- `refusal` is 0 exactly where a call of the finding table was carried out: 34, 35, 22 and the reader's numbers are none of them 0.
-use Rattle.std.specs.Prelude.{Result, Ok}
+use Rattle.std.specs.Prelude.{Result, Ok, Err}
 use Rattle.blorb.specs.declared.refusal.Refusal.{Refusal}
 use Rattle.blorb.specs.Refusals.{Refused}
 use Rattle.reader.specs.declared.Accepted.{Accepted}
@@ -62,8 +62,8 @@ zero_checked profile f rows size e = go (read_of profile f) refl e
 -- a search whose `refusal` is 0 has found a row
 pub zero_searched : (rows : List Entry) (u n : ℕ) → (search_numbers_of (search_of rows u n)).refusal ≡ 0 → (x : ℕ) × ((search_of rows u n).found ≡ Ok x)
 unfolding search_of
-zero_searched rows u n e = go (halving rows u n).found (row_of rows (halving rows u n).row).start e
+zero_searched rows u n e = go (halving rows u n).row e
   where
-    go : (b : Bool) (y : ℕ) → (found_numbers (found_by b y) (halving rows u n).probes).refusal ≡ 0 → (x : ℕ) × (found_by b y ≡ Ok x)
-    go true y e = (y, refl)
-    go false y e = absurd (omega (arith, e))
+    go : (r : Result ℕ ℕ) → (found_numbers (found_by r rows) (halving rows u n).probes).refusal ≡ 0 → (x : ℕ) × (found_by r rows ≡ Ok x)
+    go (Ok i) e = ((row_of rows i).start, refl)
+    go (Err i) e = absurd (omega (arith, e))
