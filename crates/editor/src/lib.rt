@@ -239,8 +239,10 @@ fn link_entry(
 fn code_of(b: [u8; 4]) -> u32
     ensures { result ≡ rd32 b }
 {
-    blorb::be32_at(&b, 0) as u32
+    u32::from_be_bytes(b)
 }
+
+// The calls take each buffer with a length beside it, as C gives them; that the lengths fit is tested, and refused as 20.
 
 // Add: an entry at the end of the index, a chunk at the end of the file. Of type 'FORM' the data is a whole file, as a lookup gives it.
 pub fn add(
