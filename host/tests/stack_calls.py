@@ -2,9 +2,9 @@
 
 For each call its function in C, None where it has none, and in the source, None where it is plain C (host/library), which the source's check does not
 read. Of every call but the grouping ones: nothing that it runs may recurse. What the grouping calls run may recurse through the functions of `NESTED`
-alone, each of which is on the stack at most `LEVELS` times, whatever the file says (that is proved: the levels that are left fall at each nesting). The
-reading and grouping calls may besides hold no array of over 64 bytes; those of the group "lists" mark the rows of a list in one larger array. `LIMITS`
-names the group's constant in include/blorb.h, which the stack of its calls may not exceed.
+alone, each of which is on the stack at most `LEVELS` times, whatever the file says (that is proved: the depth is 1 at the top, grows at each nesting, and
+either function asks that it is at most 16). The reading and grouping calls may besides hold no array of over 64 bytes; those of the group "lists" mark
+the rows of a list in one larger array. `LIMITS` names the group's constant in include/blorb.h, which the stack of its calls may not exceed.
 """
 import re
 
