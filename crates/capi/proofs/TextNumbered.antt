@@ -82,25 +82,25 @@ told-by : (u k : ℕ) (r : Result Told Refusal) → Numbered (verdict_of r) → 
 told-by u k (Ok t) n e = (t, refl)
 told-by u k (Refused j p) n e = absurd (omega (arith, positive j p n, e))
 
+text-numbered : (profile : ℕ) (f : List ℕ) (i : ℕ) → Numbered (verdict_of (described_of profile f i))
+unfolding described_of rdes_verdict
+text-numbered profile f i =
+    let n = rdes_numbered profile f in
+    answered-numbered (located_fault f (located_of profile f RDes)) _ n (one-numbered f _ (located_of profile f RDes) n)
+
 pub zero-text : (profile : ℕ) (f : List ℕ) (i : ℕ) → (text_numbers (described_of profile f i)).refusal ≡ 0 → IsGiven (described_of profile f i)
-zero-text profile f i e = given-by (described_of profile f i) numbered e
-  where
-    numbered : Numbered (verdict_of (described_of profile f i))
-    unfolding described_of rdes_verdict
-    numbered =
-        let n = unfold rdes_verdict in rdes_numbered profile f in
-        answered-numbered (located_fault f (located_of profile f RDes)) _ n (one-numbered f _ (located_of profile f RDes) n)
+zero-text profile f i e = given-by (described_of profile f i) (text-numbered profile f i) e
+
+listed : (b : Bool) (r : Result Told Refusal) → Numbered (verdict_of r) → Numbered (verdict_of (cond b r (Refused 22 0)))
+listed true r n = n
+listed false r n = unfold Numbered in omega arith
+
+told-numbered : (profile : ℕ) (f : List ℕ) (u k : ℕ) → Numbered (verdict_of (told_of profile f u k))
+unfolding told_of rdes_verdict
+told-numbered profile f u k =
+    let n = rdes_numbered profile f in
+    answered-numbered (located_fault f (located_of profile f RDes)) _ n
+    (listed (pair_in u k (model f).refs) _ (one-numbered f _ (located_of profile f RDes) n))
 
 pub zero-told : (profile : ℕ) (f : List ℕ) (u k : ℕ) → (told_numbers u k (told_of profile f u k)).refusal ≡ 0 → IsTold (told_of profile f u k)
-zero-told profile f u k e = told-by u k (told_of profile f u k) numbered e
-  where
-    listed : (b : Bool) (r : Result Told Refusal) → Numbered (verdict_of r) → Numbered (verdict_of (cond b r (Refused 22 0)))
-    listed true r n = n
-    listed false r n = unfold Numbered in omega arith
-
-    numbered : Numbered (verdict_of (told_of profile f u k))
-    unfolding told_of rdes_verdict
-    numbered =
-        let n = unfold rdes_verdict in rdes_numbered profile f in
-        answered-numbered (located_fault f (located_of profile f RDes)) _ n
-        (listed (pair_in u k (model f).refs) _ (one-numbered f _ (located_of profile f RDes) n))
+zero-told profile f u k e = told-by u k (told_of profile f u k) (told-numbered profile f u k) e
