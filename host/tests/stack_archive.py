@@ -39,7 +39,7 @@ class Instruction:
         while words[0] in PREFIXES and len(words) > 1:
             words = words[1].split(None, 1)
         self.name = words[0]
-        self.rest = words[1].split("#")[0].strip() if len(words) > 1 else ""
+        self.rest = words[1].split(" # ")[0].strip() if len(words) > 1 else ""      # a generic function's name may have a # too
 
     def __str__(self):
         return f"{self.at:x}: {self.name} {self.rest}"
@@ -239,7 +239,7 @@ class Function:
             if distance not in (-4, 0):
                 self.refuse(i, "a call into a function's middle")
         else:
-            name = re.search(r"<([^>+]*)", i.rest)[1]
+            name = re.search(r"<(.*?)(?:\+0x[0-9a-f]+)?>$", i.rest)[1]
         if name not in self.known and name not in OUTSIDE:
             self.refuse(i, f"calls {name}, which is neither the library's nor one of {', '.join(OUTSIDE)}")
         return name

@@ -296,8 +296,8 @@ def source_plants(folder):
         judged(f"source, {what}", found, None if wanted is None else (wanted,))
 
 
-def compiled(folder, body):
-    """Both forms of the plant: in sections of their own, and in one."""
+def compiled(folder, body, generic=False):
+    """Both forms of the plant: in sections of their own, and in one; and, where it is asked for, with names like those of generic functions."""
     compiler = shlex.split(os.environ.get("CC", "cc"))
     flags = ["-O2", "-w", "-fno-stack-protector", "-fcf-protection=none", "-fPIC", "-c"]
     code, built = folder / "plant.c", folder / "plant.o"
@@ -305,12 +305,17 @@ def compiled(folder, body):
     for sections in ("-ffunction-sections", "-fno-function-sections"):
         subprocess.run([*compiler, *flags, sections, "-o", str(built), str(code)], check=True)
         yield sections, built
+        if generic:
+            names = [f"--redefine-sym={one}=plant::{one}::<#0a1b+8'one::Two{{}}>" for one in ("step", "held")]
+            moved = [f"--rename-section=.text.{one}=.text.plant::{one}::<#0a1b+8'one::Two{{}}>" for one in ("step", "held")]
+            subprocess.run(["objcopy", *names, *moved, str(built)], check=True)
+            yield f"{sections}, generic", built
 
 
 def archive_plants(folder):
     limits = {"reading": 512, "editing": 768, "grouping": 1024}
     for what, body, group, wanted in ARCHIVE:
-        for sections, built in compiled(folder, body):
+        for sections, built in compiled(folder, body, generic=group != "grouping"):
             found = said(lambda: stack_archive.checked(built, {"blorb_read": group}, limits, nested=MAY_RECURSE), stack_archive.Breach)
             judged(f"archive, {what}, {sections}", found, wanted)
     for what, body, inner, kept, wanted in INNER:
