@@ -269,14 +269,15 @@ class Function:
         """
         Bytes of the largest array in the frame, at most. An array is what is reached by an index or by its address. Nothing loads from its
         bytes by their place alone, as is done with a saved register or a single number, so it ends where such a load begins. The first 64 bytes may
-        be lent to something else at another time; where the code fills all of these place by place, the array ends where the filling does.
+        be lent to something else at another time; where the code fills all of these place by place, the array ends where the filling does, or before
+        what is lent by itself behind them.
         """
         largest = 0
         for base in self.indexed | self.taken:
             end = base
             if base in self.indexed and all(place in self.stores for place in range(base, base + MOST_ARRAY)):
                 end = base + MOST_ARRAY
-                while end < 0 and end in self.stores and end not in self.loads:
+                while end < 0 and end in self.stores and end not in self.loads and (end not in self.taken or end in self.indexed):
                     end += 1
             else:
                 while end < 0 and end not in self.loads:

@@ -233,11 +233,15 @@ EDITED = "volatile byte t[900] = {0}; u64 i; for (i = 0; i < n; i++) t[s[i]] = s
 NESTS = "volatile byte t[@N@]; t[n % @N@] = s[0]; return n < 2 ? t[1] : t[s[1] % @N@] ^ step(s, n - 1, f) * 3;"
 CASES = """switch (n) { case 0: return s[1]; case 1: return s[7] * n; case 2: return s[s[2]]; case 3: return s[9] / (n + s[1]); case 4: return n ^ s[3];
 case 5: @LAST@; default: return s[6] + n; }"""
+LENDS = """struct { u64 tops[8], kept[@N@]; } a = {{0}}; u64 i; for (i = 0; i < @N@; i++) a.kept[i] = n + i;
+__asm__ volatile("" : : "r"(@LENT@) : "memory"); for (i = 0; i < n; i++) a.tops[s[i] % 8] += s[i]; return a.tops[s[n] % 8];"""
 ARCHIVE = [
     ("a jump table", CASES.replace("@LAST@", "return s[n] - s[4]"), "reading", None),
     ("recursion by way of a jump table", CASES.replace("@LAST@", "return s[4] ^ blorb_read(s + 1, s[n], f)"), "editing", ("recursion",)),
     ("bytes copied in bulk by way of a jump table", CASES.replace("@LAST@", "memmove((void *)s, s + 1, s[n]); return s[2]"), "reading", ("in bulk",)),
     ("an array of 64 bytes", NUMBERS.replace("@N@", "8"), "reading", None),
+    ("an array of 64 bytes before what is lent", LENDS.replace("@N@", "3").replace("@LENT@", "a.kept"), "reading", None),
+    ("an array of 64 bytes before more than that, lent", LENDS.replace("@N@", "9").replace("@LENT@", "a.kept"), "reading", ("array of", "in bulk")),
     ("an array of 72 bytes", NUMBERS.replace("@N@", "9"), "reading", ("array of", "in bulk")),
     ("an array of 65 bytes", BYTES.replace("@N@", "65"), "reading", ("array of", "in bulk")),
     ("an array of 4,096 numbers", NUMBERS.replace("@N@", "4096"), "reading", ("array of", "in bulk", "header allows")),
