@@ -57,6 +57,15 @@ def check_paths(document):
         same(f"{document.name} names {path}", is_there(path), True)
 
 
+def check_edits(text):
+    """Every row of the wrong programs in docs/HOST-TESTS.md is an edit that the gate tries."""
+    listed = text[text.index("| Edit | What it stands for |"):].split("\n\n")[0]
+    rows = re.findall(r"^\| ([a-z_0-9]+)/([a-z_0-9]+) \|", listed, re.MULTILINE)
+    same("docs/HOST-TESTS.md lists wrong programs", len(rows) > 40, True)
+    for crate, label in rows:
+        same(f"there is the edit {crate}/{label}", (ROOT / f"crates/{crate}/must-fail/{label}.edit").exists(), True)
+
+
 def check_proved(text):
     """Every row of docs/PROVED.md: its theorems are stated in the file that it names, its contracts are those of functions there."""
     rows = re.findall(r"^\| .* \| (.*) \| (crates/\S+) \|$", text, re.MULTILINE)
@@ -77,6 +86,7 @@ def main():
     same("the first example of docs/RULES.md is samples/eel.blb", bytes_of_dump(rules, "## An example in bytes"),
          (ROOT / "samples/eel.blb").read_bytes())
     check_proved((ROOT / "docs/PROVED.md").read_text())
+    check_edits((ROOT / "docs/HOST-TESTS.md").read_text())
     for document in [ROOT / "README.md", *sorted((ROOT / "docs").glob("*.md"))]:
         check_paths(document)
     print(f"documents: ok, {checks} checks")
