@@ -1,7 +1,7 @@
 -- `refusal` is 0 exactly where a text was given: 22, 36 to 39 and the reader's numbers are none of them 0.
 use Rattle.std.specs.Prelude.{Result, Ok, Option, Some, None}
 use Rattle.blorb.specs.declared.refusal.Refusal.{Refusal}
-use Rattle.blorb.specs.Refusals.{Refused, verdict_of}
+use Rattle.blorb.specs.Refusals.{Refused, verdict_of, answer_by}
 use mathlib.Core.Path.{◌≡◌, refl}
 use Prim.Native.Nat.{ℕ, zero, suc, ◌+◌}
 use mathlib.Core.List.{List, [], ◌∷◌, ◌++◌}
@@ -12,7 +12,7 @@ use Rattle.blorb.specs.Verdict.{Verdict, accept, refuse, ◌then◌, pair_in}
 use Rattle.blorb.specs.Rules.{profile_verdict}
 use Rattle.blorb.specs.Model.{base, model}
 use Rattle.reader.specs.Reading.{read_of, read_by, index_of}
-use Rattle.locate.specs.Located.{Spot, of_type, located_in, located_by, located_of, data_at}
+use Rattle.locate.specs.Located.{Spot, of_type, located_in, located_of, data_at}
 use Rattle.locate.specs.declared.Located.{Located}
 use Rattle.locate.specs.declared.Located.TheVariants as located
 use Rattle.utf8.specs.Utf8.{good_length_of}
@@ -40,13 +40,13 @@ rdes_numbered : (profile : ℕ) (f : List ℕ) → Numbered (rdes_verdict profil
 unfolding rdes_verdict located_of read_of
 rdes_numbered profile f = go (profile_verdict profile f) (λ k p r. not_zero profile f k p r)
   where
-    spots : (xs : List Spot) → Numbered (located_fault f (located_in xs))
+    spots : (xs : List Spot) → Numbered (located_fault f (Ok (located_in xs)))
     spots [] = unfold Numbered in tt
     spots (x ∷ []) = chunk-numbered (data_at f x.start x.amount) x.start
     spots (x ∷ (y ∷ ys)) = both _ _ (chunk-numbered (data_at f x.start x.amount) x.start) (unfold Numbered in omega arith)
 
     go : (v : Verdict) → ((k p : ℕ) → read_by v (length f) (length (index_of f)) ≡ Refused k p → k ≡ 0 → ⊥)
-        → Numbered (located_fault f (located_by v (model f) RDes))
+        → Numbered (located_fault f (answer_by v (located_in (of_type RDes (base (length (model f).refs)) (model f).chunks))))
     go accept h = spots (of_type RDes (base (length (model f).refs)) (model f).chunks)
     go (refuse zero p) h = absurd (h 0 p refl refl)
     go (refuse (suc k) p) h = unfold Numbered in omega arith

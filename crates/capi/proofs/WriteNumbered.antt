@@ -1,4 +1,5 @@
 -- `refusal` is 0 exactly where a chunk was written: 38, 39 and 40 are none of them 0.
+use Rattle.blorb.specs.Refusals.{answer_by}
 use Rattle.std.specs.Prelude.{Ok}
 use mathlib.Core.Path.{◌≡◌, refl}
 use Prim.Native.Nat.{ℕ, zero, suc, ◌+◌}
@@ -8,7 +9,7 @@ use native.Mathlib.Omega.{arith}
 use lib.Dec.{leb}
 use Rattle.blorb.specs.Verdict.{Verdict, accept, refuse}
 use Rattle.describing.specs.List.{count_of, list_of}
-use Rattle.describing.specs.Writing.{repeated, text_good_of, row_fault, rows_fault, whole_size, write_fault, answered, writing_of}
+use Rattle.describing.specs.Writing.{repeated, text_good_of, row_fault, rows_fault, whole_size, write_fault, writing_of}
 use Rattle.capi.specs.Numbered.{Numbered}
 use Rattle.capi.specs.WriteNumbers.{write_numbers}
 use Rattle.capi.proofs.Numbered.{one, both}
@@ -29,6 +30,6 @@ zero-written rows texts room e = go (write_fault rows texts room) numbered (whol
         both _ _ (rows-numbered rows texts (count_of rows) 0)
         (one (leb (whole_size (list_of rows texts)) room && leb (whole_size (list_of rows texts)) 16777216) 40 0 (omega arith))
 
-    go : (v : Verdict) → Numbered v → (m : ℕ) → (write_numbers (answered v m)).refusal ≡ 0 → (n : ℕ) × (answered v m ≡ Ok n)
+    go : (v : Verdict) → Numbered v → (m : ℕ) → (write_numbers (answer_by v m)).refusal ≡ 0 → (n : ℕ) × (answer_by v m ≡ Ok n)
     go accept h m q = (m, refl)
     go (refuse k p) h m q = absurd (omega (arith, h, q))
