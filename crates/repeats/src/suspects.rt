@@ -5,15 +5,15 @@ ghost use Rattle.repeats.specs.Suspects.{held};
 // The first `count` of `keys`.
 #[derive(Drop)]
 pub struct Suspects {
-    pub keys: [u64; 30],
+    pub keys: [u64; 24],
     pub count: usize,
-    ghost few: { count ≤ 30 },
+    ghost few: { count ≤ 24 },
 }
 
 impl Suspects {
     pub fn new() -> Suspects {
         Suspects {
-            keys: [0; 30],
+            keys: [0; 24],
             count: 0,
         }
     }
