@@ -112,10 +112,10 @@ enum {
  * the figure of each call.
  */
 enum {
-    BLORB_STACK_READING = 768,  /* at most, for every call but those below; 633 as compiled */
-    BLORB_STACK_EDITING = 1024, /* at most, for editing; 745 as compiled */
-    BLORB_STACK_GROUPS = 6144,  /* at most, for group files of 16 levels; 3952 as compiled */
-    BLORB_STACK_LISTS = 8192    /* at most, for scaled pictures and spoken descriptions, which mark the rows of a list; 7960 as compiled */
+    BLORB_STACK_READING = 768,  /* at most, for every call but those below; 664 as compiled */
+    BLORB_STACK_EDITING = 1024, /* at most, for editing; 776 as compiled */
+    BLORB_STACK_GROUPS = 6144,  /* at most, for group files of 16 levels; 3920 as compiled */
+    BLORB_STACK_LISTS = 8192    /* at most, for scaled pictures and spoken descriptions, which mark the rows of a list; 8168 as compiled */
 };
 
 /* Usages as the calls take them: four bytes, a space among them. */
