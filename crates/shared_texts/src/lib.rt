@@ -87,6 +87,14 @@ impl<'a> Segments<'a> {
         Segments { texts, known }
     }
 
+    // The words, with what they remember by now.
+    pub fn known(self) -> &'a mut [u64; WORDS]
+        ensures { (length result.now ≡ 896) × Remembers self.entry result.now }
+    {
+        let words = self.known;
+        words
+    }
+
     // How many bytes the texts have.
     pub fn len(&self) -> usize
         ensures { result ≡ length self.now }
