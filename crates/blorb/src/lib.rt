@@ -219,7 +219,8 @@ impl Usage {
         }
     }
 
-    // Rule 5 for plain files; every profile allows as much.
+    // Rule 5 for plain files; every profile allows as much. The reader asks it for each entry: as a call it would cost the loop its registers.
+    #[inline(always)]
     pub fn plain_allows(self, kind: u64, d: &[u8]) -> bool
         ensures { result ≡ plain_allows_of (code_of self) (chunk_of kind d.now) }
     {

@@ -1,6 +1,6 @@
 // The entries of an index, and refusals 12 to 16 and 27.
-ghost use Rattle.std.specs.Prelude.{◌≡◌, ℕ, ◌+◌, ◌*◌, ◌≤◌, ◌<◌, ◌||◌, not, length, drop, eqb};
-ghost use Rattle.blorb.specs.Verdict.{accept, chunk_fault, index_fault, pair_in};
+ghost use Rattle.std.specs.Prelude.{◌≡◌, ◌+◌, ◌*◌, ◌≤◌, ◌<◌, ◌||◌, not, length, drop, eqb};
+ghost use Rattle.blorb.specs.Verdict.{accept, chunk_fault, index_fault};
 ghost use Rattle.blorb.specs.Format.{is_start, entries_in};
 ghost use Rattle.blorb.specs.Rules.{plain_allows_of};
 ghost use Rattle.blorb.specs.Usages.{code_of};
@@ -9,7 +9,6 @@ ghost use Rattle.chunks.specs.Walk.{chunk_from, chunks_from, walk_from, Reached}
 ghost use Rattle.blorb.specs.Refusals.{verdict_of};
 ghost use Rattle.index.specs.Entries.{
   start_at,
-  earlier,
   place,
   typed_at,
   entry_fault,
@@ -105,7 +104,8 @@ pub fn slot(code: u64) -> usize
     (code / 16777216 % 8) as usize
 }
 
-// Rule 5 for plain files, of the chunk at `at`.
+// Rule 5 for plain files, of the chunk at `at`. It stands in the loop over the entries, as the rule itself does.
+#[inline(always)]
 pub fn plainly_typed(s: &[u8], usage: Usage, at: usize) -> bool
     requires { (at < length s.now) × (chunk_fault at (drop at s.now) ≡ accept) }
     ensures { result ≡ plain_allows_of (code_of usage) (chunk_from s.now at) }
@@ -186,19 +186,6 @@ fn judge(s: &[u8], profile: u32, base: usize, from: usize, p: usize) -> Result<u
     Ok(start)
 }
 
-// Whether an entry before entry j has its pair.
-fn repeated(s: &[u8], j: usize) -> bool
-    requires { (j < 4096) × (place j + 8 ≤ length s.now) }
-    ensures { (base : ℕ) → result ≡ pair_in (usage_at s.now (place j)) (number_at s.now (place j)) (earlier s.now base j) }
-{
-    for i in 0..j {
-        if same_pair(s, i, j) {
-            return true;
-        }
-    }
-    false
-}
-
 // Refusals 12 to 16 and 27, entry by entry. For each usage a number above all of its numbers so far is kept, so that
 // the search among the earlier entries runs only for an entry that could repeat one of them.
 pub fn entries(s: &[u8], profile: u32, count: usize) -> Result<(), Refusal>
@@ -206,9 +193,10 @@ pub fn entries(s: &[u8], profile: u32, count: usize) -> Result<(), Refusal>
     ensures { verdict_of result ≡ entries_from profile s.now (place count) 0 count }
 {
     let base = 24 + 12 * count;
+    let mut answer = Ok(());
     let mut tops = [0u64; 8];
     let mut found = base;
-    for j in 0..count {
+    'entries: for j in 0..count {
         let p = 24 + 12 * j;
         let before = found;
         found = judge(s, profile, base, before, p)?;
@@ -216,11 +204,16 @@ pub fn entries(s: &[u8], profile: u32, count: usize) -> Result<(), Refusal>
         let number = blorb::be32_at(s, p + 4);
         if tops[k] <= number {
             tops[k] = number + 1;
-        } else if repeated(s, j) {
-            return Err(Refusal {
-                fault: Fault::Repeated,
-                place: p,
-            });
+        } else {
+            for i in 0..j {
+                if same_pair(s, i, j) {
+                    answer = Err(Refusal {
+                        fault: Fault::Repeated,
+                        place: p,
+                    });
+                    break 'entries;
+                }
+            }
         }
         if found < before {
             let place = p + 8;
@@ -230,5 +223,5 @@ pub fn entries(s: &[u8], profile: u32, count: usize) -> Result<(), Refusal>
             });
         }
     }
-    Ok(())
+    answer
 }
