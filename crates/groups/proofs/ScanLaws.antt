@@ -11,11 +11,11 @@ use Rattle.blorb.specs.Verdict.{Verdict, accept, refuse}
 use Rattle.members.specs.declared.Kind.{Kind}
 use Rattle.members.specs.declared.Kind.TheVariants.{Form, List as Lst, Cat, Prop, Plain}
 use Rattle.members.specs.declared.Place.{Place}
-use Rattle.members.specs.declared.Place.TheVariants.{InForm, ListHead, InGroup, InProp}
+use Rattle.members.specs.declared.Place.TheVariants.{Top, InForm, ListHead, InGroup, InProp}
 use Rattle.std.specs.Prelude.{Ok}
 use Rattle.blorb.specs.Refusals.{Refused, answer_by}
 use Rattle.groups.specs.declared.readers.Member.TheVariants.{Form as OfForm, Group as OfGroup, Passed}
-use Rattle.members.specs.Kinds.{nests, is_plain, behind}
+use Rattle.members.specs.Kinds.{nests, is_plain, may_hold_of, behind}
 use Rattle.members.specs.Faults.{kind_at, size_at, end_at, next_at, member_fault_of}
 use Rattle.groups.specs.Events.{Event, form, fault, chunk_by, unless_end, members_go, members, chunk}
 use Rattle.groups.specs.Files.{first_fault}
@@ -211,6 +211,21 @@ module _ (f : List ℕ) (p : Place) (d end at base n : ℕ) (rows : List ℕ) wh
   member_group q c x y e =
       let g = by_group f d at base n _ _ rows _ (λ q e a. members f q (d + 1) e a) _ propped (member_fault_of f p d end at) (kind_at f at) q c x y e in
       (g.0, opens c x y g.1 g.2 g.3 g.4 g.5 g.6)
+
+-- a plain chunk's kind is no other, and what the next member stands in is the same
+pub plain_alone : (k : Kind) → is_plain k ≡ true → k ≡ Plain
+plain_alone Plain h = refl
+plain_alone Form h = let z : ◌≡◌ {A = ℕ} 0 1 = cc in absurd (omega arith)
+plain_alone Lst h = let z : ◌≡◌ {A = ℕ} 0 1 = cc in absurd (omega arith)
+plain_alone Cat h = let z : ◌≡◌ {A = ℕ} 0 1 = cc in absurd (omega arith)
+plain_alone Prop h = let z : ◌≡◌ {A = ℕ} 0 1 = cc in absurd (omega arith)
+
+pub plain_stays : (p : Place) → may_hold_of p Plain ≡ true → behind p Plain ≡ p
+plain_stays Top h = refl
+plain_stays InForm h = refl
+plain_stays ListHead h = let z : ◌≡◌ {A = ℕ} 0 1 = cc in absurd (omega arith)
+plain_stays InGroup h = refl
+plain_stays InProp h = refl
 
 -- what a quick look finds without a fault is the member
 module _ (f : List ℕ) (p : Place) (d end at next : ℕ) (fine : member_fault_of f p d end at ≡ accept) (n : next ≡ next_at f at) where

@@ -1,10 +1,13 @@
 // The readers of FORMs and of groups, which call each other, and of PROPs.
 ghost use Rattle.std.specs.Prelude.{◌≡◌, ◌+◌, ◌≤◌, length, Ok, IfSome};
 ghost use Rattle.blorb.specs.Refusals.{verdict_of};
+ghost use Rattle.members.specs.declared.Kind.TheVariants.{Plain};
 ghost use Rattle.members.specs.declared.Place.TheVariants.{InProp};
+ghost use Rattle.members.specs.Faults.{kind_at};
 ghost use Rattle.groups.specs.Events.{members, chunk};
 ghost use Rattle.groups.specs.Files.{first_fault};
 ghost use Rattle.groups.specs.Scan.{outcome, left, scan, form_shows, scan_file_of, member_at_of};
+ghost use Rattle.groups.specs.declared.readers.Member.TheVariants.{Passed};
 
 use crate::store::Rows;
 use blorb::{Fault, Refusal};
@@ -79,8 +82,33 @@ fn member_at(spot: &Spot) -> Result<Member, Refusal>
     }
 }
 
-// Most members are FORMs and, in a FORM, plain chunks: those without a fault are found with one look at the header. None: it tells too little.
-fn quick_look(spot: &Spot) -> Option<Member>
+// Most members are plain chunks of a FORM. Where the member behind this one begins, if one look at the header shows that it is plain and without a fault;
+// what the next one stands in is the same. None: it tells too little.
+fn plain_look(spot: &Spot) -> Option<usize>
+    requires { spot.now.at ≤ spot.now.end }
+    ensures { IfSome result
+        (λ next. (member_at_of spot.now.file.now spot.now.place spot.now.depth spot.now.end spot.now.at ≡ Ok (Passed next spot.now.place))
+        × (kind_at spot.now.file.now spot.now.at ≡ Plain)) }
+{
+    if spot.end - spot.at < 8 {
+        return None;
+    }
+    let m = spot.size();
+    let close = spot.at + 8 + m;
+    if spot.end < close {
+        return None;
+    }
+    if !spot.is_padded() {
+        return None;
+    }
+    if spot.kind().is_plain() && spot.place.may_hold(Kind::Plain) {
+        return Some(close + m % 2);
+    }
+    None
+}
+
+// Most of the others are FORMs: those without a fault are found with one look at the header too.
+fn form_look(spot: &Spot) -> Option<Member>
     requires { spot.now.at ≤ spot.now.end }
     ensures { IfSome result
         (λ m. member_at_of spot.now.file.now spot.now.place spot.now.depth spot.now.end spot.now.at ≡ Ok m) }
@@ -96,16 +124,11 @@ fn quick_look(spot: &Spot) -> Option<Member>
     if !spot.is_padded() {
         return None;
     }
-    let next = close + m % 2;
     match spot.kind() {
-        Kind::Plain if spot.place.may_hold(Kind::Plain) => Some(Member::Passed {
-            next,
-            after: spot.place.behind(Kind::Plain),
-        }),
         Kind::Form if 4 <= m && spot.depth <= 16 && spot.place.may_hold(Kind::Form) => {
             Some(Member::Form {
                 close,
-                next,
+                next: close + m % 2,
                 after: spot.place.behind(Kind::Form),
             })
         }
@@ -113,23 +136,37 @@ fn quick_look(spot: &Spot) -> Option<Member>
     }
 }
 
-// The member at a spot, by a quick look where that tells enough.
+// The member at a spot, by a quick look where that tells enough. What the long look answers is taken apart, so that a FORM goes its way without it.
 fn next_member(spot: &Spot) -> Result<Member, Refusal>
     requires { (spot.now.at ≤ spot.now.end) × (spot.now.depth ≤ 17) }
     ensures { result
         ≡ member_at_of spot.now.file.now spot.now.place spot.now.depth spot.now.end spot.now.at }
 {
-    match quick_look(spot) {
-        Some(member) => Ok(member),
-        None => member_at(spot),
+    if let Some(member) = form_look(spot) {
+        return Ok(member);
+    }
+    match member_at(spot)? {
+        Member::Form { close, next, after } => Ok(Member::Form { close, next, after }),
+        Member::Group {
+            inside,
+            close,
+            next,
+            after,
+        } => Ok(Member::Group {
+            inside,
+            close,
+            next,
+            after,
+        }),
+        Member::Passed { next, after } => Ok(Member::Passed { next, after }),
     }
 }
 
-// The FORM reader: the row of a FORM whose data ends at `close`, then its members.
+// The FORM reader: the row of a FORM whose data ends at `close`, then its members. levels: how many of the 16 are left, its own among them.
 #[cycle(form_in_members_in)]
-fn form_in(form: &Spot, close: usize, rows: &mut Rows) -> Result<(), Refusal>
+fn form_in(form: &Spot, close: usize, levels: usize, rows: &mut Rows) -> Result<(), Refusal>
     requires { (form.now.at + 12 ≤ close) × (close ≤ length form.now.file.now) × (length form.now.file.now ≤ 16777216)
-        × (form.now.depth ≤ 16) × (rows.old.count ≤ form.now.at) }
+        × (form.now.depth + levels ≡ 17) × (rows.old.count ≤ form.now.at) × (1 ≤ levels) }
     ensures same_slice { rows.new.slice.ghost_name ≡ rows.old.slice.ghost_name }
     ensures same_base { rows.new.base ≡ rows.old.base }
     ensures shown { left result rows.new.count rows.new.slice.now
@@ -141,16 +178,24 @@ fn form_in(form: &Spot, close: usize, rows: &mut Rows) -> Result<(), Refusal>
         kind as u32,
         form.at as u32,
         form.size() as u32,
-        form.depth as u32,
+        (17 - levels) as u32,
     );
-    members_in(form, Place::InForm, close, rows)
+    members_in(form, Place::InForm, close, levels, rows)
 }
 
-// The group reader: the members of a FORM, LIST or CAT whose data ends at `close`. One spot on each level: the stack has to hold 16 of them.
+// The group reader: the members of a FORM, LIST or CAT whose data ends at `close`. levels: how many of the 16 are left, the holder's own among them. One spot
+// on each level: the stack has to hold 16 of them.
 #[cycle(form_in_members_in)]
-fn members_in(holder: &Spot, inside: Place, close: usize, rows: &mut Rows) -> Result<(), Refusal>
+fn members_in(
+    holder: &Spot,
+    inside: Place,
+    close: usize,
+    levels: usize,
+    rows: &mut Rows,
+) -> Result<(), Refusal>
     requires { (holder.now.at + 12 ≤ length holder.now.file.now) × (close ≤ length holder.now.file.now)
-        × (length holder.now.file.now ≤ 16777216) × (holder.now.depth ≤ 16) × (rows.old.count ≤ holder.now.at + 12) }
+        × (length holder.now.file.now ≤ 16777216) × (holder.now.depth + levels ≡ 17)
+        × (rows.old.count ≤ holder.now.at + 12) × (1 ≤ levels) }
     ensures same_slice { rows.new.slice.ghost_name ≡ rows.old.slice.ghost_name }
     ensures same_base { rows.new.base ≡ rows.old.base }
     ensures shown { left result rows.new.count rows.new.slice.now
@@ -159,12 +204,19 @@ fn members_in(holder: &Spot, inside: Place, close: usize, rows: &mut Rows) -> Re
 {
     let mut spot = holder.within(inside, close);
     while spot.at < spot.end {
-        match next_member(&spot)? {
+        if let Some(next) = plain_look(&spot) {
+            let place = spot.place;
+            spot.move_to(next, place);
+            continue;
+        }
+        // A spot of its own is lent on, so that plain chunks are gone over in registers.
+        let here = spot;
+        match next_member(&here)? {
             Member::Passed { next, after } => {
                 spot.move_to(next, after);
             }
             Member::Form { close, next, after } => {
-                form_in(&spot, close, rows)?;
+                form_in(&here, close, levels - 1, rows)?;
                 spot.move_to(next, after);
             }
             Member::Group {
@@ -173,7 +225,7 @@ fn members_in(holder: &Spot, inside: Place, close: usize, rows: &mut Rows) -> Re
                 next,
                 after,
             } => {
-                members_in(&spot, inside, close, rows)?;
+                members_in(&here, inside, close, levels - 1, rows)?;
                 spot.move_to(next, after);
             }
         }
@@ -190,10 +242,11 @@ fn top_in(top: &Spot, rows: &mut Rows) -> Result<(), Refusal>
         ≡ scan rows.old.base rows.old.count rows.old.slice.now
         (chunk top.now.file.now top.now.place top.now.depth top.now.end top.now.at) }
 {
+    let levels = 17 - top.depth;
     match member_at(top)? {
         Member::Passed { .. } => Ok(()),
-        Member::Form { close, .. } => form_in(top, close, rows),
-        Member::Group { inside, close, .. } => members_in(top, inside, close, rows),
+        Member::Form { close, .. } => form_in(top, close, levels, rows),
+        Member::Group { inside, close, .. } => members_in(top, inside, close, levels, rows),
     }
 }
 

@@ -1,6 +1,6 @@
 -- FORM reader and group reader are proved together: the FORM reader stores its row and has its members read on its own level, and the group reader calls
 -- either with one level less. What a member's own reader answers is the scan of that member.
-use Prim.Native.Nat.{ℕ}
+use Prim.Native.Nat.{ℕ, ◌-◌}
 use mathlib.Core.Path.{◌≡◌, refl, ap, sym, ◌∙◌}
 use native.Mathlib.Omega.{arith}
 use lib.ListN.{length}
@@ -9,7 +9,7 @@ use Rattle.std.proofs.lemmas.Result.{err_from_is_err_and}
 use Rattle.groups.proofs.ScanLaws.{turn_end}
 use Rattle.groups.proofs.TurnLaws.{Turn, stopped, passed_on, opens_form, opens_group, form_stops, form_goes, group_stops, group_goes, form_first}
 use Rattle.groups.proofs.readers.+form_in_members_in.Goals as goal
-use Rattle.groups.proofs.readers.+form_in_members_in.Goals.{members_in-After-next_member}
+use Rattle.groups.proofs.readers.+form_in_members_in.Goals.{members_in-After-next_member, members_in-After-plain_look}
 
 -- the loop's turn
 abbrev turn : (t : ℕ) → members_in-After-next_member t → Turn
@@ -39,18 +39,52 @@ members_in-returns-in_err-next-clause-shown t c =
     let p = err_from_is_err_and c.from_residual.result c.from_residual.ensures.1 in
     rw (p.1, p.2) (stopped u _ (sym c.in_err-next.ensures) ∙ c.loop-spot.invariant.6)
 
+-- a plain chunk, passed by one look
+abbrev looked : (t : ℕ) → members_in-After-plain_look t → Turn
+looked t c =
+    record {
+      f = c.loop-spot.spot.file.now;
+      p = c.loop-spot.spot.place;
+      depth = c.loop-spot.spot.depth;
+      end = c.loop-spot.spot.end;
+      at = c.loop-spot.spot.at;
+      base = c.loop-spot.rows.base;
+      n = c.loop-spot.rows.count;
+      rows = c.loop-spot.rows.slice.now;
+      on = c.loop-spot-test.true;
+      inside = c.loop-spot.spot.inside;
+      counted = c.loop-spot.invariant.5;
+    }
+
+pub members_in-loop-spot-smaller-in-Some : goal.members_in-loop-spot-smaller-in-Some
+members_in-loop-spot-smaller-in-Some t c =
+    let u = looked t (goal.at.members_in-loop-spot-smaller-in-Some t c).After-plain_look in
+    let told = rw c.in-Some.is at c.plain_look.ensures in
+    let n = passed_on u _ _ told.0 in
+    let m = c.move_to.ensures in
+    omega (arith, n.on, m.3, m.4, c.loop-spot-test.true)
+
+pub members_in-loop-spot-preserved-in-Some : goal.members_in-loop-spot-preserved-in-Some
+members_in-loop-spot-preserved-in-Some t c =
+    let u = looked t (goal.at.members_in-loop-spot-preserved-in-Some t c).After-plain_look in
+    let told = rw c.in-Some.is at c.plain_look.ensures in
+    let n = passed_on u _ _ told.0 in
+    let m = c.move_to.ensures in
+    let i = c.loop-spot.invariant in
+    (m.0 ∙ i.0, m.2 ∙ i.1, m.3 ∙ i.2, i.3, i.4, rw m.4 n.counted, rw (m.0, m.1, m.2, m.3, m.4) (n.same ∙ i.6))
+
 pub members_in-loop-spot-smaller-in-Passed : goal.members_in-loop-spot-smaller-in-Passed
 members_in-loop-spot-smaller-in-Passed t c =
     let u = turn t (goal.at.members_in-loop-spot-smaller-in-Passed t c).After-next_member in
     let n = passed_on u _ _ (sym c.in_ok-next.ensures ∙ ap Ok c.in-Passed.is) in
-    let m = c.move_to.ensures in
+    let m = c.move_to-in-Passed.ensures in
     omega (arith, n.on, m.3, m.4, c.loop-spot-test.true)
 
 pub members_in-loop-spot-preserved-in-Passed : goal.members_in-loop-spot-preserved-in-Passed
 members_in-loop-spot-preserved-in-Passed t c =
     let u = turn t (goal.at.members_in-loop-spot-preserved-in-Passed t c).After-next_member in
     let n = passed_on u _ _ (sym c.in_ok-next.ensures ∙ ap Ok c.in-Passed.is) in
-    let m = c.move_to.ensures in
+    let m = c.move_to-in-Passed.ensures in
     let i = c.loop-spot.invariant in
     (m.0 ∙ i.0, m.2 ∙ i.1, m.3 ∙ i.2, i.3, i.4, rw m.4 n.counted, rw (m.0, m.1, m.2, m.3, m.4) (n.same ∙ i.6))
 
@@ -154,7 +188,8 @@ form_in-returns-clause-shown t c =
     let r = c.args.rows.now in
     let put = c.put.ensures in
     let stored = put.stored in
-    let row = rw (c.be32_at-kind.ensures.0, c.size.ensures.0) at stored in
+    let deep : 17 - c.args.levels ≡ f.depth = omega (arith, c.requires.3) in
+    let row = rw (c.be32_at-kind.ensures.0, c.size.ensures.0, deep) at stored in
     let shown = c.members_in.ensures.shown in
     let told = rw (put.counted.0, put.counted.1) at shown in
     told ∙ form_first f.file.now r.base r.count f.depth c.args.close f.at r.slice.now _ row

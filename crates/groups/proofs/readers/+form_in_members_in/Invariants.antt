@@ -7,10 +7,10 @@ use Rattle.groups.specs.Scan.{scan}
 use Rattle.groups.proofs.readers.+form_in_members_in.Given as goal
 
 abbrev pub decreases-form_in : goal.decreases-form_in
-decreases-form_in l = 2 * (17 - l.form.now.depth) + 1
+decreases-form_in l = 2 * l.levels + 1
 
 abbrev pub decreases-members_in : goal.decreases-members_in
-decreases-members_in l = 2 * (17 - l.holder.now.depth)
+decreases-members_in l = 2 * l.levels
 
 abbrev pub invariant-members_in-loop-spot : goal.invariant-members_in-loop-spot
 invariant-members_in-loop-spot l =
