@@ -58,7 +58,7 @@ fn mark_round<L: Keys>(
     // The suspects are counted in a local, and each key is stored before it counts: so a turn has no branch for it.
     let mut here = from;
     let mut count: usize = 0;
-    while here.entry < e && count < 24 {
+    while here.entry < e && count < 32 {
         let k = here.key();
         let w = by.word(k);
         let old = marks[w];
@@ -83,7 +83,7 @@ fn first_again<L: Keys>(from: Cursor<L>, e: usize, suspects: &Suspects) -> usize
     if suspects.count == 0 {
         return e;
     }
-    let mut seen = [false; 24];
+    let mut seen = [false; 32];
     let mut here = from;
     while here.entry < e {
         let k = here.key();
@@ -147,7 +147,7 @@ fn hold_round<L: Keys>(
 {
     let mut here = from;
     let mut count: usize = 0;
-    while here.entry < b && count < 24 {
+    while here.entry < b && count < 32 {
         let k = here.key();
         let old = marks[by.word(k)];
         suspects.keys[count] = k;

@@ -5,15 +5,15 @@ ghost use Rattle.repeats.specs.Suspects.{held};
 // The first `count` of `keys`.
 #[derive(Drop)]
 pub struct Suspects {
-    pub keys: [u64; 24],
+    pub keys: [u64; 32],
     pub count: usize,
-    ghost few: { count ≤ 24 },
+    ghost few: { count ≤ 32 },
 }
 
 impl Suspects {
     pub fn new() -> Suspects {
         Suspects {
-            keys: [0; 24],
+            keys: [0; 32],
             count: 0,
         }
     }

@@ -28,7 +28,7 @@ loop-here-init g c =
       within = omega arith;
       seen = refl;
       once = once_none (key x) s.keys s.count a.from.entry;
-      some = some_none (key x) 24 s.keys s.count a.from.entry;
+      some = some_none (key x) 32 s.keys s.count a.from.entry;
       all = all_none (key x) _ s.keys s.count a.from.entry;
     }
 

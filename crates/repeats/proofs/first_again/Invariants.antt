@@ -11,7 +11,7 @@ invariant-loop-here g l = record {
   list : l.here.list ≡ l.fn.from.list;
   first : l.fn.from.entry ≤ l.here.entry;
   within : l.here.entry ≤ l.e;
-  seen : length l.seen ≡ 24;
+  seen : length l.seen ≡ 32;
   once : Once l.suspects.keys l.suspects.count (key (g.L.Keys.source l.fn.from.list)) l.fn.from.entry l.here.entry;
   some : SeenSome l.seen l.suspects.keys l.suspects.count (key (g.L.Keys.source l.fn.from.list)) l.here.entry;
   all : SeenAll l.seen l.suspects.keys l.suspects.count (key (g.L.Keys.source l.fn.from.list)) l.fn.from.entry l.here.entry;
