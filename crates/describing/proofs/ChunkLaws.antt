@@ -10,6 +10,7 @@ use Rattle.blorb.specs.Bytes.{be32}
 use Rattle.blorb.specs.Format.{chunk_bytes, chunk_of}
 use Rattle.blorb.proofs.ByteLaws.{length-be32}
 use Rattle.edits.specs.Run.{noted}
+use Rattle.std.proofs.lemmas.List.{nil_from_length}
 use Rattle.edits.proofs.Noted.{noted-none, noted-next}
 use Rattle.rdes.specs.Rdes.{RDes, Desc, desc, entries_bytes, body_of}
 use Rattle.describing.specs.Bridging.{entry_bytes}
@@ -57,6 +58,13 @@ unfolding entry_bytes
 entry-written b at u k t h =
     noted-next b at (at + 12) (be32 u ++ (be32 k ++ be32 (length t))) t (simp (length-append, length-be32)) (omega arith)
     ∙ ap (noted b at) (simp append_assoc)
+
+-- and one whose text has no bytes, which is not copied
+pub entry_textless : (b : List ℕ) (at u k : ℕ) (t : List ℕ) → length t ≡ 0 → at + (12 + length t) ≤ length b
+    → noted b at (be32 u ++ (be32 k ++ be32 (length t))) ≡ noted b at (entry_bytes (desc u k t))
+entry_textless b at u k t z h =
+    let words : List ℕ = noted b at (be32 u ++ (be32 k ++ be32 (length t))) in
+    sym (noted-none words (at + 12)) ∙ ap (noted words (at + 12)) (sym (nil_from_length t z)) ∙ entry-written b at u k t h
 
 -- the entries
 pub length-rows : (rows texts : List ℕ) (n i : ℕ) → length (rows_from rows texts n i) ≡ n

@@ -55,7 +55,7 @@ module _ (rows texts : List ℕ) (b : (i : ℕ) → get_or rows i 0 < 4294967296
   fresh : (m : ℕ) → Apart (list_key rows) 0 m → (i : ℕ) → i < m → repeated rows texts i ≡ false
   fresh m d i l = sym (key-repeats rows texts b i) ∙ apart_none (list_key rows) m d i l
 
-  found_38 : (m j : ℕ) → first_repeat_of (list_key rows) m ≡ Some j → m ≤ n → m ≤ t + 1 → refuse 38 j ≡ rows_fault rows texts n 0
+  pub found_38 : (m j : ℕ) → first_repeat_of (list_key rows) m ≡ Some j → m ≤ n → m ≤ t + 1 → refuse 38 j ≡ rows_fault rows texts n 0
   found_38 m j e h l =
       let f = answer_at (list_key rows) m j e in
       judged_38 rows texts n t bad j (omega (arith, f.0)) (omega (arith, f.0)) (fresh j f.2) (sym (key-repeats rows texts b j) ∙ f.1)

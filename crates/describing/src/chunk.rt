@@ -26,13 +26,15 @@ pub(crate) fn data_size(rows: &[u32], n: usize) -> Option<usize>
     Some(size)
 }
 
-// One entry at `at`.
+// One entry at `at`. A text of no bytes is not copied: the call costs more than all the rest of such an entry.
 fn put_entry(buf: &mut [u8], at: usize, usage: u32, number: u32, text: &[u8])
     requires { at + (12 + length text.now) ≤ length buf.old }
     ensures { buf.new ≡ noted buf.old at (entry_bytes (desc usage number text.now)) }
 {
     moves::put_words(buf, at, usage as u64, number as u64, text.len() as u64);
-    moves::copy_in(buf, at + 12, text);
+    if !text.is_empty() {
+        moves::copy_in(buf, at + 12, text);
+    }
 }
 
 // The entry of row `i` at `at`; what stands behind it begins at the answer.

@@ -12,7 +12,7 @@ use shared_texts::{Segments, WORDS};
 // Whether the text of row `i` lies in its slice and is UTF-8.
 fn text_good(rows: &[u32], i: usize, texts: &mut Segments<'_>) -> bool
     requires { 4 * i + 4 ≤ length rows.now }
-    ensures { (result ≡ text_good_of rows.now texts.old i) × (texts.new ≡ texts.old) }
+    ensures { (result ≡ text_good_of rows.now texts.old.texts i) × (texts.new ≡ texts.old) }
 {
     let row = Row::at(rows, i);
     let end = row.place + row.length;
@@ -22,7 +22,7 @@ fn text_good(rows: &[u32], i: usize, texts: &mut Segments<'_>) -> bool
 // The first of n rows that has a bad text.
 fn first_bad(rows: &[u32], n: usize, texts: &mut Segments<'_>) -> Option<usize>
     requires { 4 * n ≤ length rows.now }
-    ensures { MatchOption result (FirstBad rows.now texts.old n n) (λ t. (t < n) × FirstBad rows.now texts.old n t) }
+    ensures { MatchOption result (FirstBad rows.now texts.old.texts n n) (λ t. (t < n) × FirstBad rows.now texts.old.texts n t) }
 {
     for i in 0..n {
         if !text_good(rows, i, texts) {

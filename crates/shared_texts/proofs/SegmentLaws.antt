@@ -140,7 +140,7 @@ module _ (s : List ℕ) where
         = ap (λ (x : ℕ). x * segment_size s) (omega arith) ∙ suc-mul (g + n) (segment_size s) in
         rw e (leads_join p _ _ w (set-joins (g + n) _ refl (a n (omega arith))))
 
-    over_word : (p g x : ℕ) → x ≡ g * segment_size s → AllSet known g → Leads s p x → Leads s p (x + 64 * segment_size s)
+    pub over_word : (p g x : ℕ) → x ≡ g * segment_size s → AllSet known g → Leads s p x → Leads s p (x + 64 * segment_size s)
     over_word p g x e a l = rw (border_64 g x (segment_size s) e) (over-set p g 64 (omega arith) a (subst (Leads s p) e l))
 
     pub word_joined : (g x : ℕ) → x ≡ g * segment_size s → AllSet known g → Joined s x (x + 64 * segment_size s)

@@ -2,6 +2,7 @@
 -- believed.
 use Rattle.std.specs.Prelude.{◌≡◌, ℕ, ◌+◌, ◌-◌, ◌*◌, ◌/◌, ◌%◌, ◌^◌, ◌<◌, List, Bool, true, ◌⊎◌, length, get_or, take, drop, eqb}
 use Rattle.utf8.specs.Utf8.{good_length_of}
+use base.Fml.{GName}
 use Rattle.utf8.specs.Runs.{Runs, tail, Start}
 
 -- the bytes from p to q are UTF-8
@@ -52,3 +53,8 @@ Remembers s known = (g : ℕ) → bit_at known g ≡ 1 → Joined s (g * segment
 -- the bits of 64 segments are set
 unfoldable pub AllSet : List ℕ → ℕ → Type 0
 AllSet known g = (i : ℕ) → i < 64 → bit_at known (g + i) ≡ 1
+
+-- texts, and the name of the loan of the words that remember what is known of them
+pub record Lent : Type 0 where
+  pub texts : List ℕ
+  pub words : GName

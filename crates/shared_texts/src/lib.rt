@@ -66,14 +66,14 @@ pub struct Segments<'a> {
     known: &'a mut [u64; WORDS],
 }
 
-// In contracts it is the texts: what is remembered of them is right.
+// In contracts it is the texts and the loan of the words: what is remembered is right.
 impl<'a> Model for Segments<'a> {
-    ghost use Rattle.std.specs.Prelude.{◌≡◌, ℕ, List, length};
-    ghost use Rattle.shared_texts.specs.Segments.{Remembers};
+    ghost use Rattle.std.specs.Prelude.{◌≡◌, length};
+    ghost use Rattle.shared_texts.specs.Segments.{Lent, Remembers};
 
-    ghost Value = { List ℕ };
+    ghost Value = { Lent };
 
-    ghost view = { λ s. s.texts.now };
+    ghost view = { λ s. record { texts = s.texts.now; words = s.known.ghost_name } };
 
     ghost invariant = { λ s. (length s.known.now ≡ 896) × Remembers s.texts.now s.known.now };
 }
@@ -82,14 +82,16 @@ impl<'a> Segments<'a> {
     // `known` is what is remembered of these texts: at first nothing, all its words 0.
     pub fn new(texts: &'a [u8], known: &'a mut [u64; WORDS]) -> Segments<'a>
         requires { Remembers texts.now known.old }
-        ensures { result ≡ texts.now }
+        ensures texts { result.texts ≡ texts.now }
+        ensures same_reference { result.words ≡ known.entry.ghost_name }
     {
         Segments { texts, known }
     }
 
-    // The words, with what they remember by now.
+    // The words that were lent, with what they remember by now.
     pub fn known(self) -> &'a mut [u64; WORDS]
-        ensures { (length result.now ≡ 896) × Remembers self.entry result.now }
+        ensures remembers { (length result.now ≡ 896) × Remembers self.entry.texts result.now }
+        ensures same_reference { result.ghost_name ≡ self.entry.words }
     {
         let words = self.known;
         words
@@ -97,22 +99,22 @@ impl<'a> Segments<'a> {
 
     // How many bytes the texts have.
     pub fn len(&self) -> usize
-        ensures { result ≡ length self.now }
+        ensures { result ≡ length self.now.texts }
     {
         self.texts.len()
     }
 
     // The bytes of a segment. A short text is walked faster than it is looked up.
     fn size(&self) -> usize
-        ensures { (result ≡ segment_size self.now) × (result < 2 ^ 50) }
+        ensures { (result ≡ segment_size self.now.texts) × (result < 2 ^ 50) }
     {
         self.texts.len() / SEGMENTS + 256
     }
 
     // Whether the characters of segment `g`, which is from `x` to `stop`, lead into the next one; what is found is remembered.
     fn segment_joins(&mut self, g: usize, x: usize, stop: usize) -> bool
-        requires { (x ≡ g * segment_size self.old) × (stop ≡ x + segment_size self.old) × (stop ≤ length self.old) }
-        ensures { ((result ≡ true → Joined self.old x stop)) × (self.new ≡ self.old) }
+        requires { (x ≡ g * segment_size self.old.texts) × (stop ≡ x + segment_size self.old.texts) × (stop ≤ length self.old.texts) }
+        ensures { ((result ≡ true → Joined self.old.texts x stop)) × (self.new ≡ self.old) }
     {
         let place = g / 64;
         let i = (g % 64) as u64;
@@ -129,16 +131,16 @@ impl<'a> Segments<'a> {
 
     // Whether the 64 segments from `x` to `stop`, the first of them segment `g`, are all remembered by one word.
     fn word_joins(&self, g: usize, x: usize, stop: usize) -> bool
-        requires { (x ≡ g * segment_size self.now) × (stop ≡ x + 64 * segment_size self.now) × (stop ≤ length self.now) }
-        ensures { result ≡ true → Joined self.now x stop }
+        requires { (x ≡ g * segment_size self.now.texts) × (stop ≡ x + 64 * segment_size self.now.texts) × (stop ≤ length self.now.texts) }
+        ensures { result ≡ true → Joined self.now.texts x stop }
     {
         g % 64 == 0 && matches!(self.known.get(g / 64), Some(&u64::MAX))
     }
 
     // How far segments are joined from segment `first` on, which begins at `from`, without passing `q`.
     fn pass(&mut self, first: usize, from: usize, q: usize) -> usize
-        requires { (from ≡ first * segment_size self.old) × (from ≤ q) × (q ≤ length self.old) }
-        ensures { LeadsOn self.old from result × (result ≤ q) × (self.new ≡ self.old) }
+        requires { (from ≡ first * segment_size self.old.texts) × (from ≤ q) × (q ≤ length self.old.texts) }
+        ensures { LeadsOn self.old.texts from result × (result ≤ q) × (self.new ≡ self.old) }
     {
         let size = self.size();
         let mut g = first;
@@ -161,8 +163,8 @@ impl<'a> Segments<'a> {
     // How far characters lead from `p` by what is remembered, and where the next one begins; behind `q` only where `q` lies inside a character. Of a short
     // text nothing is looked up.
     fn passed(&mut self, p: usize, q: usize) -> usize
-        requires { (p ≤ q) × (q ≤ length self.old) }
-        ensures { Passed self.old p q result × (self.new ≡ self.old) }
+        requires { (p ≤ q) × (q ≤ length self.old.texts) }
+        ensures { Passed self.old.texts p q result × (self.new ≡ self.old) }
     {
         let size = self.size();
         if q - p < 2 * size {
@@ -179,10 +181,22 @@ impl<'a> Segments<'a> {
 
     // Whether the bytes from `p` to `q` are UTF-8.
     pub fn is_text(&mut self, p: usize, q: usize) -> bool
-        requires { (p ≤ q) × (q ≤ length self.old) }
-        ensures { (result ≡ text_between self.old p q) × (self.new ≡ self.old) }
+        requires { (p ≤ q) × (q ≤ length self.old.texts) }
+        ensures { (result ≡ text_between self.old.texts p q) × (self.new ≡ self.old) }
     {
         let at = self.passed(p, q);
         at <= q && utf8::good_until(self.texts, at, q) == q
     }
+}
+
+// The same of a slice of texts. `known` is what is remembered of these texts: at first nothing, all its words 0.
+pub fn is_text(texts: &[u8], p: usize, q: usize, known: &mut [u64; WORDS]) -> bool
+    requires { (p ≤ q) × (q ≤ length texts.now) × (length known.old ≡ 896) × Remembers texts.now known.old }
+    ensures { (result ≡ text_between texts.now p q) × (length known.new ≡ 896)
+        × Remembers texts.now known.new }
+{
+    let mut segments = Segments::new(texts, known);
+    let told = segments.is_text(p, q);
+    let _ = segments.known();
+    told
 }

@@ -4,4 +4,4 @@ use Rattle.describing.specs.Writing.{text_good_of}
 use Rattle.describing.proofs.judge.first_bad.Given as goal
 
 abbrev pub invariant-loop-i : goal.invariant-loop-i
-invariant-loop-i l = (l.texts ≡ l.initial.texts) × ((j : ℕ) → j < l.i → text_good_of l.rows l.initial.texts j ≡ true)
+invariant-loop-i l = (l.texts ≡ l.initial.texts) × ((j : ℕ) → j < l.i → text_good_of l.rows l.initial.texts.texts j ≡ true)

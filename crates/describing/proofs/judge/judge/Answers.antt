@@ -15,12 +15,12 @@ new-requires c = remembers_none c.args.texts.now
 
 pub returns-in-None : goal.returns-in-None
 returns-in-None c =
-    let bad = rw c.new.ensures at c.in-None.ensures in
+    let bad = rw c.new.ensures.texts at c.in-None.ensures in
     c.distinct.ensures ∙ found-all c.args.rows.now c.args.texts.now (small (goal.at.returns-in-None c).After-first_bad) c.args.n c.args.n bad (omega arith)
 
 pub returns-in_err-distinct-in-Some : goal.returns-in_err-distinct-in-Some
 returns-in_err-distinct-in-Some c =
-    let bad = rw c.new.ensures at c.in-Some.ensures.1 in
+    let bad = rw c.new.ensures.texts at c.in-Some.ensures.1 in
     let p = err_from_is_err_and c.from_residual.result c.from_residual.ensures.1 in
     rw (p.1, p.2)
     (again_38 c.args.rows.now c.args.texts.now (small (goal.at.returns-in_err-distinct-in-Some c).After-first_bad) c.args.n _ bad _ _ _
@@ -28,6 +28,6 @@ returns-in_err-distinct-in-Some c =
 
 pub returns-in_ok-distinct-in-Some : goal.returns-in_ok-distinct-in-Some
 returns-in_ok-distinct-in-Some c =
-    let bad = rw c.new.ensures at c.in-Some.ensures.1 in
+    let bad = rw c.new.ensures.texts at c.in-Some.ensures.1 in
     found_39 c.args.rows.now c.args.texts.now (small (goal.at.returns-in_ok-distinct-in-Some c).After-first_bad) c.args.n _ bad _
     c.in_ok-distinct-in-Some.ensures c.in-Some.ensures.0 (omega arith)

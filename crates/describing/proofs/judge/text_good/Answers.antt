@@ -9,10 +9,10 @@ returns-then-end-len c =
     let a = c.args in
     let row = c.at-row.ensures in
     let told = rw (row.2, row.3) at c.is_text.ensures.0 in
-    (text-told a.rows.now a.texts.now a.i _ (omega (arith, row.2, row.3, c.len.ensures, c.if-end-len.true)) told, c.is_text.ensures.1)
+    (text-told a.rows.now a.texts.now.texts a.i _ (omega (arith, row.2, row.3, c.len.ensures, c.if-end-len.true)) told, c.is_text.ensures.1)
 
 pub returns-else-end-len : goal.returns-else-end-len
 returns-else-end-len c =
     let a = c.args in
     let row = c.at-row.ensures in
-    (lt-leb _ _ c.if-end-len.false ∙ text-past a.rows.now a.texts.now a.i (omega (arith, row.2, row.3, c.len.ensures, c.if-end-len.false)), refl)
+    (lt-leb _ _ c.if-end-len.false ∙ text-past a.rows.now a.texts.now.texts a.i (omega (arith, row.2, row.3, c.len.ensures, c.if-end-len.false)), refl)

@@ -7,8 +7,8 @@ loop-x-preserved-then-word_joins c =
     let l = c.loop-x in
     let joined = c.word_joins.ensures c.if-word_joins.true in (
       omega (arith, c.if-size-q.true, l.invariant.0),
-      border_64 l.self l.g l.x c.size-size.result l.invariant.1,
-      λ p w. leads_join l.self p l.x _ (l.invariant.2 p w) joined,
+      border_64 l.self.texts l.g l.x c.size-size.result l.invariant.1,
+      λ p w. leads_join l.self.texts p l.x _ (l.invariant.2 p w) joined,
       l.invariant.3,
     )
 
@@ -18,7 +18,7 @@ loop-x-preserved c =
     let told = c.segment_joins.ensures in
     let joined = told.0 c.if-not-segment_joins.false in (
       omega (arith, c.loop-x-test.true, l.invariant.0),
-      next_border l.self l.g l.x c.size-size.result l.invariant.1,
-      λ p w. rw told.1 (leads_join l.self p l.x _ (l.invariant.2 p (rw (← told.1) w)) joined),
+      next_border l.self.texts l.g l.x c.size-size.result l.invariant.1,
+      λ p w. rw told.1 (leads_join l.self.texts p l.x _ (l.invariant.2 p (rw (← told.1) w)) joined),
       told.1 ∙ l.invariant.3,
     )

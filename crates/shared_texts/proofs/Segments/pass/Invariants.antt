@@ -5,7 +5,7 @@ use Rattle.shared_texts.specs.Segments.{LeadsOn}
 use Rattle.shared_texts.proofs.Segments.pass.Given as goal
 
 abbrev pub invariant-loop-x : goal.invariant-loop-x
-invariant-loop-x l = (l.x ≤ l.q) × (l.x ≡ l.g * l.size) × LeadsOn l.self l.from l.x × (l.self ≡ l.initial.self)
+invariant-loop-x l = (l.x ≤ l.q) × (l.x ≡ l.g * l.size) × LeadsOn l.self.texts l.from l.x × (l.self ≡ l.initial.self)
 
 abbrev pub decreases-loop-x : goal.decreases-loop-x
 decreases-loop-x l = l.q - l.x

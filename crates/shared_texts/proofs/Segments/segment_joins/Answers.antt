@@ -8,7 +8,7 @@ use Rattle.shared_texts.proofs.Segments.segment_joins.Goals as goal
 
 pub returns-then-is_set : goal.returns-then-is_set
 returns-then-is_set c =
-    let s = c.args.self.now in
+    let s = c.args.self.now.texts in
     let right : Remembers s c.self.inside.known.now = rw (← c.self.view_is) c.self.invariant.1 in
     let bit = eqb-true _ _ (sym c.is_set.ensures ∙ c.if-is_set.true) in
     let joined = set-joins s _ right c.args.g c.args.x c.requires.0 bit in

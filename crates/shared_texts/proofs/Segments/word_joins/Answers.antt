@@ -6,7 +6,7 @@ use Rattle.shared_texts.proofs.Segments.word_joins.Goals as goal
 
 pub returns-in-Some-eq18446744073709551615 : goal.returns-in-Some-eq18446744073709551615
 returns-in-Some-eq18446744073709551615 c =
-    let s = c.args.self.now in
+    let s = c.args.self.now.texts in
     let some = c.in-Some-eq18446744073709551615 in
     let right : Remembers s c.self.inside.known.now = rw (← c.self.view_is) c.self.invariant.1 in
     let greatest = sym (some.ensures.lookup.3.1 0) ∙ some.field-0-test in
