@@ -43,11 +43,11 @@ module _ (m : ℕ) where
   unit_div : m * denominator / denominator ≡ m
   unit_div = mul-div_cancel m denominator_pos
 
-  range-zero : m ≡ 0 → None ≡ whole_of (numerator m 16446)
+  pub range-zero : m ≡ 0 → None ≡ whole_of (numerator m 16446)
   unfolding whole_of
   range-zero e = rw (numerator_unit m, unit_mod, unit_div, e)
 
-  range_whole : (m ≡ 0 → ⊥) → m ≤ 4294967295 → Some m ≡ whole_of (numerator m 16446)
+  pub range_whole : (m ≡ 0 → ⊥) → m ≤ 4294967295 → Some m ≡ whole_of (numerator m 16446)
   unfolding whole_of
   range_whole z h =
       let p : 1 ≤ m = omega arith in
@@ -57,7 +57,7 @@ nil : (e : ℕ) → numerator 0 e ≡ 0
 unfolding numerator
 nil e = omega arith
 
-zero-none : (e : ℕ) → None ≡ whole_of (numerator 0 e)
+pub zero-none : (e : ℕ) → None ≡ whole_of (numerator 0 e)
 zero-none e = range-zero 0 refl ∙ ap whole_of (nil 16446 ∙ sym (nil e))
 
 -- q, if nothing is left of it and it is "a whole number from 1 to 4,294,967,295"

@@ -164,7 +164,7 @@ impl Stage<'_> {
         let answer = self.call(step);
         match answer.outcome {
             Ok(()) => print!(rt; "done")?,
-            Err(r) => refused(rt, r)?,
+            Err(r) => refused(rt, r.number(), r.place)?,
         }
         self.len = answer.len;
         self.used = answer.used;

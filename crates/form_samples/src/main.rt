@@ -11,7 +11,7 @@ use std::io;
 fn say_list(rt: &impl Print, file: &[u8], rows: &mut [u32]) -> io::Result<()> {
     match groups::list(file, rows) {
         Ok(n) => print!(rt; "rows {n}")?,
-        Err(r) => refused(rt, r)?,
+        Err(r) => refused(rt, r.number(), r.place)?,
     }
     println!(rt; " sum {}", checksum_of_numbers(rows))
 }
@@ -20,7 +20,7 @@ fn say_pick(rt: &impl Print, file: &[u8], i: usize) -> io::Result<()> {
     print!(rt; " {i}: ")?;
     match groups::pick(file, i) {
         Ok(picked) => print!(rt; "at {} length {}", picked.start, picked.length)?,
-        Err(r) => refused(rt, r)?,
+        Err(r) => refused(rt, r.number(), r.place)?,
     }
     println!(rt; " sum {}", checksum(groups::picked(file, i)))
 }

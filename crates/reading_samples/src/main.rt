@@ -17,7 +17,7 @@ fn tag(rt: &impl Print, code: u64) -> io::Result<()> {
 fn verdict(rt: &impl Print, file: &[u8], profile: u32) -> io::Result<()> {
     match reader::read(file, profile) {
         Ok(a) => print!(rt; "accepted {} bytes {} entries", a.length, a.count)?,
-        Err(r) => refused(rt, r)?,
+        Err(r) => refused(rt, r.number(), r.place)?,
     }
     println!(rt; "")
 }
@@ -31,7 +31,7 @@ fn ask_entry(rt: &impl Print, file: &[u8], profile: u32, i: usize) -> io::Result
     print!(rt; " entry {i}: ")?;
     match reader::entry(file, profile, i) {
         Ok(e) => given(rt, e)?,
-        Err(r) => refused(rt, r)?,
+        Err(r) => refused(rt, r.number(), r.place)?,
     }
     println!(rt; "")
 }
@@ -45,7 +45,7 @@ fn ask_pair(rt: &impl Print, file: &[u8], profile: u32, usage: [u8; 4], n: u32) 
             tag(rt, u64::from(found.kind))?;
             print!(rt; " at {} length {}", found.start, found.length)?;
         }
-        Err(r) => refused(rt, r)?,
+        Err(r) => refused(rt, r.number(), r.place)?,
     }
     let part = reader::data(file, profile, usage, n);
     println!(rt; "; part {} sum {}", part.len(), checksum(part))

@@ -6,7 +6,6 @@ mod packed;
 ghost use Rattle.std.specs.Prelude.{◌≡◌, ◌+◌, ◌*◌, ◌%◌, ◌<◌, ◌^◌};
 ghost use Rattle.sampling.specs.Samples.{checksum_of, loaded};
 
-use blorb::Refusal;
 use intake::read_full;
 pub use packed::{Packed, pair};
 use std::io;
@@ -65,8 +64,8 @@ pub fn begin(rt: &impl Print, name: &[u8]) -> io::Result<()> {
     print!(rt; ": ")
 }
 
-pub fn refused(rt: &impl Print, r: Refusal) -> io::Result<()> {
-    print!(rt; "refused {} at {}", r.number(), r.place)
+pub fn refused(rt: &impl Print, k: u64, place: usize) -> io::Result<()> {
+    print!(rt; "refused {k} at {place}")
 }
 
 // The bytes in hexadecimal, and the line's end.

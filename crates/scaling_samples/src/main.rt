@@ -13,7 +13,7 @@ use std::io;
 fn told(rt: &impl Print, answer: Result<Sides, Refusal>) -> io::Result<()> {
     match answer {
         Ok(sides) => print!(rt; "{} by {}", sides.width, sides.height)?,
-        Err(r) => refused(rt, r)?,
+        Err(r) => refused(rt, r.number(), r.place)?,
     }
     println!(rt; "")
 }

@@ -16,7 +16,7 @@ fn told(rt: &impl Print, bytes: &[u8]) -> io::Result<()> {
             )?;
             print!(rt; " rate {} seconds {}", s.rate, s.seconds)?;
         }
-        Err(r) => refused(rt, r)?,
+        Err(r) => refused(rt, r.number(), r.place)?,
     }
     println!(rt; "")
 }

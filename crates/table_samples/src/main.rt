@@ -14,14 +14,14 @@ use table::Searched;
 fn say_checked(rt: &impl Print, answer: Result<(), Refusal>) -> io::Result<()> {
     match answer {
         Ok(()) => print!(rt; "accepted"),
-        Err(r) => refused(rt, r),
+        Err(r) => refused(rt, r.number(), r.place),
     }
 }
 
 fn say_searched(rt: &impl Print, answer: Searched) -> io::Result<()> {
     match answer.found {
         Ok(start) => print!(rt; "at {start}")?,
-        Err(r) => refused(rt, r)?,
+        Err(r) => refused(rt, r.number(), r.place)?,
     }
     print!(rt; " probes {}", answer.probes)
 }
@@ -38,7 +38,7 @@ fn say_search(rt: &impl Print, t: &[u32], usage: [u8; 4], n: u32) -> io::Result<
 fn say_built(rt: &impl Print, answer: Result<usize, Refusal>, t: &[u32]) -> io::Result<()> {
     match answer {
         Ok(rows) => print!(rt; "rows {rows}")?,
-        Err(r) => refused(rt, r)?,
+        Err(r) => refused(rt, r.number(), r.place)?,
     }
     print!(rt; " sum {}", checksum_of_numbers(t))
 }

@@ -23,7 +23,7 @@ fn entry(rt: &impl Print, file: &[u8], profile: u32, i: u64) -> io::Result<()> {
                 d.usage, d.number, d.start, d.length
             )?
         }
-        Err(r) => refused(rt, r)?,
+        Err(r) => refused(rt, r.number(), r.place)?,
     }
     part(rt, descriptions::text(file, profile, i))
 }
@@ -32,7 +32,7 @@ fn pair(rt: &impl Print, file: &[u8], profile: u32, usage: [u8; 4], number: u32)
     print!(rt; "  pair: ")?;
     match descriptions::tell(file, profile, usage, number) {
         Ok(told) => print!(rt; "start {} length {}", told.start, told.length)?,
-        Err(r) => refused(rt, r)?,
+        Err(r) => refused(rt, r.number(), r.place)?,
     }
     part(rt, descriptions::told_text(file, profile, usage, number))
 }

@@ -22,7 +22,7 @@ fn write(rt: &impl Print, rows: &[u32], texts: &[u8], buf: &mut [u8]) -> io::Res
     fill(buf, b"");
     match describing::write(rows, texts, buf) {
         Ok(length) => print!(rt; "written {length}")?,
-        Err(r) => refused(rt, r)?,
+        Err(r) => refused(rt, r.number(), r.place)?,
     }
     show(rt, buf)
 }
