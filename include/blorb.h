@@ -112,9 +112,9 @@ enum {
  * the figure of each call.
  */
 enum {
-    BLORB_STACK_READING = 768,  /* at most, for every call but those below; 664 as compiled */
-    BLORB_STACK_EDITING = 1024, /* at most, for editing; 776 as compiled */
-    BLORB_STACK_GROUPS = 6144,  /* at most, for group files of 16 levels; 3920 as compiled */
+    BLORB_STACK_READING = 768,  /* at most, for every call but those below; 584 as compiled */
+    BLORB_STACK_EDITING = 1024, /* at most, for editing; 696 as compiled */
+    BLORB_STACK_GROUPS = 6144,  /* at most, for group files of 16 levels; 4432 as compiled */
     BLORB_STACK_LISTS = 8192    /* at most, for scaled pictures and spoken descriptions, which mark the rows of a list; 8168 as compiled */
 };
 
