@@ -74,7 +74,8 @@ fn has_pair(d: &[u8], at: usize, usage: u64, number: u64) -> bool
 }
 
 impl<'a> Entries<'a> {
-    // The entries of the 'RDes' at `start` with these data, or refusals 37 to 39. It stands in its caller, for the stack's sake: below it are the marks.
+    // The entries of the 'RDes' at `start` with these data, or refusals 37 to 39. It stands in its caller, for the stack's sake: what it calls has
+    // the marks on the stack.
     #[inline(always)]
     pub(crate) fn open(bytes: &'a [u8], start: usize) -> Result<Entries<'a>, Refusal>
         requires { start + 8 + length bytes.now < 9223372036854775808 }

@@ -136,7 +136,8 @@ fn form_look(spot: &Spot) -> Option<Member>
     }
 }
 
-// The member at a spot, by a quick look where that tells enough. What the long look answers is taken apart, so that a FORM goes its way without it.
+// The member at a spot, by a quick look where that tells enough. What the long look answers is taken apart and put together again: handed on whole, it would
+// be copied through memory.
 fn next_member(spot: &Spot) -> Result<Member, Refusal>
     requires { (spot.now.at ≤ spot.now.end) × (spot.now.depth ≤ 17) }
     ensures { result
@@ -183,8 +184,8 @@ fn form_in(form: &Spot, close: usize, levels: usize, rows: &mut Rows) -> Result<
     members_in(form, Place::InForm, close, levels, rows)
 }
 
-// The group reader: the members of a FORM, LIST or CAT whose data ends at `close`. levels: how many of the 16 are left, the holder's own among them. One spot
-// on each level: the stack has to hold 16 of them.
+// The group reader: the members of a FORM, LIST or CAT whose data ends at `close`. levels: how many of the 16 are left, the holder's own among them. Two spots
+// on each level: the stack has to hold those of 16.
 #[cycle(form_in_members_in)]
 fn members_in(
     holder: &Spot,
