@@ -9,10 +9,10 @@ use Rattle.std.proofs.lemmas.Result.{err_from_is_err_and}
 use Rattle.groups.proofs.ScanLaws.{turn_end}
 use Rattle.groups.proofs.TurnLaws.{Turn, stopped, passed_on, opens_form, opens_group, form_stops, form_goes, group_stops, group_goes, form_first}
 use Rattle.groups.proofs.readers.+form_in_members_in.Goals as goal
-use Rattle.groups.proofs.readers.+form_in_members_in.Goals.{members_in-After-next_member, members_in-After-plain_look}
+use Rattle.groups.proofs.readers.+form_in_members_in.Goals.{members_in-After-plain_look}
 
 -- the loop's turn
-abbrev turn : (t : ℕ) → members_in-After-next_member t → Turn
+abbrev turn : (t : ℕ) → members_in-After-plain_look t → Turn
 turn t c =
     record {
       f = c.loop-spot.spot.file.now;
@@ -35,30 +35,13 @@ members_in-loop-spot-init t c =
 
 pub members_in-returns-in_err-next-clause-shown : goal.members_in-returns-in_err-next-clause-shown
 members_in-returns-in_err-next-clause-shown t c =
-    let u = turn t (goal.at.members_in-returns-in_err-next-clause-shown t c).After-next_member in
+    let u = turn t (goal.at.members_in-returns-in_err-next-clause-shown t c).After-plain_look in
     let p = err_from_is_err_and c.from_residual.result c.from_residual.ensures.1 in
     rw (p.1, p.2) (stopped u _ (sym c.in_err-next.ensures) ∙ c.loop-spot.invariant.6)
 
--- a plain chunk, passed by one look
-abbrev looked : (t : ℕ) → members_in-After-plain_look t → Turn
-looked t c =
-    record {
-      f = c.loop-spot.spot.file.now;
-      p = c.loop-spot.spot.place;
-      depth = c.loop-spot.spot.depth;
-      end = c.loop-spot.spot.end;
-      at = c.loop-spot.spot.at;
-      base = c.loop-spot.rows.base;
-      n = c.loop-spot.rows.count;
-      rows = c.loop-spot.rows.slice.now;
-      on = c.loop-spot-test.true;
-      inside = c.loop-spot.spot.inside;
-      counted = c.loop-spot.invariant.5;
-    }
-
 pub members_in-loop-spot-smaller-in-Some : goal.members_in-loop-spot-smaller-in-Some
 members_in-loop-spot-smaller-in-Some t c =
-    let u = looked t (goal.at.members_in-loop-spot-smaller-in-Some t c).After-plain_look in
+    let u = turn t (goal.at.members_in-loop-spot-smaller-in-Some t c).After-plain_look in
     let told = rw c.in-Some.is at c.plain_look.ensures in
     let n = passed_on u _ _ told.0 in
     let m = c.move_to.ensures in
@@ -66,7 +49,7 @@ members_in-loop-spot-smaller-in-Some t c =
 
 pub members_in-loop-spot-preserved-in-Some : goal.members_in-loop-spot-preserved-in-Some
 members_in-loop-spot-preserved-in-Some t c =
-    let u = looked t (goal.at.members_in-loop-spot-preserved-in-Some t c).After-plain_look in
+    let u = turn t (goal.at.members_in-loop-spot-preserved-in-Some t c).After-plain_look in
     let told = rw c.in-Some.is at c.plain_look.ensures in
     let n = passed_on u _ _ told.0 in
     let m = c.move_to.ensures in
@@ -75,14 +58,14 @@ members_in-loop-spot-preserved-in-Some t c =
 
 pub members_in-loop-spot-smaller-in-Passed : goal.members_in-loop-spot-smaller-in-Passed
 members_in-loop-spot-smaller-in-Passed t c =
-    let u = turn t (goal.at.members_in-loop-spot-smaller-in-Passed t c).After-next_member in
+    let u = turn t (goal.at.members_in-loop-spot-smaller-in-Passed t c).After-plain_look in
     let n = passed_on u _ _ (sym c.in_ok-next.ensures ∙ ap Ok c.in-Passed.is) in
     let m = c.move_to-in-Passed.ensures in
     omega (arith, n.on, m.3, m.4, c.loop-spot-test.true)
 
 pub members_in-loop-spot-preserved-in-Passed : goal.members_in-loop-spot-preserved-in-Passed
 members_in-loop-spot-preserved-in-Passed t c =
-    let u = turn t (goal.at.members_in-loop-spot-preserved-in-Passed t c).After-next_member in
+    let u = turn t (goal.at.members_in-loop-spot-preserved-in-Passed t c).After-plain_look in
     let n = passed_on u _ _ (sym c.in_ok-next.ensures ∙ ap Ok c.in-Passed.is) in
     let m = c.move_to-in-Passed.ensures in
     let i = c.loop-spot.invariant in
@@ -90,7 +73,7 @@ members_in-loop-spot-preserved-in-Passed t c =
 
 pub members_in-form_in-requires : goal.members_in-form_in-requires
 members_in-form_in-requires t c =
-    let u = turn t (goal.at.members_in-form_in-requires t c).After-next_member in
+    let u = turn t (goal.at.members_in-form_in-requires t c).After-plain_look in
     let o = opens_form u _ _ _ (sym c.in_ok-next.ensures ∙ ap Ok c.in-Form.is) in
     let i = c.loop-spot.invariant in
     let same : length c.loop-spot.spot.file.now ≡ length c.args.holder.now.file.now = rw i.0 refl in
@@ -98,7 +81,7 @@ members_in-form_in-requires t c =
 
 pub members_in-returns-in_err-form_in-in-Form-clause-shown : goal.members_in-returns-in_err-form_in-in-Form-clause-shown
 members_in-returns-in_err-form_in-in-Form-clause-shown t c =
-    let u = turn t (goal.at.members_in-returns-in_err-form_in-in-Form-clause-shown t c).After-next_member in
+    let u = turn t (goal.at.members_in-returns-in_err-form_in-in-Form-clause-shown t c).After-plain_look in
     let r = c.from_residual-in_err-form_in-in-Form in
     let p = err_from_is_err_and r.result r.ensures.1 in
     let w = c.form_in in
@@ -108,7 +91,7 @@ members_in-returns-in_err-form_in-in-Form-clause-shown t c =
 
 pub members_in-loop-spot-smaller-in-Form : goal.members_in-loop-spot-smaller-in-Form
 members_in-loop-spot-smaller-in-Form t c =
-    let u = turn t (goal.at.members_in-loop-spot-smaller-in-Form t c).After-next_member in
+    let u = turn t (goal.at.members_in-loop-spot-smaller-in-Form t c).After-plain_look in
     let w = c.form_in in
     let told = sym c.in_ok-next.ensures ∙ ap Ok c.in-Form.is in
     let n = form_goes u w.result w.new.rows.count w.new.rows.slice.now _ _ _ told w.ensures.shown _ c.in_ok-form_in-in-Form.was in
@@ -117,7 +100,7 @@ members_in-loop-spot-smaller-in-Form t c =
 
 pub members_in-loop-spot-preserved-in-Form : goal.members_in-loop-spot-preserved-in-Form
 members_in-loop-spot-preserved-in-Form t c =
-    let u = turn t (goal.at.members_in-loop-spot-preserved-in-Form t c).After-next_member in
+    let u = turn t (goal.at.members_in-loop-spot-preserved-in-Form t c).After-plain_look in
     let w = c.form_in in
     let told = sym c.in_ok-next.ensures ∙ ap Ok c.in-Form.is in
     let n = form_goes u w.result w.new.rows.count w.new.rows.slice.now _ _ _ told w.ensures.shown _ c.in_ok-form_in-in-Form.was in
@@ -134,7 +117,7 @@ members_in-loop-spot-preserved-in-Form t c =
 
 pub members_in-members_in-requires : goal.members_in-members_in-requires
 members_in-members_in-requires t c =
-    let u = turn t (goal.at.members_in-members_in-requires t c).After-next_member in
+    let u = turn t (goal.at.members_in-members_in-requires t c).After-plain_look in
     let o = opens_group u _ _ _ _ (sym c.in_ok-next.ensures ∙ ap Ok c.in-Group.is) in
     let i = c.loop-spot.invariant in
     let same : length c.loop-spot.spot.file.now ≡ length c.args.holder.now.file.now = rw i.0 refl in
@@ -142,7 +125,7 @@ members_in-members_in-requires t c =
 
 pub members_in-returns-in_err-members_in-in-Group-clause-shown : goal.members_in-returns-in_err-members_in-in-Group-clause-shown
 members_in-returns-in_err-members_in-in-Group-clause-shown t c =
-    let u = turn t (goal.at.members_in-returns-in_err-members_in-in-Group-clause-shown t c).After-next_member in
+    let u = turn t (goal.at.members_in-returns-in_err-members_in-in-Group-clause-shown t c).After-plain_look in
     let r = c.from_residual-in_err-members_in-in-Group in
     let p = err_from_is_err_and r.result r.ensures.1 in
     let w = c.members_in in
@@ -152,7 +135,7 @@ members_in-returns-in_err-members_in-in-Group-clause-shown t c =
 
 pub members_in-loop-spot-smaller : goal.members_in-loop-spot-smaller
 members_in-loop-spot-smaller t c =
-    let u = turn t (goal.at.members_in-loop-spot-smaller t c).After-next_member in
+    let u = turn t (goal.at.members_in-loop-spot-smaller t c).After-plain_look in
     let w = c.members_in in
     let told = sym c.in_ok-next.ensures ∙ ap Ok c.in-Group.is in
     let n = group_goes u w.result w.new.rows.count w.new.rows.slice.now _ _ _ _ told w.ensures.shown _ c.in_ok-members_in-in-Group.was in
@@ -161,7 +144,7 @@ members_in-loop-spot-smaller t c =
 
 pub members_in-loop-spot-preserved : goal.members_in-loop-spot-preserved
 members_in-loop-spot-preserved t c =
-    let u = turn t (goal.at.members_in-loop-spot-preserved t c).After-next_member in
+    let u = turn t (goal.at.members_in-loop-spot-preserved t c).After-plain_look in
     let w = c.members_in in
     let told = sym c.in_ok-next.ensures ∙ ap Ok c.in-Group.is in
     let n = group_goes u w.result w.new.rows.count w.new.rows.slice.now _ _ _ _ told w.ensures.shown _ c.in_ok-members_in-in-Group.was in
